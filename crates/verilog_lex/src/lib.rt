@@ -1,0 +1,33 @@
+//! The tokens of a text.
+#![tactic(auto)]
+
+ghost use Rattle.std.specs.Prelude.{◌≡◌, ◌<◌, ◌^◌, ◌-◌, length, IfOk, Ok, Err};
+ghost use Rattle.cdc_base.specs.declared.fault.Fault.{Fault};
+ghost use Rattle.cdc_base.specs.declared.fault.Stop.TheVariants.{Refused};
+ghost use Rattle.verilog_lex.specs.Tokens.{tokens_of};
+
+pub mod bytes;
+pub mod laws;
+pub mod number;
+pub mod piece;
+pub mod token;
+pub mod walk;
+pub mod words;
+
+use cdc_base::fault::{Fault, Stop};
+use cdc_base::list::List;
+use std::alloc::Global;
+pub use token::{Token, TokenKind};
+pub use words::{Keyword, MarkKind};
+
+/// The tokens of the text.
+pub fn lex(alloc: Global, text: &[u8]) -> Result<List<Token>, Stop>
+    requires { length text.now < 2 ^ 32 - 1 }
+    ensures tokens { IfOk result (λ ts. tokens_of text.now ≡ Ok ts) }
+    ensures refused { (f : Fault) → result ≡ Err (Refused f) → tokens_of text.now ≡ Err f }
+{
+    walk::walk(alloc, text)
+}
+
+#[cfg(test)]
+mod tests;
