@@ -1,0 +1,12 @@
+use Rattle.std.proofs.Common.{◌≡◌, ◌∙◌, ap, [], List, ℕ, Option, Bor, option_map, rules, arith}
+use Rattle.std.specs.Prelude.{unwrap_or, Some, None}
+use Rattle.std.proofs.lemmas.Grind.{common_steps}
+use Rattle.clap.specs.Words.{found_of}
+use Rattle.clap.proofs.WalkLemmas.{first_value-rows}
+use Rattle.command_line.proofs.text.Goals as goal
+
+pub returns : goal.returns
+returns c =
+    let rows = first_value-rows (found_of c.args.found.now) c.args.id.now in
+    let texts = c.get_str.ensures ∙ rows in
+    grind (arith, common_steps, texts)

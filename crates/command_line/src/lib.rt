@@ -1,0 +1,130 @@
+//! The words of the command line, read by clap.
+#![tactic(auto)]
+
+ghost use Rattle.std.specs.Prelude.{◌≡◌, ◌≢◌, [], IfOk, IfErr, map, string_bytes, false};
+ghost use Rattle.clap.specs.Words.{app_of, fault_of, subcommand_of, subcommand_rows_of, rows_of, found_of};
+ghost use Rattle.clap.specs.declared.builder.command.Command.TheViews.{out-Command};
+ghost use Rattle.command_line.specs.Cli.{audit_app, selftest_app, cli, IsAccepted, IsRequest, IsReading, IsCommand, IsCount, text_of};
+
+use clap::error::ErrorKind;
+use clap::{Arg, ArgAction, ArgMatches, Command};
+use std::alloc::{AllocError, Global};
+
+/// What the words ask for. `net` and `con` are the names of the netlist and the constraint file, and `channels` counts
+/// the channels of the generated design, 1 to 500.
+pub enum Request<'a> {
+    Audit {
+        json: bool,
+        net: &'a str,
+        con: &'a str,
+    },
+    Selftest {
+        channels: u32,
+    },
+}
+
+/// Why there is no request: the words have no reading, or want of memory.
+pub enum Refusal {
+    Words,
+    Memory,
+}
+
+impl From<AllocError> for Refusal {
+    ghost use Rattle.std.specs.Prelude.{◌≡◌};
+    ghost use Rattle.command_line.specs.declared.Refusal.TheVariants.{Memory};
+
+    ghost from_gives = { λ _ r. r ≡ Memory };
+
+    fn from(_error: AllocError) -> Self {
+        Refusal::Memory
+    }
+}
+
+fn audit_command<'a>(alloc: Global) -> Result<Command<'a>, AllocError>
+    ensures { IfOk result (λ c. (app_of c ≡ audit_app) × ((out-Command c).has_globals ≡ false)) }
+{
+    let json = Arg::new(alloc, "json")
+        .long("json")
+        .action(ArgAction::SetTrue);
+    let net = Arg::new(alloc, "NET").required(true);
+    let con = Arg::new(alloc, "CON").required(true);
+    Command::new(alloc, "audit").arg(json)?.arg(net)?.arg(con)
+}
+
+fn selftest_command<'a>(alloc: Global) -> Result<Command<'a>, AllocError>
+    ensures { IfOk result (λ c. (app_of c ≡ selftest_app) × ((out-Command c).has_globals ≡ false)) }
+{
+    let channels = Arg::new(alloc, "N")
+        .required(true)
+        .value_parser(clap::value_parser!(u32).range(1..=500));
+    Command::new(alloc, "selftest").arg(channels)
+}
+
+fn command<'a>(alloc: Global) -> Result<Command<'a>, AllocError>
+    ensures { IfOk result (λ c. (app_of c ≡ cli) × ((out-Command c).has_globals ≡ false)) }
+{
+    Command::new(alloc, "cdcaudit")
+        .no_binary_name(true)
+        .subcommand_required(true)
+        .disable_help_subcommand(true)
+        .subcommand(audit_command(alloc)?)?
+        .subcommand(selftest_command(alloc)?)
+}
+
+fn matches<'a>(alloc: Global, words: &'a [String]) -> Result<ArgMatches<'a>, Refusal>
+    ensures ok { IfOk result (λ m. IsAccepted (map string_bytes words.now)
+        × (subcommand_rows_of m ≡ subcommand_of cli (map string_bytes words.now))) }
+    ensures refused { result ≡ Err Refusal.Words → ¬ IsAccepted (map string_bytes words.now) }
+{
+    match command(alloc)?.try_get_matches_from(words) {
+        Ok(matches) => Ok(matches),
+        Err(error) => match error.kind() {
+            ErrorKind::OutOfMemory => Err(Refusal::Memory),
+            _ => Err(Refusal::Words),
+        },
+    }
+}
+
+fn text<'a>(found: &ArgMatches<'a>, id: &str) -> &'a str
+    ensures { result.now ≡ text_of id.now (rows_of (found_of found.now)) }
+{
+    found.get_str(id).unwrap_or("")
+}
+
+fn count(found: &ArgMatches) -> u32
+    ensures { IsCount (rows_of (found_of found.now)) result }
+{
+    found.get_one::<u32>("N").unwrap_or(1).clamp(1, 500)
+}
+
+fn read_request<'a>(name: &str, found: &ArgMatches<'a>) -> Request<'a>
+    requires { IsCommand name.now }
+    ensures { IsReading (Some (name.now, rows_of (found_of found.now))) result }
+{
+    match name {
+        "audit" => Request::Audit {
+            json: text(found, "json") == "true",
+            net: text(found, "NET"),
+            con: text(found, "CON"),
+        },
+        _ => Request::Selftest {
+            channels: count(found),
+        },
+    }
+}
+
+/// What the words, without the program's name, ask for. They are refused exactly where the command's reading by clap
+/// gives no matches, memory aside.
+pub fn read<'a>(alloc: Global, words: &'a [String]) -> Result<Request<'a>, Refusal>
+    ensures accepted { IfOk result (λ r. IsRequest (map string_bytes words.now) r) }
+    ensures refused { result ≡ Err Refusal.Words → ¬ IsAccepted (map string_bytes words.now) }
+{
+    let parsed = matches(alloc, words)?;
+    match parsed.subcommand() {
+        Some((name, found)) => Ok(read_request(name, found)),
+        None => Err(Refusal::Words),
+    }
+}
+
+#[cfg(test)]
+mod tests;

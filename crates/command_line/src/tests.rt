@@ -1,0 +1,55 @@
+use crate::{Refusal, Request, read};
+use std::alloc::Global;
+use std::test::Fail;
+
+fn shown(alloc: Global, text: &str) -> Result<String, Fail> {
+    let mut words: Vec<String> = Vec::new(alloc);
+    for word in text.split(' ') {
+        words.push(String::from_str(alloc, word)?)?;
+    }
+    let line = match read(alloc, words.as_slice()) {
+        Ok(Request::Audit { json, net, con }) => format!(in alloc; "audit {json} {net} {con}")?,
+        Ok(Request::Selftest { channels }) => format!(in alloc; "selftest {channels}")?,
+        Err(Refusal::Words) => String::from_str(alloc, "usage")?,
+        Err(Refusal::Memory) => String::from_str(alloc, "memory")?,
+    };
+    Ok(line)
+}
+
+#[test]
+fn words_as_the_command_reads_them(rt: HostRuntime) -> Result<(), Fail> {
+    let alloc = rt.alloc();
+    for (text, wanted) in [
+        ("audit n.v c.toml", "audit false n.v c.toml"),
+        ("audit --json n.v c.toml", "audit true n.v c.toml"),
+        ("audit n.v --json c.toml", "audit true n.v c.toml"),
+        ("audit n.v c.toml --json", "audit true n.v c.toml"),
+        ("audit -- --json c.toml", "audit false --json c.toml"),
+        ("audit --json --json n.v c.toml", "usage"),
+        ("audit n.v", "usage"),
+        ("audit n.v c.toml extra", "usage"),
+        ("audit - c.toml", "audit false - c.toml"),
+        ("audit -n c.toml", "usage"),
+        ("audit --jso n.v c.toml", "usage"),
+        ("audit --json=x n.v c.toml", "usage"),
+        ("selftest 500", "selftest 500"),
+        ("selftest 501", "usage"),
+        ("selftest 0", "usage"),
+        ("selftest +5", "selftest 5"),
+        ("selftest 007", "selftest 7"),
+        ("selftest -5", "usage"),
+        ("selftest five", "usage"),
+        ("help", "usage"),
+        ("help audit", "usage"),
+        ("--version", "usage"),
+        ("audi n.v c.toml", "usage"),
+        ("--help", "usage"),
+        ("audit -h", "usage"),
+        ("-- audit n.v c.toml", "usage"),
+        ("", "usage"),
+    ] {
+        let line = shown(alloc, text)?;
+        assert_eq!(rt; line.as_str(), wanted, "{text}");
+    }
+    Ok(())
+}
