@@ -1,6 +1,6 @@
 -- The command line: one command with a subcommand for each request, as clap reads it.
 use Rattle.std.specs.Prelude.{◌≡◌, ℕ, Bool, true, false, List, [], ◌∷◌, Option, Some, None, codes}
-use Rattle.std.specs.Prelude.{unwrap_or, pos, ◌≤◌, ◌⊎◌}
+use Rattle.std.specs.Prelude.{unwrap_or, pos, ◌≤◌, ◌⊎◌, if◌then◌else◌}
 use Rattle.std.specs.Str.Parse.{digits_value, IsNumeral, without_leading_plus}
 use Rattle.std.specs.Str.{bytes_eq}
 use Rattle.clap.specs.Words.{App, Row, Rule, Text, new_app, new_rule, with_rule, with_subcommand}
@@ -63,6 +63,15 @@ IsReading found (Selftest channels) = (rows : List Row) × (found ≡ Some (code
 -- the words are accepted, and ask for this
 abbrev pub IsRequest : List Text → Request → Type 0
 IsRequest words request = IsAccepted words × IsReading (subcommand_of cli words) request
+
+-- the files that a subcommand names, in the order of the words
+abbrev pub files_of : Option (Text × List Row) → List Text
+files_of None = []
+files_of (Some (name, rows)) =
+    if bytes_eq name (codes "audit") then text_of (codes "NET") rows ∷ text_of (codes "CON") rows ∷ [] else []
+
+abbrev pub file_words : List Text → List Text
+file_words words = files_of (subcommand_of cli words)
 
 -- a name of one of the subcommands
 abbrev pub IsCommand : Text → Type 0

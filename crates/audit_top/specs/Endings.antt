@@ -1,0 +1,61 @@
+-- How the parts of a command end.
+use Rattle.std.specs.Prelude.{ℕ, ◌≡◌, ◌+◌, ◌≤◌, ◌⊎◌, List, [], ◌∷◌, ◌++◌, length, Option, Result, Ok, Err, IfOk, IfErr, MatchResult}
+use Rattle.cdc_base.specs.Causes.{Rose, RoseBy}
+use Rattle.cdc_base.specs.declared.fault.Fault.{Fault}
+use Rattle.report.specs.Faults.{line_of}
+use Rattle.audit_top.specs.declared.answer.Answer.{Answer}
+use Rattle.audit_top.specs.declared.answer.Ending.{Ending}
+use Rattle.audit_top.specs.declared.answer.Ending.TheVariants.{Refused, Memory}
+use Rattle.audit_top.specs.declared.status.Status.{Status}
+use Rattle.audit_top.specs.declared.status.Status.TheVariants.{Done, Violations, Netlist, Constraints, ReadFault, Waived}
+use Rattle.audit_top.specs.Runs.{Seen, Text, AskedFor, AskedInOrder, IsLong, IsRefusedBy, fault_at, max_bytes}
+
+-- want of memory, or this refusal
+abbrev pub IsRefusal : Status → Fault → Ending → Type 0
+IsRefusal status fault Memory = Unit {0}
+IsRefusal status fault (Refused s f) = (s ≡ status) × (f ≡ fault)
+
+-- want of memory, or a refusal that goes with its status
+abbrev pub IsEnding : Seen → Seen → Ending → Type 0
+IsEnding before now Memory = Unit {0}
+IsEnding before now (Refused status fault) = IsRefusedBy before now status fault
+
+-- want of memory, or a refusal with this status
+abbrev pub HasStatus : Status → Ending → Type 0
+HasStatus status Memory = Unit {0}
+HasStatus status (Refused s f) = s ≡ status
+
+-- the statuses of an audit that came to its end
+abbrev pub IsAudited : Status → Type 0
+IsAudited Done = Unit {0}
+IsAudited Violations = Unit {0}
+IsAudited Waived = Unit {0}
+IsAudited _ = ⊥
+
+-- why bytes that were read have no answer: want of memory, or a refusal of one of the two files
+abbrev pub IsOfFiles : Ending → Type 0
+IsOfFiles Memory = Unit {0}
+IsOfFiles (Refused Netlist f) = Unit {0}
+IsOfFiles (Refused Constraints f) = Unit {0}
+IsOfFiles (Refused _ f) = ⊥
+
+-- the answer that an ending has: the line of its refusal
+abbrev pub IsAnswerTo : Ending → Answer → Type 0
+IsAnswerTo Memory answer = ⊥
+IsAnswerTo (Refused status fault) answer = (answer.status ≡ status) × (answer.text ≡ line_of fault)
+
+-- how a read may end: it failed, or the file is over its limit
+abbrev pub IsReadEnding : Text → Status → Seen → Seen → Ending → Type 0
+IsReadEnding name status before now Memory = Unit {0}
+IsReadEnding name status before now (Refused s f) =
+    ((s ≡ ReadFault) × (f ≡ fault_at 1 name) × Rose before.faults now.faults)
+    ⊎ ((s ≡ status) × (f ≡ fault_at 600 name) × RoseBy (max_bytes + 1) before.taken now.taken)
+
+-- one file was read whole, or its reading ended so
+pub record IsReadOf (name : Text) (status : Status) (before now : Seen) (result : Result (List ℕ) Ending) : Type 0 where
+  pub holds : (other : Text) → now.held other ≡ before.held other
+  pub rising : (before.taken ≤ now.taken) × (before.faults ≤ now.faults)
+  pub asks : (now.asked ≡ before.asked ++ name ∷ []) ⊎ ((result ≡ Err Memory) × (now.asked ≡ before.asked))
+  pub within : IfOk result (λ bytes. length bytes ≤ max_bytes)
+  pub short : IfOk result (λ bytes. IsLong before name → ⊥)
+  pub ended : IfErr result (IsReadEnding name status before now)

@@ -1,0 +1,109 @@
+-- What a run of the program answers, as far as its words, its files and its output tell.
+use Rattle.std.specs.Prelude.{ℕ, ◌≡◌, ◌+◌, ◌<◌, ◌≤◌, ◌⊎◌, List, [], ◌∷◌, ◌++◌, length, Option, Some, None, codes}
+use Rattle.cdc_base.specs.Causes.{Rose, RoseBy, IsAdded, IsFrontAdded}
+use Rattle.cdc_base.specs.declared.fault.Fault.{Fault}
+use Rattle.command_line.specs.Cli.{IsAccepted, file_words}
+use Rattle.report.specs.Faults.{line_of}
+use Rattle.audit_top.specs.declared.status.Status.{Status}
+use Rattle.audit_top.specs.declared.status.Status.TheVariants.{Done, Violations, Usage, Netlist, Constraints, Record, ReadFault, WriteFault, Memory, Waived}
+
+abbrev pub Text : Type 0
+Text = List ℕ
+
+-- the most bytes of a file
+abbrev pub max_bytes : ℕ
+max_bytes = 8388608
+
+abbrev pub usage_line : Text
+usage_line = codes "usage: cdcaudit audit [--json] NET CON | selftest N" ++ 10 ∷ []
+
+-- what files tell: what lies under a name, which names were asked for, and the counts of bytes and of failed reads
+pub record Seen : Type 0 where
+  pub held : Text → Option Text
+  pub asked : List Text
+  pub taken : ℕ
+  pub faults : ℕ
+
+-- from one state of the files to a later one these names were asked for
+abbrev pub AskedFor : List Text → Seen → Seen → Type 0
+AskedFor names before now = now.asked ≡ before.asked ++ names
+
+-- a front of these names was asked for
+abbrev pub AskedInOrder : List Text → Seen → Seen → Type 0
+AskedInOrder names before now = (front : List Text) × (rest : List Text) × (front ++ rest ≡ names)
+    × AskedFor front before now
+
+-- the files that the words name are asked for in their order, and none where the words are refused
+pub record AsksByWords (words : List Text) (before now : Seen) : Type 0 where
+  pub named : IsAccepted words → AskedInOrder (file_words words) before now
+  pub none : (IsAccepted words → ⊥) → AskedFor [] before now
+
+-- the last file asked for
+abbrev pub IsLastAsked : Text → Seen → Type 0
+IsLastAsked name now = (earlier : List Text) × (now.asked ≡ earlier ++ name ∷ [])
+
+-- a refusal without a place
+abbrev pub fault_at : ℕ → Text → Fault
+fault_at number name = record { number = number; place = None; name = name }
+
+-- a read failed: the refusal names the file asked for last
+abbrev pub IsUnread : Seen → Seen → Fault → Type 0
+IsUnread before now fault = IsLastAsked fault.name now × (fault ≡ fault_at 1 fault.name) × Rose before.faults now.faults
+
+-- the file asked for last is over its limit, and the refusal names it
+abbrev pub IsTooLong : Seen → Seen → Fault → Type 0
+IsTooLong before now fault = IsLastAsked fault.name now × (fault ≡ fault_at 600 fault.name)
+    × RoseBy (max_bytes + 1) before.taken now.taken
+
+-- the refusal that goes with a status: a failed read, a file over its limit, or a rule that a file's bytes break
+abbrev pub IsRefusedBy : Seen → Seen → Status → Fault → Type 0
+IsRefusedBy before now ReadFault fault = IsUnread before now fault
+IsRefusedBy before now Netlist fault = Unit {0}
+IsRefusedBy before now Constraints fault = Unit {0}
+IsRefusedBy before now _ fault = ⊥
+
+-- the text that goes with a status: the usage line, the line of a refusal, or what the command prints
+abbrev pub IsText : Seen → Seen → Status → Text → Type 0
+IsText before now Usage text = (text ≡ usage_line)
+IsText before now Done text = Unit {0}
+IsText before now Violations text = Unit {0}
+IsText before now Waived text = Unit {0}
+IsText before now status text = (fault : Fault) × (text ≡ line_of fault) × IsRefusedBy before now status fault
+
+-- a file that is told to be over its limit
+abbrev pub IsLong : Seen → Text → Type 0
+IsLong before name = (bytes : Text) × (before.held name ≡ Some bytes) × (max_bytes < length bytes)
+
+-- the answer is the refusal of a file over its limit, or that a read failed
+abbrev pub IsRefusedForLength : Status → Text → Status → Text → Type 0
+IsRefusedForLength of_file name status text =
+    ((status ≡ of_file) × (text ≡ line_of (fault_at 600 name))) ⊎ (status ≡ ReadFault)
+
+-- a status and a text, from the words and from what the files told
+pub record IsAnswer (words : List Text) (before now : Seen) (status : Status) (text : Text) : Type 0 where
+  pub usage : status ≡ Usage → IsAccepted words → ⊥
+  pub refused : (IsAccepted words → ⊥) → status ≡ Usage
+  pub fits : IsText before now status text
+  pub long_net : (net con : Text) → IsAccepted words → file_words words ≡ net ∷ con ∷ [] → IsLong before net
+      → IsRefusedForLength Netlist net status text
+  pub long_con : (net con : Text) → IsAccepted words → file_words words ≡ net ∷ con ∷ [] → IsLong before con
+      → IsRefusedForLength Constraints con status text ⊎ IsRefusedForLength Netlist net status text
+
+-- what the output told before the run and tells after it, for a text that went to it
+abbrev pub IsWritten : Status → Status → Text → Option Text → Option Text → Type 0
+IsWritten WriteFault intended text before now = IsFrontAdded before text now
+IsWritten Memory intended text before now = IsFrontAdded before text now
+IsWritten status intended text before now = (status ≡ intended) × IsAdded before text now
+
+-- an output: what was written, where it is told, and the count of failed calls
+pub record Output : Type 0 where
+  pub written : Option Text
+  pub faults : ℕ
+
+-- a run made an answer and wrote it; or memory ran out before there was one, and nothing was written
+pub record IsRun (words : List Text) (before now : Seen) (out_before out_now : Output) (status : Status) : Type 0 where
+  pub asks : AsksByWords words before now
+  pub unwritten : status ≡ WriteFault → Rose out_before.faults out_now.faults
+  pub answer : ((intended : Status) × (text : Text) × IsAnswer words before now intended text
+      × IsWritten status intended text out_before.written out_now.written)
+      ⊎ ((status ≡ Memory) × (out_now ≡ out_before))

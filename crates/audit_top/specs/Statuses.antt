@@ -1,0 +1,16 @@
+-- The numbers of the statuses, for the shell.
+use Rattle.std.specs.Prelude.{ℕ}
+use Rattle.audit_top.specs.declared.status.Status.{Status}
+use Rattle.audit_top.specs.declared.status.Status.TheVariants.{Done, Violations, Usage, Netlist, Constraints, Record, ReadFault, WriteFault, Memory, Waived}
+
+abbrev pub code_of : Status → ℕ
+code_of Done = 0
+code_of Violations = 1
+code_of Usage = 2
+code_of Netlist = 3
+code_of Constraints = 4
+code_of Record = 5
+code_of ReadFault = 6
+code_of WriteFault = 7
+code_of Memory = 8
+code_of Waived = 9
