@@ -31,6 +31,10 @@ impl Text {
         }
     }
 
+    pub fn alloc(&self) -> Global {
+        self.alloc
+    }
+
     pub fn add_bytes(&mut self, piece: &[u8]) -> Result<(), NoMemory>
         ensures { IfOk result (λ _. self.new ≡ self.old ++ piece.now) }
     {
