@@ -1,2 +1,3 @@
 pub mod formers
 pub mod Causes
+pub mod Stored

@@ -2,7 +2,7 @@
 ghost use Rattle.std.specs.Prelude.{◌≡◌, ◌≢◌, ℕ, ◌+◌, ◌≤◌, ◌<◌, List, [], ◌∷◌, ◌++◌, length, IfOk, OnOk, OnErr, IsOk, Option, IfSome, ◌⊎◌};
 ghost use Rattle.cdc_base.specs.Causes.{Rose, RoseBy, IsAdded, IsFrontAdded};
 
-use crate::list::List;
+use crate::list::{List, NoMemory};
 use thiserror::Error;
 
 #[derive(Clone, Copy, PartialEq, Eq, Debug, Drop, Error)]
@@ -21,6 +21,28 @@ pub enum SinkFault {
     Failed,
     #[error("out of memory")]
     Memory,
+}
+
+impl From<NoMemory> for FileFault {
+    ghost use Rattle.std.specs.Prelude.{◌≡◌};
+    ghost use Rattle.cdc_base.specs.declared.outside.FileFault.TheVariants.{Memory};
+
+    ghost from_gives = { λ _ r. r ≡ Memory };
+
+    fn from(_error: NoMemory) -> FileFault {
+        FileFault::Memory
+    }
+}
+
+impl From<NoMemory> for SinkFault {
+    ghost use Rattle.std.specs.Prelude.{◌≡◌};
+    ghost use Rattle.cdc_base.specs.declared.outside.SinkFault.TheVariants.{Memory};
+
+    ghost from_gives = { λ _ r. r ≡ Memory };
+
+    fn from(_error: NoMemory) -> SinkFault {
+        SinkFault::Memory
+    }
 }
 
 /// Files that can be read whole. `held` is what lies under a name, where the form tells it; `asked` lists the names
