@@ -2,11 +2,14 @@
 #![tactic(auto)]
 
 pub mod cell;
+pub mod feeds;
 pub mod graph;
 pub mod net;
 pub mod values;
+pub mod word;
 
 pub use cell::{Cell, CellId, Node, ReduceKind};
+pub use feeds::Passed;
 pub use graph::Graph;
 pub use net::{Cofactors, Net, Reg};
 pub use values::Values;
