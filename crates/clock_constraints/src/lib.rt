@@ -1,8 +1,17 @@
 //! The file of clock constraints.
 #![tactic(auto)]
 
-use cdc_base::{List, Name, ResetPin, Stop};
-use std::alloc::Global;
+mod array;
+mod entry;
+mod file;
+mod names;
+mod refusal;
+#[cfg(test)]
+mod tests;
+mod value;
+
+use cdc_base::{List, Name, ResetPin};
+pub use file::read;
 
 /// What a constraint file says: the top, its clock pins, the clocks of its inputs, its resets, its static inputs and the
 /// findings that are waived.
@@ -37,9 +46,4 @@ pub struct InputPin {
 pub struct Waiver {
     pub finding: Name,
     pub reason: Name,
-}
-
-/// Reads a constraint file.
-pub fn read(_alloc: Global, _text: &[u8]) -> Result<Constraints, Stop> {
-    Err(Stop::Memory)
 }
