@@ -70,6 +70,12 @@ impl Text {
         }
     }
 
+    pub fn as_slice(&self) -> &[u8]
+        ensures { result.now ≡ self.now }
+    {
+        self.bytes.as_slice()
+    }
+
     pub fn into_list(self) -> List<u8>
         ensures { result ≡ self }
     {

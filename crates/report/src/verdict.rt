@@ -1,8 +1,8 @@
 //! The verdict as text.
-use crate::finding::finding_lines;
 use crate::names::{add_bit, add_bits, add_signal};
 use crate::text::Text;
-use cdc_base::{List, Name, NoMemory};
+use crate::waivers::{all_lines, count_waived, reason_at};
+use cdc_base::{List, NoMemory};
 use cdc_model::{Cover, Finding, GrayReg, Ring, Scheme, Shape, Verdict};
 use cell_graph::Net;
 use clock_constraints::Waiver;
@@ -82,35 +82,6 @@ fn add_covers(text: &mut Text, net: &Net, covers: &[Cover]) -> Result<(), NoMemo
     Ok(())
 }
 
-/// Why the finding at this place is set aside; None where it isn't.
-fn reason_at<'a>(waivers: &'a [Waiver], aside: &[Option<u32>], place: usize) -> Option<&'a Name> {
-    let waiver = aside.get(place).copied().flatten()?;
-    match waivers.get(waiver as usize) {
-        Some(waiver) => Some(&waiver.reason),
-        None => None,
-    }
-}
-
-/// All lines of the finding at a place, without line feeds: those that show it, and the reason where it is waived.
-pub fn all_lines(
-    alloc: Global,
-    net: &Net,
-    domains: &Domains,
-    finding: &Finding,
-    waivers: &[Waiver],
-    aside: &[Option<u32>],
-    place: usize,
-) -> Result<List<List<u8>>, NoMemory> {
-    let mut lines = finding_lines(alloc, net, domains, finding)?;
-    if let Some(reason) = reason_at(waivers, aside, place) {
-        let mut text = Text::new(alloc);
-        text.add("  waived: ")?;
-        text.add(reason.as_str())?;
-        lines.push(text.into_list())?;
-    }
-    Ok(lines)
-}
-
 fn add_lines(text: &mut Text, lines: &[List<u8>]) -> Result<(), NoMemory> {
     for line in lines {
         text.add_bytes(line.as_slice())?;
@@ -128,15 +99,16 @@ fn add_findings(
     aside: &[Option<u32>],
 ) -> Result<(), NoMemory> {
     for (place, finding) in findings.iter().enumerate() {
-        let lines = all_lines(text.alloc(), net, domains, finding, waivers, aside, place)?;
+        let lines = all_lines(
+            text.alloc(),
+            net,
+            domains,
+            finding,
+            reason_at(waivers, aside, place),
+        )?;
         add_lines(text, lines.as_slice())?;
     }
     Ok(())
-}
-
-/// How many findings are waived.
-pub fn count_waived(aside: &[Option<u32>]) -> usize {
-    aside.iter().filter(|waiver| waiver.is_some()).count()
 }
 
 fn add_sum(
