@@ -24,3 +24,6 @@ pub use mem_sinks::{MemSink, SureSink};
 pub use name::Name;
 pub use outside::{FileFault, Files, Sink, SinkFault};
 pub use signal::{ResetPin, SigKind, Signal};
+
+#[cfg(test)]
+mod tests;
