@@ -1,2 +1,3 @@
-pub mod Shifts
+pub mod FeedLists
 pub mod Places
+pub mod Shifts

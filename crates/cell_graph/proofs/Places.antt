@@ -1,17 +1,19 @@
 -- The table of places and the widths, where one more cell is added.
-use Rattle.std.proofs.Common.{◌≡◌, ◌∙◌, sym, ap, ap₂, subst, refl, arith, rules, ℕ, ◌+◌, ◌<◌, ◌≤◌, ◌^◌, Bool, true, false, cond, List, [], ◌∷◌, ◌++◌, length, map, Option, Some, None, inl, inr, length-append}
+use Rattle.std.proofs.Common.{◌≡◌, ◌∙◌, sym, ap, ap₂, subst, refl, arith, rules, ℕ, ◌+◌, ◌<◌, ◌≤◌, ◌^◌, Bool, true, false, cond, List, [], ◌∷◌, ◌++◌, length, map, Option, Some, None, is_some, unwrap_or, slice_get, get_or, nat_lt, ltb-true, inl, inr, length-append}
 use Rattle.std.specs.Prelude.{position}
-use Rattle.std.specs.List.{position_from}
+use Rattle.std.specs.List.{position_from, position_or_len}
 use Rattle.std.specs.Cmp.Rules.{comparing}
 use Rattle.std.proofs.lemmas.Bool.{cases_Bool}
 use Rattle.std.proofs.lemmas.List.{map-append, length-map}
+use Rattle.std.proofs.lemmas.List.Sums.{passes_at_first}
+use Rattle.std.proofs.lemmas.Option.{slice_get-get_or}
 use Rattle.std.proofs.lemmas.Iterator.Adapters.{position_from-zero}
 use Rattle.std.specs.HashMap as hash
 use Rattle.std.specs.HashMap.{HashMap}
 use Rattle.cdc_base.specs.declared.signal.Signal.{Signal}
 use Rattle.cell_graph.specs.declared.cell.Cell.{Cell}
 use Rattle.cell_graph.specs.declared.cell.Entry.{Entry}
-use Rattle.cell_graph.specs.Cells.{same_cell, place_in, in_order, widths, width_of}
+use Rattle.cell_graph.specs.Cells.{same_cell, place_in, place_of, with_cell, in_order, widths, width_of}
 use Rattle.cell_graph.specs.Kept.{IsKept, cells_of, widths_of}
 
 pub in_order-push : {A : Type 0} (f : List A → Cell → A) (before : List A) (cs : List Cell) (c : Cell)
@@ -78,3 +80,27 @@ added signals es old new calls n e kept at room wide fresh after = record {
     own : hash.get same_cell new e.cell ≡ place_in (cells_of es ++ e.cell ∷ []) e.cell
     own = after e.cell ∙ ap (λ b. cond b (Some n) (hash.get same_cell old e.cell)) (same-refl e.cell)
         ∙ sym (place_in-push (cells_of es) e.cell e.cell n (at ∙ sym (length-map es (λ (x : Entry). x.cell))) fresh ∙ ap (λ b. cond b (Some n) None) (same-refl e.cell))
+
+-- the place of a cell has the cell, also once it is added
+pub place_in-get : (cs : List Cell) (q : Cell) (k : ℕ) → place_in cs q ≡ Some k → slice_get cs k ≡ Some q
+place_in-get cs q k h = elim (cases_Bool (nat_lt (position_or_len (same_cell q) cs) (length cs))) [
+  | inl t ↦
+      let m : ℕ = position_or_len (same_cell q) cs in
+      let lt : position_or_len (same_cell q) cs < length cs = ltb-true (position_or_len (same_cell q) cs) (length cs) t in
+      let e : Some (position_or_len (same_cell q) cs) ≡ Some k = rw t at h in
+      let is : position_or_len (same_cell q) cs ≡ k = cc in
+      let same = same_is_equal q (get_or cs (position_or_len (same_cell q) cs) q) (passes_at_first (same_cell q) cs q lt) in
+      ap (slice_get cs) (sym is) ∙ slice_get-get_or cs (position_or_len (same_cell q) cs) q lt ∙ ap Some (sym same)
+  | inr f ↦ let e : None ≡ Some k = rw f at h in cc
+]
+
+pub slice_get-push : (cs : List Cell) (c : Cell) → slice_get (cs ++ c ∷ []) (length cs) ≡ Some c
+slice_get-push [] c = refl
+slice_get-push (d ∷ cs) c = slice_get-push cs c
+
+pub with_cell-get : (cs : List Cell) (c : Cell) → slice_get (with_cell cs c) (place_of cs c) ≡ Some c
+with_cell-get cs c = by (place_in cs c) refl
+  where
+    by : (o : Option ℕ) → place_in cs c ≡ o → slice_get (cond (is_some o) cs (cs ++ c ∷ [])) (unwrap_or o (length cs)) ≡ Some c
+    by None e = slice_get-push cs c
+    by (Some k) e = place_in-get cs c k e

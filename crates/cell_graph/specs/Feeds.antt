@@ -40,17 +40,17 @@ passed_by g (Shl a by) i = by_constant (constant (cell_at g by)) (moved_up g a i
 passed_by g (Shr a by) i = by_constant (constant (cell_at g by)) (moved_down g a i)
 passed_by g c i = Other
 
--- the lowest n bits of a cell, and of two cells in pairs
-abbrev pub bits_of : CellId → ℕ → List Node
-bits_of a zero = []
-bits_of a (suc n) = bits_of a n ++ node a n ∷ []
+-- n bits from bit i on: of a cell, and of two cells in pairs
+abbrev pub bits_from : CellId → ℕ → ℕ → List Node
+bits_from a i zero = []
+bits_from a i (suc n) = node a i ∷ bits_from a (suc i) n
 
-abbrev pub pairs_of : CellId → CellId → ℕ → List Node
-pairs_of a b zero = []
-pairs_of a b (suc n) = pairs_of a b n ++ node a n ∷ node b n ∷ []
+abbrev pub pairs_from : CellId → CellId → ℕ → ℕ → List Node
+pairs_from a b i zero = []
+pairs_from a b i (suc n) = node a i ∷ node b i ∷ pairs_from a b (suc i) n
 
 abbrev pub all_bits : Cells → CellId → List Node
-all_bits g a = bits_of a (cell_width g a)
+all_bits g a = bits_from a 0 (cell_width g a)
 
 -- the bit that is passed, or none; where a cell does more than to move bits, the feeds that it then has
 abbrev pub feeds_passed : Passed → List Node → List Node
@@ -66,10 +66,10 @@ feeds_of g (Not a) i = node a i ∷ []
 feeds_of g (And a b) i = node a i ∷ node b i ∷ []
 feeds_of g (Or a b) i = node a i ∷ node b i ∷ []
 feeds_of g (Xor a b) i = node a i ∷ node b i ∷ []
-feeds_of g (Add a b) i = pairs_of a b (suc i)
-feeds_of g (Sub a b) i = pairs_of a b (suc i)
-feeds_of g (Eq a b) i = pairs_of a b (cell_width g a)
-feeds_of g (Lt a b) i = pairs_of a b (cell_width g a)
+feeds_of g (Add a b) i = pairs_from a b 0 (i + 1)
+feeds_of g (Sub a b) i = pairs_from a b 0 (i + 1)
+feeds_of g (Eq a b) i = pairs_from a b 0 (cell_width g a)
+feeds_of g (Lt a b) i = pairs_from a b 0 (cell_width g a)
 feeds_of g (Shl a by) i = feeds_passed (passed_by g (Shl a by) i) (all_bits g a ++ all_bits g by)
 feeds_of g (Shr a by) i = feeds_passed (passed_by g (Shr a by) i) (all_bits g a ++ all_bits g by)
 feeds_of g (Mux c x y) i = node c 0 ∷ node x i ∷ node y i ∷ []

@@ -50,6 +50,7 @@ impl Graph {
     pub fn add(&mut self, cell: Cell) -> Result<CellId, Stop>
         ensures there { IfOk result (λ id. id.0 ≡ place_of self.old.cells cell) }
         ensures cells { OnOk result (self.new.cells ≡ with_cell self.old.cells cell) }
+        ensures found { IfOk result (λ id. slice_get self.new.cells id.0 ≡ Some cell) }
         ensures signals { self.new.signals ≡ self.old.signals }
         ensures counted { OnOk result (self.new.calls ≡ self.old.calls + 1) }
         ensures room { OnOk result (self.old.calls < MAX_CELLS) }
