@@ -1,3 +1,8 @@
 pub mod Cells
-pub mod Kept
+pub mod Cofactor
 pub mod Feeds
+pub mod Kept
+pub mod Laws
+pub mod Origin
+pub mod Reading
+pub mod Tree
