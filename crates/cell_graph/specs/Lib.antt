@@ -6,3 +6,4 @@ pub mod Laws
 pub mod Origin
 pub mod Reading
 pub mod Tree
+pub mod Unfolded

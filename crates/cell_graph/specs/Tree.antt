@@ -1,5 +1,5 @@
--- Trees of cells, and their value in a reading, bit by bit.
-use Rattle.std.specs.Prelude.{ℕ, zero, suc, ◌+◌, ◌-◌, ◌^◌, ◌/◌, ◌%◌, Bool, true, false, cond, not, ◌&&◌, ◌||◌, ◌==◌, nat_lt}
+-- Trees of cells, and their value in a reading, bit by bit. A width is a byte.
+use Rattle.std.specs.Prelude.{ℕ, zero, suc, ◌+◌, ◌-◌, ◌^◌, ◌/◌, ◌%◌, min, Bool, true, false, cond, not, ◌&&◌, ◌||◌, ◌==◌, nat_lt}
 use Rattle.cell_graph.specs.Reading.{Reading}
 
 pub data Tree : Type 0 where
@@ -37,7 +37,7 @@ width (Lt a b) = 1
 width (Shl a by) = width a
 width (Shr a by) = width a
 width (Mux c x y) = width x
-width (Concat high low) = width high + width low
+width (Concat high low) = min (width high + width low) 255
 width (Slice a at w) = w
 width (Extend a w) = w
 width (ReduceAnd a) = 1
