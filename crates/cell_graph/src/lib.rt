@@ -4,6 +4,7 @@
 pub mod cell;
 pub mod feeds;
 pub mod graph;
+pub mod laws;
 pub mod net;
 pub mod values;
 pub mod word;
@@ -11,5 +12,9 @@ pub mod word;
 pub use cell::{Cell, CellId, Node, ReduceKind};
 pub use feeds::Passed;
 pub use graph::Graph;
+pub use laws::cofactors_are_sound;
 pub use net::{Cofactors, Net, Reg};
 pub use values::Values;
+
+#[cfg(test)]
+mod tests;
