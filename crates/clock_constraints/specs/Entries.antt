@@ -5,7 +5,7 @@ use Rattle.cdc_base.specs.declared.signal.ResetPin.{ResetPin}
 use Rattle.toml.specs.Data.{Data, Items, no_items, item, Members, get, get_member, as_array, as_table}
 use Rattle.clock_constraints.specs.declared.ClockPin.{ClockPin}
 use Rattle.clock_constraints.specs.declared.Waiver.{Waiver}
-use Rattle.clock_constraints.specs.declared.entry.InputWords.{InputWords}
+use Rattle.clock_constraints.specs.declared.entry.InputEntry.{InputEntry}
 use Rattle.clock_constraints.specs.Refusals.{Text, ◌>>=◌, unless, required}
 use Rattle.clock_constraints.specs.Values.{unknown_in, text, text_passing, is_group, is_reason, settle_or_one, level}
 
@@ -18,8 +18,8 @@ clock_pin d = unless (unknown_in (codes "name" ∷ codes "group" ∷ codes "sett
   Ok (record { name = name; group = group; settle = settle })
 
 -- an entry of `input`
-abbrev pub input_words : Data → Result InputWords Fault
-input_words d = unless (unknown_in (codes "name" ∷ codes "clock" ∷ []) (as_table d)) do
+abbrev pub input_entry : Data → Result InputEntry Fault
+input_entry d = unless (unknown_in (codes "name" ∷ codes "clock" ∷ []) (as_table d)) do
   name ← text (codes "name") d
   clock ← text (codes "clock") d
   Ok (record { name = name; clock = clock })

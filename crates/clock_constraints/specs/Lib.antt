@@ -1,3 +1,5 @@
 pub mod Refusals
 pub mod Values
 pub mod Entries
+pub mod Names
+pub mod Files

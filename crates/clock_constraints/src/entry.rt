@@ -1,4 +1,5 @@
 //! The entries of the file's arrays.
+ghost use Rattle.std.specs.Prelude.{◌≡◌};
 ghost use Rattle.toml.specs.View.{view};
 ghost use Rattle.clock_constraints.specs.Refusals.{Gives};
 
@@ -9,20 +10,26 @@ use toml::Value;
 
 /// An entry of an array of the file.
 pub trait Entry: Drop {
-    ghost use Rattle.std.specs.Prelude.{Result};
+    ghost use Rattle.std.specs.Prelude.{◌≡◌, ℕ, List, Result};
     ghost use Rattle.cdc_base.specs.declared.fault.Fault.{Fault};
     ghost use Rattle.toml.specs.Data.{Data};
 
     ghost reading: { Data → Result Self Fault };
 
+    ghost key: { Self → List ℕ };
+
     /// What the entry says. It refuses the first wrong key: unknown keys in byte order, then the known ones.
     fn read(alloc: Global, entry: &Value) -> Result<Self, Stop>
         ensures { Gives result (reading (view entry.now)) };
+
+    /// The text that no other entry may have: the name, or the finding that is waived.
+    fn key(&self) -> &str
+        ensures { result.now ≡ key self.now };
 }
 
 /// An input and its clock, both by name.
 #[derive(Drop)]
-pub struct InputWords {
+pub struct InputEntry {
     pub name: Name,
     pub clock: Name,
 }
@@ -32,6 +39,8 @@ impl Entry for ClockPin {
 
     ghost reading = { clock_pin };
 
+    ghost key = { λ e. e.name };
+
     fn read(alloc: Global, entry: &Value) -> Result<Self, Stop> {
         value::check_keys(alloc, entry, &["name", "group", "settle"])?;
         Ok(ClockPin {
@@ -40,19 +49,29 @@ impl Entry for ClockPin {
             settle: value::settle(alloc, entry)?,
         })
     }
+
+    fn key(&self) -> &str {
+        self.name.as_str()
+    }
 }
 
-impl Entry for InputWords {
-    ghost use Rattle.clock_constraints.specs.Entries.{input_words};
+impl Entry for InputEntry {
+    ghost use Rattle.clock_constraints.specs.Entries.{input_entry};
 
-    ghost reading = { input_words };
+    ghost reading = { input_entry };
+
+    ghost key = { λ e. e.name };
 
     fn read(alloc: Global, entry: &Value) -> Result<Self, Stop> {
         value::check_keys(alloc, entry, &["name", "clock"])?;
-        Ok(InputWords {
+        Ok(InputEntry {
             name: value::text(alloc, entry, "name")?,
             clock: value::text(alloc, entry, "clock")?,
         })
+    }
+
+    fn key(&self) -> &str {
+        self.name.as_str()
     }
 }
 
@@ -61,12 +80,18 @@ impl Entry for ResetPin {
 
     ghost reading = { reset_pin };
 
+    ghost key = { λ e. e.name };
+
     fn read(alloc: Global, entry: &Value) -> Result<Self, Stop> {
         value::check_keys(alloc, entry, &["name", "active"])?;
         Ok(ResetPin {
             name: value::text(alloc, entry, "name")?,
             high: value::level(alloc, entry)?,
         })
+    }
+
+    fn key(&self) -> &str {
+        self.name.as_str()
     }
 }
 
@@ -76,9 +101,15 @@ impl Entry for Name {
 
     ghost reading = { static_name };
 
+    ghost key = { λ e. e };
+
     fn read(alloc: Global, entry: &Value) -> Result<Self, Stop> {
         value::check_keys(alloc, entry, &["name"])?;
         value::text(alloc, entry, "name")
+    }
+
+    fn key(&self) -> &str {
+        self.as_str()
     }
 }
 
@@ -87,11 +118,17 @@ impl Entry for Waiver {
 
     ghost reading = { waiver };
 
+    ghost key = { λ e. e.finding };
+
     fn read(alloc: Global, entry: &Value) -> Result<Self, Stop> {
         value::check_keys(alloc, entry, &["finding", "reason"])?;
         Ok(Waiver {
             finding: value::text(alloc, entry, "finding")?,
             reason: value::reason(alloc, entry, "reason")?,
         })
+    }
+
+    fn key(&self) -> &str {
+        self.finding.as_str()
     }
 }
