@@ -5,7 +5,7 @@ mod array;
 mod entry;
 mod file;
 mod names;
-mod refusal;
+pub mod refusal;
 #[cfg(test)]
 mod tests;
 mod value;

@@ -1,10 +1,17 @@
 //! The clock and the group of each bit of a net.
 #![tactic(auto)]
 
-use cdc_base::{Bit, List, Name, Stop};
-use cell_graph::{Cofactors, Net};
-use clock_constraints::{ClockPin, Constraints};
-use std::alloc::Global;
+mod assignment;
+mod group;
+mod port;
+mod register;
+mod table;
+#[cfg(test)]
+mod tests;
+
+pub use assignment::assign;
+use cdc_base::{Bit, List, Name};
+use clock_constraints::ClockPin;
 
 /// The clocks of a net's signals. `clock_by_sig` has the clock of each register and clocked input, `group_by_clock` the
 /// group of each clock, and `statics` the signals of the static inputs, ascending. Groups are numbered in the order in
@@ -33,14 +40,4 @@ impl Domains {
         let clock = self.clock_of(bit)?;
         self.group_by_clock.as_slice().get(clock as usize).copied()
     }
-}
-
-/// Assigns clocks to the registers and inputs of the net.
-pub fn assign<C: Cofactors>(
-    _alloc: Global,
-    _net: &Net,
-    _constraints: &Constraints,
-    _by: &C,
-) -> Result<Domains, Stop> {
-    Err(Stop::Memory)
 }
