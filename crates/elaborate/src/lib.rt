@@ -5,6 +5,13 @@
 //! as often as it is used.
 #![tactic(auto)]
 
+ghost use Rattle.std.specs.Prelude.{◌≡◌, ◌≤◌, length, map, vec_len, IfOk};
+ghost use Rattle.cell_graph.specs.declared.net.Reg.{Reg as NetRegister};
+ghost use Rattle.elaborate.specs.declared.sketch.Register.{Register as RegisterDraft};
+ghost use Rattle.cdc_base.specs.declared.limits.TheConstants.{MAX_STATE_BITS};
+ghost use Rattle.elaborate.specs.Limits.{state_bits};
+ghost use Rattle.elaborate.specs.Registers.{registers_from};
+
 mod assigned;
 mod constant;
 mod draft;
@@ -38,7 +45,11 @@ use std::alloc::Global;
 /// wire's bits lead back to themselves through logic alone, with the first such signal; E602 where the trees of the
 /// registers' clocks and next values and of the outputs have more cells than the limit, each use of a shared tree
 /// counted.
-pub fn elaborate(alloc: Global, flat: &Flat) -> Result<Net, Stop> {
+pub fn elaborate(alloc: Global, flat: &Flat) -> Result<Net, Stop>
+    ensures registers { IfOk result (λ net. map (λ (r : NetRegister). r.sig) net.regs ≡ registers_from 0 flat.now.signals) }
+    ensures outputs { IfOk result (λ net. length net.outputs ≡ length flat.now.outputs) }
+    ensures state_bits { IfOk result (λ net. state_bits flat.now.signals ≤ MAX_STATE_BITS) }
+{
     let signals = flat.signals.as_slice();
     if refusal::has_too_many_state_bits(signals) {
         return Err(refusal::limit(alloc, 605));
@@ -79,12 +90,10 @@ fn first_loop<'a>(
 }
 
 /// The cells of registers and outputs.
-fn make_net(
-    alloc: Global,
-    signals: &[Signal],
-    sketch: &Sketch,
-    links: &Links,
-) -> Result<Net, Stop> {
+fn make_net(alloc: Global, signals: &[Signal], sketch: &Sketch, links: &Links) -> Result<Net, Stop>
+    ensures registers { IfOk result (λ net. map (λ (r : NetRegister). r.sig) net.regs ≡ map (λ (r : RegisterDraft). r.sig) sketch.now.registers.items) }
+    ensures outputs { IfOk result (λ net. length net.outputs ≡ vec_len sketch.now.outputs) }
+{
     let mut lowering = Lowering {
         graph: Graph::new(alloc, copied(alloc, signals)?)?,
         trees: filled(alloc, None, links.len())?,
@@ -119,7 +128,10 @@ fn roots_of(alloc: Global, sketch: &Sketch) -> Result<Vec<u32>, NoMemory> {
     Ok(roots)
 }
 
-fn finish(alloc: Global, sketch: &Sketch, lowering: Lowering) -> Result<Net, Stop> {
+fn finish(alloc: Global, sketch: &Sketch, lowering: Lowering) -> Result<Net, Stop>
+    ensures registers { IfOk result (λ net. map (λ (r : NetRegister). r.sig) net.regs ≡ map (λ (r : RegisterDraft). r.sig) sketch.now.registers.items) }
+    ensures outputs { IfOk result (λ net. length net.outputs ≡ vec_len sketch.now.outputs) }
+{
     let mut regs = List::new(alloc);
     for register in &sketch.registers {
         regs.push(Reg {

@@ -54,8 +54,10 @@ pub fn run(
                 Some(body) => Some(changes(alloc, drafts, present, body)?),
                 None => None,
             };
-            let branches = branches(alloc, drafts, present, subject, items)?;
-            let full = last.is_none() && is_full(alloc, items, case_width(subject, items))?;
+            let width = case_width(subject, items);
+            let word = tree(alloc, drafts, present, subject, width)?;
+            let branches = branches(alloc, drafts, present, word, width, items)?;
+            let full = last.is_none() && is_full(alloc, items, width)?;
             let merged = chain(alloc, drafts, present, branches, last, full)?;
             present.set_all(&merged)
         }
@@ -81,17 +83,16 @@ fn changes(
     present.take_back(alloc, mark)
 }
 
-/// The items of a case, each with its condition.
+/// The items of a case over a word, each with its condition.
 #[cycle(statements)]
 fn branches(
     alloc: Global,
     drafts: &mut Drafts,
     present: &mut Present,
-    subject: &FExpr,
+    word: CellId,
+    width: u8,
     items: &[FCaseItem],
 ) -> Result<Vec<Branch>, NoMemory> {
-    let width = case_width(subject, items);
-    let word = tree(alloc, drafts, present, subject, width)?;
     let mut branches = Vec::new(alloc);
     for item in items {
         let cond = condition(alloc, drafts, present, word, item.labels.as_slice(), width)?;

@@ -1,4 +1,8 @@
 //! A design's drivers as drafts: which bits of which signal are driven by which tree.
+ghost use Rattle.std.specs.Prelude.{◌≡◌, IfOk, map};
+ghost use Rattle.elaborate.specs.Registers.{is_register as register_kind, registers_from};
+ghost use Rattle.elaborate.specs.declared.sketch.Register.{Register as RegisterDraft};
+
 use crate::assigned::{Assigned, collect};
 use crate::draft::Drafts;
 use crate::mask::runs;
@@ -45,7 +49,10 @@ pub struct Sketch {
 type Nexts = BTreeMap<u32, (CellId, CellId)>;
 
 impl Sketch {
-    pub fn of(alloc: Global, flat: &Flat) -> Result<Sketch, NoMemory> {
+    /// The drivers of the design.
+    pub fn of(alloc: Global, flat: &Flat) -> Result<Sketch, NoMemory>
+        ensures { IfOk result (λ s. map (λ (r : RegisterDraft). r.sig) s.registers.items ≡ registers_from 0 flat.now.signals) }
+    {
         let signals = flat.signals.as_slice();
         let mut drafts = Drafts::new(alloc);
         let mut present = Present::new(alloc, signals)?;
@@ -192,10 +199,12 @@ fn registers(
     drafts: &mut Drafts,
     signals: &[Signal],
     nexts: &Nexts,
-) -> Result<Vec<Register>, NoMemory> {
+) -> Result<Vec<Register>, NoMemory>
+    ensures { IfOk result (λ rs. map (λ (r : RegisterDraft). r.sig) rs.items ≡ registers_from 0 signals.now) }
+{
     let mut registers = Vec::new(alloc);
     for (place, signal) in signals.iter().enumerate() {
-        if signal.kind == SigKind::Register {
+        if is_register(signal) {
             let sig = numbered(place)?;
             let (next, clock) = match nexts.get(&sig) {
                 Some(found) => *found,
@@ -205,4 +214,13 @@ fn registers(
         }
     }
     Ok(registers)
+}
+
+fn is_register(signal: &Signal) -> bool
+    ensures { result ≡ register_kind signal.now.kind }
+{
+    match signal.kind {
+        SigKind::Register => true,
+        SigKind::Input | SigKind::Wire => false,
+    }
 }
