@@ -1,5 +1,5 @@
 //! A design's drivers as drafts: which bits of which signal are driven by which tree.
-ghost use Rattle.std.specs.Prelude.{◌≡◌, IfOk, map};
+ghost use Rattle.std.specs.Prelude.{◌≡◌, IfOk, map, length, vec_len};
 ghost use Rattle.elaborate.specs.Registers.{is_register as register_kind, registers_from};
 ghost use Rattle.elaborate.specs.declared.sketch.Register.{Register as RegisterDraft};
 
@@ -51,7 +51,8 @@ type Nexts = BTreeMap<u32, (CellId, CellId)>;
 impl Sketch {
     /// The drivers of the design.
     pub fn of(alloc: Global, flat: &Flat) -> Result<Sketch, NoMemory>
-        ensures { IfOk result (λ s. map (λ (r : RegisterDraft). r.sig) s.registers.items ≡ registers_from 0 flat.now.signals) }
+        ensures registers { IfOk result (λ s. map (λ (r : RegisterDraft). r.sig) s.registers.items ≡ registers_from 0 flat.now.signals) }
+        ensures outputs { IfOk result (λ s. vec_len s.outputs ≡ length flat.now.outputs) }
     {
         let signals = flat.signals.as_slice();
         let mut drafts = Drafts::new(alloc);

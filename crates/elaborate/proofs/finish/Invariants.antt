@@ -1,4 +1,4 @@
-use Rattle.std.proofs.Common.{◌≡◌, ◌++◌, ◌+◌, map, drop, length}
+use Rattle.std.proofs.Common.{◌≡◌, ◌++◌, map, drop, length}
 use Rattle.cell_graph.specs.declared.net.Reg.{Reg}
 use Rattle.elaborate.specs.declared.sketch.Register.{Register}
 use Rattle.elaborate.proofs.finish.Given as goal
