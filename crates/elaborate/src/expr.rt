@@ -60,7 +60,19 @@ pub fn tree(
     e: &FExpr,
     width: u8,
 ) -> Result<CellId, NoMemory> {
-    match e {
+    // A gate of many inputs is a long chain to the left, which is too long for a recursion.
+    let mut rights = Vec::new(alloc);
+    let mut low = e;
+    loop {
+        match low {
+            FExpr::Binary { op, a, b, .. } if is_folded(*op) => {
+                push(&mut rights, (*op, tree(alloc, drafts, present, b, width)?))?;
+                low = a;
+            }
+            _ => break,
+        }
+    }
+    let lowest = match low {
         FExpr::Number { value, width: own } => {
             let number = drafts.constant(*own, *value)?;
             drafts.fitted(number, width)
@@ -111,7 +123,27 @@ pub fn tree(
             let copies = repeated(drafts, word, *count)?;
             drafts.fitted(copies, width)
         }
+    };
+    folded(drafts, lowest?, rights.as_slice(), width)
+}
+
+/// The operators of gates, whose operands are both evaluated at the size of the whole.
+fn is_folded(op: BinaryOp) -> bool {
+    matches!(op, BinaryOp::And | BinaryOp::Or | BinaryOp::Xor)
+}
+
+/// The words joined to the first one by their operators, the last one of the list first.
+fn folded(
+    drafts: &mut Drafts,
+    first: CellId,
+    rights: &[(BinaryOp, CellId)],
+    width: u8,
+) -> Result<CellId, NoMemory> {
+    let mut word = first;
+    for (op, right) in rights.iter().rev() {
+        word = binary(drafts, *op, word, *right, width)?;
     }
+    Ok(word)
 }
 
 /// The expressions side by side, each at its own size.
