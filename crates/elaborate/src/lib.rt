@@ -1,12 +1,179 @@
 //! Elaboration: the cells of a flat design.
+//!
+//! The drivers of all signals become drafts, trees whose reads of wires are still open. Where no wire leads back to
+//! itself, the drafts that registers and outputs need become cells, each once; the count of cells still counts a tree
+//! as often as it is used.
 #![tactic(auto)]
 
-use cdc_base::Stop;
-use cell_graph::Net;
+ghost use Rattle.std.specs.Prelude.{◌≡◌, ◌≤◌, length, map, vec_len, IfOk};
+ghost use Rattle.cell_graph.specs.declared.net.Reg.{Reg as NetRegister};
+ghost use Rattle.elaborate.specs.declared.sketch.Register.{Register as RegisterDraft};
+ghost use Rattle.cdc_base.specs.declared.limits.TheConstants.{MAX_STATE_BITS};
+ghost use Rattle.elaborate.specs.Limits.{state_bits};
+ghost use Rattle.elaborate.specs.Registers.{registers_from};
+
+mod assigned;
+mod constant;
+mod draft;
+mod expr;
+mod links;
+mod lower;
+mod mask;
+mod memory;
+mod present;
+mod process;
+mod refusal;
+mod sketch;
+mod target;
+#[cfg(test)]
+mod tests;
+mod walk;
+
+use crate::links::Links;
+use crate::lower::Lowering;
+use crate::memory::{filled, numbered, push};
+use crate::sketch::Sketch;
+use cdc_base::limits::MAX_CELLS;
+use cdc_base::{List, NoMemory, Signal, Stop};
+use cell_graph::{CellId, Graph, Net, Reg};
 use flat_design::Flat;
 use std::alloc::Global;
 
 /// Makes the cells of the design's registers and outputs.
-pub fn elaborate(_alloc: Global, _flat: &Flat) -> Result<Net, Stop> {
-    Err(Stop::Memory)
+///
+/// Refuses, in this order: E605 where the bits of registers and top inputs together pass their limit; E312 where a
+/// wire's bits lead back to themselves through logic alone, with the first such signal; E602 where the trees of the
+/// registers' clocks and next values and of the outputs have more cells than the limit, each use of a shared tree
+/// counted.
+pub fn elaborate(alloc: Global, flat: &Flat) -> Result<Net, Stop>
+    ensures registers { IfOk result (λ net. map (λ (r : NetRegister). r.sig) net.regs ≡ registers_from 0 flat.now.signals) }
+    ensures outputs { IfOk result (λ net. length net.outputs ≡ length flat.now.outputs) }
+    ensures state_bits { IfOk result (λ net. state_bits flat.now.signals ≤ MAX_STATE_BITS) }
+{
+    let signals = flat.signals.as_slice();
+    if refusal::has_too_many_state_bits(signals) {
+        return Err(refusal::limit(alloc, 605));
+    }
+    let sketch = Sketch::of(alloc, flat)?;
+    let links = Links::of(alloc, signals, &sketch)?;
+    if let Some(signal) = first_loop(alloc, signals, &sketch, &links)? {
+        return Err(refusal::combinational_loop(alloc, signal));
+    }
+    make_net(alloc, signals, &sketch, &links)
+}
+
+/// The first signal with bits that lead back to themselves.
+fn first_loop<'a>(
+    alloc: Global,
+    signals: &'a [Signal],
+    sketch: &Sketch,
+    links: &Links,
+) -> Result<Option<&'a Signal>, NoMemory> {
+    let first = sketch.drafts.as_slice().len();
+    let mut roots = Vec::new(alloc);
+    for vertex in first..links.len() {
+        let root = numbered(vertex)?;
+        push(&mut roots, root)?;
+    }
+    let order = walk::order(alloc, links, roots.as_slice())?;
+    if !walk::has_loop(alloc, links, order.as_slice())? {
+        return Ok(None);
+    }
+    let on_loops = walk::on_loops(alloc, links, order.as_slice())?;
+    for (place, piece) in sketch.pieces.iter().enumerate() {
+        let vertex = first.saturating_add(place);
+        if on_loops.get(vertex).copied().unwrap_or(false) {
+            return Ok(signals.get(piece.sig as usize));
+        }
+    }
+    Ok(None)
+}
+
+/// The cells of registers and outputs.
+fn make_net(alloc: Global, signals: &[Signal], sketch: &Sketch, links: &Links) -> Result<Net, Stop>
+    ensures registers { IfOk result (λ net. map (λ (r : NetRegister). r.sig) net.regs ≡ map (λ (r : RegisterDraft). r.sig) sketch.now.registers.items) }
+    ensures outputs { IfOk result (λ net. length net.outputs ≡ vec_len sketch.now.outputs) }
+{
+    let mut lowering = Lowering {
+        graph: Graph::new(alloc, copied(alloc, signals)?)?,
+        trees: filled(alloc, None, links.len())?,
+    };
+    let roots = roots_of(alloc, sketch)?;
+    let order = walk::order(alloc, links, roots.as_slice())?;
+    for vertex in &order {
+        lowering.meet(sketch, *vertex as usize)?;
+    }
+    let mut cells = 0u32;
+    for root in &roots {
+        if let Some(tree) = lowering.tree(*root as usize) {
+            cells = cells.saturating_add(tree.cells);
+        }
+    }
+    if cells > MAX_CELLS {
+        return Err(refusal::limit(alloc, 602));
+    }
+    finish(alloc, sketch, lowering)
+}
+
+/// The drafts that the design needs: of each register its clock and next value, and of each output its value.
+fn roots_of(alloc: Global, sketch: &Sketch) -> Result<Vec<u32>, NoMemory> {
+    let mut roots = Vec::new(alloc);
+    for register in &sketch.registers {
+        push(&mut roots, register.clock.0)?;
+        push(&mut roots, register.next.0)?;
+    }
+    for output in &sketch.outputs {
+        push(&mut roots, output.0)?;
+    }
+    Ok(roots)
+}
+
+fn finish(alloc: Global, sketch: &Sketch, lowering: Lowering) -> Result<Net, Stop>
+    ensures registers { IfOk result (λ net. map (λ (r : NetRegister). r.sig) net.regs ≡ map (λ (r : RegisterDraft). r.sig) sketch.now.registers.items) }
+    ensures outputs { IfOk result (λ net. length net.outputs ≡ vec_len sketch.now.outputs) }
+{
+    let mut regs = List::new(alloc);
+    for register in &sketch.registers {
+        regs.push(Reg {
+            sig: register.sig,
+            next: made(&lowering, register.next),
+            clock: made(&lowering, register.clock),
+        })?;
+    }
+    let mut outputs = List::new(alloc);
+    for output in &sketch.outputs {
+        outputs.push(made(&lowering, *output))?;
+    }
+    let Lowering { graph, trees: _ } = lowering;
+    Ok(Net {
+        graph,
+        regs,
+        outputs,
+    })
+}
+
+/// The cell of a draft.
+fn made(lowering: &Lowering, draft: CellId) -> CellId {
+    match lowering.tree(draft.0 as usize) {
+        Some(tree) => tree.cell,
+        None => CellId(0),
+    }
+}
+
+fn copied(alloc: Global, signals: &[Signal]) -> Result<List<Signal>, NoMemory> {
+    let mut copies = List::new(alloc);
+    for signal in signals {
+        copies.push(Signal {
+            name: signal.name.copy(alloc)?,
+            place: signal.place,
+            width: signal.width,
+            ranged: signal.ranged,
+            left: signal.left,
+            right: signal.right,
+            kind: signal.kind,
+            known: signal.known,
+            start: signal.start,
+        })?;
+    }
+    Ok(copies)
 }

@@ -1,0 +1,279 @@
+//! The trees of expressions at a size.
+use crate::draft::Drafts;
+use crate::memory::push;
+use crate::present::Present;
+use cdc_base::NoMemory;
+use cell_graph::{Cell, CellId, ReduceKind};
+use flat_design::FExpr;
+use std::alloc::Global;
+use verilog_ast::{BinaryOp, UnaryOp};
+
+/// The bits of the expression's own size.
+pub fn own_width(e: &FExpr) -> u8 {
+    match e {
+        FExpr::Number { width, .. }
+        | FExpr::Read { width, .. }
+        | FExpr::At { width, .. }
+        | FExpr::Unary { width, .. }
+        | FExpr::Binary { width, .. }
+        | FExpr::Choose { width, .. }
+        | FExpr::Join { width, .. }
+        | FExpr::Repeat { width, .. } => *width,
+    }
+}
+
+/// The size at which the operand of a unary operator is evaluated.
+pub fn operand_width(op: UnaryOp, width: u8, own: u8) -> u8 {
+    match op {
+        UnaryOp::Not => width,
+        _ => own,
+    }
+}
+
+/// The sizes at which the operands of a binary operator are evaluated.
+pub fn operand_widths(op: BinaryOp, width: u8, left: u8, right: u8) -> (u8, u8) {
+    match op {
+        BinaryOp::Mul
+        | BinaryOp::Div
+        | BinaryOp::Mod
+        | BinaryOp::Add
+        | BinaryOp::Sub
+        | BinaryOp::And
+        | BinaryOp::Or
+        | BinaryOp::Xor
+        | BinaryOp::Xnor => (width, width),
+        BinaryOp::Shl | BinaryOp::Shr => (width, right),
+        BinaryOp::Lt | BinaryOp::Le | BinaryOp::Gt | BinaryOp::Ge | BinaryOp::Eq | BinaryOp::Ne => (
+            left.max(right),
+            left.max(right),
+        ),
+        BinaryOp::LogicAnd | BinaryOp::LogicOr => (left, right),
+    }
+}
+
+/// The tree of the expression at `width` bits, which are no fewer than its own.
+#[cycle(trees)]
+pub fn tree(
+    alloc: Global,
+    drafts: &mut Drafts,
+    present: &Present,
+    e: &FExpr,
+    width: u8,
+) -> Result<CellId, NoMemory> {
+    // A gate of many inputs is a long chain to the left, which is too long for a recursion.
+    let mut rights = Vec::new(alloc);
+    let mut low = e;
+    loop {
+        match low {
+            FExpr::Binary { op, a, b, .. } if is_folded(*op) => {
+                push(&mut rights, (*op, tree(alloc, drafts, present, b, width)?))?;
+                low = a;
+            }
+            _ => break,
+        }
+    }
+    let lowest = match low {
+        FExpr::Number { value, width: own } => {
+            let number = drafts.constant(*own, *value)?;
+            drafts.fitted(number, width)
+        }
+        FExpr::Read {
+            sig,
+            at,
+            width: own,
+        } => {
+            let word = present.read(drafts, *sig, *at, *own)?;
+            drafts.fitted(word, width)
+        }
+        FExpr::At { sig, index, .. } => {
+            let whole = present.whole(drafts, *sig)?;
+            let by = tree(alloc, drafts, present, index, own_width(index))?;
+            let bit = chosen_bit(drafts, whole, by)?;
+            drafts.fitted(bit, width)
+        }
+        FExpr::Unary { op, a, .. } => {
+            let size = operand_width(*op, width, own_width(a));
+            let operand = tree(alloc, drafts, present, a, size)?;
+            unary(drafts, *op, operand, width)
+        }
+        FExpr::Binary { op, a, b, .. } => {
+            let (left, right) = operand_widths(*op, width, own_width(a), own_width(b));
+            let x = tree(alloc, drafts, present, a, left)?;
+            let y = tree(alloc, drafts, present, b, right)?;
+            binary(drafts, *op, x, y, width)
+        }
+        FExpr::Choose {
+            cond,
+            yes,
+            other,
+            ..
+        } => {
+            let word = tree(alloc, drafts, present, cond, own_width(cond))?;
+            let cond = drafts.truth(word)?;
+            let yes = tree(alloc, drafts, present, yes, width)?;
+            let other = tree(alloc, drafts, present, other, width)?;
+            drafts.add(Cell::Mux { cond, yes, other })
+        }
+        FExpr::Join { parts, .. } => {
+            let word = join(alloc, drafts, present, parts.as_slice())?;
+            drafts.fitted(word, width)
+        }
+        FExpr::Repeat { count, parts, .. } => {
+            let word = join(alloc, drafts, present, parts.as_slice())?;
+            let copies = repeated(drafts, word, *count)?;
+            drafts.fitted(copies, width)
+        }
+    };
+    folded(drafts, lowest?, rights.as_slice(), width)
+}
+
+/// The operators of gates, whose operands are both evaluated at the size of the whole.
+fn is_folded(op: BinaryOp) -> bool {
+    matches!(op, BinaryOp::And | BinaryOp::Or | BinaryOp::Xor)
+}
+
+/// The words joined to the first one by their operators, the last one of the list first.
+fn folded(
+    drafts: &mut Drafts,
+    first: CellId,
+    rights: &[(BinaryOp, CellId)],
+    width: u8,
+) -> Result<CellId, NoMemory> {
+    let mut word = first;
+    for (op, right) in rights.iter().rev() {
+        word = binary(drafts, *op, word, *right, width)?;
+    }
+    Ok(word)
+}
+
+/// The expressions side by side, each at its own size.
+#[cycle(trees)]
+fn join(
+    alloc: Global,
+    drafts: &mut Drafts,
+    present: &Present,
+    parts: &[FExpr],
+) -> Result<CellId, NoMemory> {
+    let mut words = Vec::new(alloc);
+    for part in parts {
+        let word = tree(alloc, drafts, present, part, own_width(part))?;
+        push(&mut words, word)?;
+    }
+    drafts.joined(words.as_slice())
+}
+
+/// The expression at its own size.
+pub fn own_tree(
+    alloc: Global,
+    drafts: &mut Drafts,
+    present: &Present,
+    e: &FExpr,
+) -> Result<CellId, NoMemory> {
+    tree(alloc, drafts, present, e, own_width(e))
+}
+
+/// Whether the expression isn't zero, as one bit.
+pub fn truth(
+    alloc: Global,
+    drafts: &mut Drafts,
+    present: &Present,
+    e: &FExpr,
+) -> Result<CellId, NoMemory> {
+    let word = own_tree(alloc, drafts, present, e)?;
+    drafts.truth(word)
+}
+
+/// The bit of the word at a variable index.
+fn chosen_bit(drafts: &mut Drafts, word: CellId, by: CellId) -> Result<CellId, NoMemory> {
+    let a = drafts.add(Cell::Shr { a: word, by })?;
+    drafts.add(Cell::Slice { a, at: 0, width: 1 })
+}
+
+fn repeated(drafts: &mut Drafts, word: CellId, count: u8) -> Result<CellId, NoMemory> {
+    let mut copies = word;
+    for _ in 1..count {
+        copies = drafts.add(Cell::Concat {
+            high: word,
+            low: copies,
+        })?;
+    }
+    Ok(copies)
+}
+
+fn unary(drafts: &mut Drafts, op: UnaryOp, a: CellId, width: u8) -> Result<CellId, NoMemory> {
+    let bit = match op {
+        UnaryOp::Not => return drafts.add(Cell::Not { a }),
+        UnaryOp::LogicNot => {
+            let truth = drafts.truth(a)?;
+            drafts.add(Cell::Not { a: truth })?
+        }
+        UnaryOp::And => reduced(drafts, ReduceKind::And, a)?,
+        UnaryOp::Or => reduced(drafts, ReduceKind::Or, a)?,
+        UnaryOp::Xor => reduced(drafts, ReduceKind::Xor, a)?,
+        UnaryOp::Nand => not_reduced(drafts, ReduceKind::And, a)?,
+        UnaryOp::Nor => not_reduced(drafts, ReduceKind::Or, a)?,
+        UnaryOp::Xnor => not_reduced(drafts, ReduceKind::Xor, a)?,
+    };
+    drafts.fitted(bit, width)
+}
+
+fn reduced(drafts: &mut Drafts, kind: ReduceKind, a: CellId) -> Result<CellId, NoMemory> {
+    drafts.add(Cell::Reduce { kind, a })
+}
+
+fn not_reduced(drafts: &mut Drafts, kind: ReduceKind, a: CellId) -> Result<CellId, NoMemory> {
+    let bit = reduced(drafts, kind, a)?;
+    drafts.add(Cell::Not { a: bit })
+}
+
+fn binary(
+    drafts: &mut Drafts,
+    op: BinaryOp,
+    a: CellId,
+    b: CellId,
+    width: u8,
+) -> Result<CellId, NoMemory> {
+    match op {
+        BinaryOp::Add => drafts.add(Cell::Add { a, b }),
+        BinaryOp::Sub => drafts.add(Cell::Sub { a, b }),
+        BinaryOp::And => drafts.add(Cell::And { a, b }),
+        BinaryOp::Or => drafts.add(Cell::Or { a, b }),
+        BinaryOp::Xor => drafts.add(Cell::Xor { a, b }),
+        BinaryOp::Xnor => negated(drafts, Cell::Xor { a, b }),
+        BinaryOp::Shl => drafts.add(Cell::Shl { a, by: b }),
+        BinaryOp::Shr => drafts.add(Cell::Shr { a, by: b }),
+        // A flat design has these in numbers alone.
+        BinaryOp::Mul | BinaryOp::Div | BinaryOp::Mod => drafts.constant(width, 0),
+        _ => {
+            let bit = compared(drafts, op, a, b)?;
+            drafts.fitted(bit, width)
+        }
+    }
+}
+
+/// The operators whose answer is one bit.
+fn compared(drafts: &mut Drafts, op: BinaryOp, a: CellId, b: CellId) -> Result<CellId, NoMemory> {
+    match op {
+        BinaryOp::Lt => drafts.add(Cell::Lt { a, b }),
+        BinaryOp::Gt => drafts.add(Cell::Lt { a: b, b: a }),
+        BinaryOp::Ge => negated(drafts, Cell::Lt { a, b }),
+        BinaryOp::Le => negated(drafts, Cell::Lt { a: b, b: a }),
+        BinaryOp::Ne => negated(drafts, Cell::Eq { a, b }),
+        BinaryOp::LogicAnd => {
+            let x = drafts.truth(a)?;
+            let y = drafts.truth(b)?;
+            drafts.add(Cell::And { a: x, b: y })
+        }
+        BinaryOp::LogicOr => {
+            let x = drafts.truth(a)?;
+            let y = drafts.truth(b)?;
+            drafts.add(Cell::Or { a: x, b: y })
+        }
+        _ => drafts.add(Cell::Eq { a, b }),
+    }
+}
+
+fn negated(drafts: &mut Drafts, cell: Cell) -> Result<CellId, NoMemory> {
+    let a = drafts.add(cell)?;
+    drafts.add(Cell::Not { a })
+}
