@@ -1,6 +1,6 @@
 //! Counters whose code a register may hold, found by what the register takes and not by going through all pairs.
 use crate::register::{Register, decoded};
-use crate::word::{choice_of, exclusive_origins, is_own};
+use crate::word::{choice_of, exclusive_of, is_own};
 use crate::worklist::Worklist;
 use cdc_base::NoMemory;
 use cell_graph::{Cell, CellId, Net, Node};
@@ -132,14 +132,9 @@ fn counters_by_word(
     code: CellId,
 ) -> Result<Vec<Register>, NoMemory> {
     let mut found = Vec::new(alloc);
-    if let Some(bits) = exclusive_origins(net, code, 0) {
-        for bit in bits {
-            for counted in counted_signals(net, bit) {
-                if let Some(sig) = counted {
-                    found.push(sig).map_err(|_| NoMemory)?;
-                }
-            }
-        }
+    if let Some(code) = exclusive_of(net, code, 0) {
+        add_counted(net, code.one, &mut found)?;
+        add_counted(net, code.another, &mut found)?;
     }
     found.sort_unstable();
     found.dedup();
@@ -159,39 +154,65 @@ fn register_at(registers: &[Register], sig: u32) -> Option<Register> {
     }
 }
 
-/// The signals that a count word with this bit may count: down the first branches to the signal itself, or to a sum of
-/// it.
-fn counted_signals(net: &Net, bit: Option<Node>) -> [Option<u32>; 2] {
-    let Some(start) = bit else {
-        return [None, None];
+/// Adds the signals that a count word with this bit may count: down the first branches to the signal itself, or to a
+/// sum of it.
+fn add_counted(net: &Net, bit: Option<Node>, found: &mut Vec<u32>) -> Result<(), NoMemory> {
+    let Some(node) = first_leaf(net, bit) else {
+        return Ok(());
     };
-    let mut node = start;
-    for _ in 0..=start.cell.0 {
-        match net.graph.cell(node.cell) {
-            Cell::Var { sig } => return [Some(sig), None],
-            Cell::Add { a, b } => {
-                return [signal_at(net, a, node.at), signal_at(net, b, node.at)];
-            }
-            Cell::Mux { yes, .. } => {
-                let passed = Node {
-                    cell: yes,
-                    at: node.at,
-                };
-                match origin(net, passed) {
-                    Some(bit) => node = bit,
-                    None => return [None, None],
-                }
-            }
-            _ => return [None, None],
+    match net.graph.cell(node.cell) {
+        Cell::Add { a, b } => {
+            add_signal(
+                net,
+                origin(
+                    net,
+                    Node {
+                        cell: a,
+                        at: node.at,
+                    },
+                ),
+                found,
+            )?;
+            add_signal(
+                net,
+                origin(
+                    net,
+                    Node {
+                        cell: b,
+                        at: node.at,
+                    },
+                ),
+                found,
+            )
         }
+        _ => add_signal(net, Some(node), found),
     }
-    [None, None]
 }
 
-/// The signal of which a cell passes on a bit.
-fn signal_at(net: &Net, cell: CellId, at: u8) -> Option<u32> {
-    match net.graph.cell(origin(net, Node { cell, at })?.cell) {
-        Cell::Var { sig } => Some(sig),
-        _ => None,
+/// Adds the signal of which this is a bit.
+fn add_signal(net: &Net, bit: Option<Node>, found: &mut Vec<u32>) -> Result<(), NoMemory> {
+    if let Some(node) = bit {
+        if let Cell::Var { sig } = net.graph.cell(node.cell) {
+            found.push(sig).map_err(|_| NoMemory)?;
+        }
     }
+    Ok(())
+}
+
+/// The bit that is passed when each multiplexer on the way takes its first branch.
+fn first_leaf(net: &Net, bit: Option<Node>) -> Option<Node> {
+    let mut node = bit?;
+    for _ in 0..node.cell.0 {
+        let Cell::Mux { yes, .. } = net.graph.cell(node.cell) else {
+            break;
+        };
+        node = origin(
+            net,
+            Node {
+                cell: yes,
+                at: node.at,
+            },
+        )?;
+    }
+    Some(node)
 }

@@ -97,32 +97,38 @@ fn are_joint(
         if is_gray_code(net, table, both.gray, Coded::Cell(both.count), count.width) {
             counts.add(both.count)?;
         } else if !(is_own(net, both.count, count) && is_own(net, both.gray, gray)) {
-            let Some([yes, other]) = branches(net, both, count.width) else {
+            let Some(branches) = branches_of(net, both, count.width) else {
                 return Ok(false);
             };
-            pairs.add(yes)?;
-            pairs.add(other)?;
+            pairs.add(branches.yes)?;
+            pairs.add(branches.other)?;
         }
     }
     are_counts(net, table, &mut counts, count)
 }
 
+/// The pairs of branches of two choices.
+#[derive(Clone, Copy, Debug, Drop)]
+struct Branches {
+    yes: Both,
+    other: Both,
+}
+
 /// The pairs of branches where both words are choices by one condition.
-fn branches(net: &Net, both: Both, width: u8) -> Option<[Both; 2]> {
+fn branches_of(net: &Net, both: Both, width: u8) -> Option<Branches> {
     let count = choice_of(net, both.count, width)?;
     let gray = choice_of(net, both.gray, width)?;
-    if count.cond == gray.cond {
-        Some([
-            Both {
-                count: count.yes,
-                gray: gray.yes,
-            },
-            Both {
-                count: count.other,
-                gray: gray.other,
-            },
-        ])
-    } else {
-        None
+    if count.cond != gray.cond {
+        return None;
     }
+    Some(Branches {
+        yes: Both {
+            count: count.yes,
+            gray: gray.yes,
+        },
+        other: Both {
+            count: count.other,
+            gray: gray.other,
+        },
+    })
 }

@@ -125,14 +125,24 @@ fn sides_of(net: &Net, node: Node) -> Option<Sides> {
     }
 }
 
-/// The origins of the operands' bits where bit `at` of the cell is that of an exclusive or.
-pub fn exclusive_origins(net: &Net, cell: CellId, at: u8) -> Option<[Option<Node>; 2]> {
+/// The origins of the operands' bits where a bit is that of an exclusive or; None is the zero bit.
+#[derive(Clone, Copy, Debug, Drop)]
+pub struct Exclusive {
+    pub one: Option<Node>,
+    pub another: Option<Node>,
+}
+
+/// The operands of the exclusive or that bit `at` of the cell comes from.
+pub fn exclusive_of(net: &Net, cell: CellId, at: u8) -> Option<Exclusive> {
     let sides = sides_of(net, Node { cell, at })?;
-    Some([origin(net, sides.one), origin(net, sides.another)])
+    Some(Exclusive {
+        one: origin(net, sides.one),
+        another: origin(net, sides.another),
+    })
 }
 
 fn is_code_bit(net: &Net, cell: CellId, word: Coded, at: u8) -> bool {
-    let Some([one, another]) = exclusive_origins(net, cell, at) else {
+    let Some(Exclusive { one, another }) = exclusive_of(net, cell, at) else {
         return false;
     };
     let above = at.saturating_add(1);
