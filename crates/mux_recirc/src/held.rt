@@ -109,25 +109,19 @@ fn request_of(rings: &[Ring], ring: usize) -> Option<Bit> {
 /// The tables in which the two ends of a ring differ.
 #[derive(Drop)]
 struct Busy {
-    ring: usize,
     rising: Table,
     falling: Table,
 }
 
 impl Busy {
-    fn open(
-        alloc: Global,
-        net: &Net,
-        rings: &[Ring],
-        ring: usize,
-    ) -> Result<Option<Busy>, NoMemory> {
-        let Some((request, last)) = ends_of(rings, ring) else {
+    fn open(alloc: Global, net: &Net, ring: &Ring) -> Result<Option<Busy>, NoMemory> {
+        let bits = ring.bits.as_slice();
+        let (Some(request), Some(last)) = (bits.first(), bits.last()) else {
             return Ok(None);
         };
         Ok(Some(Busy {
-            ring,
-            rising: differing(alloc, net, request, last, true)?,
-            falling: differing(alloc, net, request, last, false)?,
+            rising: differing(alloc, net, *request, *last, true)?,
+            falling: differing(alloc, net, *request, *last, false)?,
         }))
     }
 
@@ -136,13 +130,6 @@ impl Busy {
         copied_bit(net, &self.rising, bit) == Some(bit)
             && copied_bit(net, &self.falling, bit) == Some(bit)
     }
-}
-
-fn ends_of(rings: &[Ring], ring: usize) -> Option<(Bit, Bit)> {
-    let bits = rings.get(ring)?.bits.as_slice();
-    let request = bits.first().copied()?;
-    let last = bits.last().copied()?;
-    Some((request, last))
 }
 
 fn differing(
@@ -171,24 +158,43 @@ fn answered(
     questions: &[Question],
 ) -> Result<Vec<Part>, NoMemory> {
     let mut pairs = Vec::new(alloc);
-    let mut open: Option<Busy> = None;
-    for question in questions {
-        let busy = match open {
-            Some(busy) if busy.ring == question.ring => Some(busy),
-            _ => Busy::open(alloc, net, rings, question.ring)?,
+    let mut rest = questions;
+    for _ in 0..questions.len() {
+        let Some(first) = rest.first() else {
+            break;
         };
-        if let Some(busy) = &busy {
-            if busy.keeps(net, question.bit) {
-                pairs
-                    .push(Part {
-                        bit: question.bit,
-                        ring: question.ring,
-                    })
-                    .map_err(|_| NoMemory)?;
-            }
+        let ring = first.ring;
+        let count = rest.partition_point(|question| question.ring <= ring);
+        if let Some(bits) = rings.get(ring) {
+            let here = rest.get(..count).unwrap_or(&[]);
+            answer(alloc, net, bits, here, &mut pairs)?;
         }
-        open = busy;
+        rest = rest.get(count..).unwrap_or(&[]);
     }
     pairs.sort_unstable();
     Ok(pairs)
+}
+
+/// Adds those of the questions on one ring that are answered with yes.
+fn answer(
+    alloc: Global,
+    net: &Net,
+    ring: &Ring,
+    questions: &[Question],
+    pairs: &mut Vec<Part>,
+) -> Result<(), NoMemory> {
+    let Some(busy) = Busy::open(alloc, net, ring)? else {
+        return Ok(());
+    };
+    for question in questions {
+        if busy.keeps(net, question.bit) {
+            pairs
+                .push(Part {
+                    bit: question.bit,
+                    ring: question.ring,
+                })
+                .map_err(|_| NoMemory)?;
+        }
+    }
+    Ok(())
 }
