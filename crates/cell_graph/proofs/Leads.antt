@@ -16,7 +16,7 @@ use Rattle.cell_graph.specs.Cofactor.{on_number}
 use Rattle.cell_graph.specs.Origin.{TreeBit, const_of, origin}
 use Rattle.cell_graph.specs.Cells.{Cells, cell_width, cell_at}
 use Rattle.cell_graph.specs.Feeds.{node, bit_or_zero, moved_up, moved_down, constant, by_constant, passed_by}
-use Rattle.cell_graph.specs.Unfolded.{tree_at, unfolded, reduced, trees, tree_of, IsCellOf, IsWellFormed}
+use Rattle.cell_graph.specs.Unfolded.{tree_at, unfolded, reduced, trees, tree_of, IsCellOf, IsWellFormed, IsNodeOf, bit_of}
 use Rattle.cell_graph.proofs.Trees.{width-tree_of, tree_of-cell}
 
 -- where what is passed leads to: an origin o, of a bit that is its own origin `own` where nothing is passed
@@ -112,3 +112,22 @@ module _ (g : Cells) (well : IsWellFormed g) where
       let e = tree_of-cell g well id c at in
       subst (λ t. Leads g id.0 (Some (t, i)) (origin t i) (passed_by g c i)) (sym e)
       (leads-own id.0 i c at (well.cells id.0 c at) (let w = ap width e in let v = width-tree_of g id in omega arith))
+
+-- the three answers of `passed`, for a bit of a cell of the graph
+module _ (g : Cells) (well : IsWellFormed g) (n : Node) (is : IsNodeOf g n) where
+  cell-there : slice_get g.cells n.cell.0 ≡ Some (cell_at g n.cell)
+  cell-there = slice_get-get_or g.cells n.cell.0 (Const 1 0) is.0 ∙ ap Some (sym (unwrap_or-slice_get g.cells n.cell.0 (Const 1 0)))
+
+  there : Leads g n.cell.0 (Some (bit_of g n)) (origin (tree_of g n.cell) n.at) (passed_by g (cell_at g n.cell) n.at)
+  there = leads g well n.cell n.at (cell_at g n.cell) cell-there is.1
+
+  pub goes_on : (m : Node) → Bit m ≡ passed_by g (cell_at g n.cell) n.at → (origin (tree_of g n.cell) n.at ≡ origin (tree_of g m.cell) m.at) × (m.cell.0 < n.cell.0) × IsNodeOf g m
+  goes_on m e =
+      let l : Leads g n.cell.0 (Some (bit_of g n)) (origin (tree_of g n.cell) n.at) (Bit m) = subst (Leads g n.cell.0 (Some (bit_of g n)) (origin (tree_of g n.cell) n.at)) (sym e) there in
+      (l.0, l.1, (let lt = l.1 in let h = is.0 in omega arith, l.2))
+
+  pub is_zero : Zero ≡ passed_by g (cell_at g n.cell) n.at → origin (tree_of g n.cell) n.at ≡ None
+  is_zero e = subst (Leads g n.cell.0 (Some (bit_of g n)) (origin (tree_of g n.cell) n.at)) (sym e) there
+
+  pub is_own : Other ≡ passed_by g (cell_at g n.cell) n.at → origin (tree_of g n.cell) n.at ≡ Some (bit_of g n)
+  is_own e = subst (Leads g n.cell.0 (Some (bit_of g n)) (origin (tree_of g n.cell) n.at)) (sym e) there

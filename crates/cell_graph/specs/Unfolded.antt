@@ -4,6 +4,7 @@ use Rattle.cdc_base.specs.declared.signal.Signal.{Signal}
 use Rattle.cell_graph.specs.declared.cell.Cell.{Cell}
 use Rattle.cell_graph.specs.declared.cell.Cell.TheVariants.{Var, Const, Not, And, Or, Xor, Add, Sub, Eq, Lt, Shl, Shr, Mux, Concat, Slice, Extend, Reduce}
 use Rattle.cell_graph.specs.declared.cell.CellId.{CellId}
+use Rattle.cell_graph.specs.declared.cell.Node.{Node}
 use Rattle.cell_graph.specs.declared.cell.ReduceKind.{ReduceKind}
 use Rattle.cell_graph.specs.declared.cell.ReduceKind.TheVariants as kind
 use Rattle.cell_graph.specs.Tree as tree
@@ -74,3 +75,11 @@ IsCellOf g n (Reduce k a) = a.0 < n
 pub record IsWellFormed (g : Cells) : Type 0 where
   pub signals : (sig : ℕ) (s : Signal) → slice_get g.signals sig ≡ Some s → (1 ≤ s.width) × (s.width ≤ 64)
   pub cells : (n : ℕ) (c : Cell) → slice_get g.cells n ≡ Some c → IsCellOf g n c
+
+-- a bit of a cell of the graph
+abbrev pub IsNodeOf : Cells → Node → Type 0
+IsNodeOf g n = (n.cell.0 < length g.cells) × (n.at < cell_width g n.cell)
+
+-- a bit of a cell as a bit of its tree
+abbrev pub bit_of : Cells → Node → Tree × ℕ
+bit_of g n = (tree_of g n.cell, n.at)

@@ -1,4 +1,8 @@
 //! The cofactors of one node.
+ghost use Rattle.std.specs.Prelude.{◌≡◌, option_map};
+ghost use Rattle.cell_graph.specs.Origin.{origin as tree_origin};
+ghost use Rattle.cell_graph.specs.Unfolded.{IsWellFormed, IsNodeOf, bit_of, tree_of};
+
 use crate::cube::Cube;
 use crate::table::Table;
 use cdc_base::{Bit, List, NoMemory};
@@ -31,16 +35,23 @@ fn table_for(alloc: Global, net: &Net, cell: CellId, cube: &Cube) -> Result<Tabl
 
 /// The bit that the node only passes on, through concatenations, slices, extensions and shifts by constants; None
 /// where that is the zero bit.
-pub fn origin(net: &Net, node: Node) -> Option<Node> {
-    let mut node = node;
-    for _ in 0..=node.cell.0 {
-        match net.graph.passed(node) {
-            Passed::Bit(from) => node = from,
+pub fn origin(net: &Net, node: Node) -> Option<Node>
+    ensures { IsWellFormed net.now.graph → IsNodeOf net.now.graph node →
+        tree_origin (tree_of net.now.graph node.cell) node.at ≡ option_map (bit_of net.now.graph) result }
+{
+    let mut reached = node;
+    'down: loop {
+        match net.graph.passed(reached) {
+            Passed::Bit(from) => {
+                if from.cell.0 >= reached.cell.0 {
+                    return Some(reached);
+                }
+                reached = from;
+            }
             Passed::Zero => return None,
-            Passed::Other => return Some(node),
+            Passed::Other => return Some(reached),
         }
     }
-    Some(node)
 }
 
 /// The cofactors of a net without a cube.
