@@ -1,1 +1,4 @@
 pub mod Added
+pub mod ReadInTurn
+pub mod Answered
+pub mod Finished

@@ -7,8 +7,8 @@ use Rattle.audit_top.specs.declared.answer.Answer.{Answer}
 use Rattle.audit_top.specs.declared.answer.Ending.{Ending}
 use Rattle.audit_top.specs.declared.answer.Ending.TheVariants.{Refused, Memory}
 use Rattle.audit_top.specs.declared.status.Status.{Status}
-use Rattle.audit_top.specs.declared.status.Status.TheVariants.{Done, Violations, Netlist, Constraints, ReadFault, Waived}
-use Rattle.audit_top.specs.Runs.{Seen, Text, AskedFor, AskedInOrder, IsLong, IsRefusedBy, fault_at, max_bytes}
+use Rattle.audit_top.specs.declared.status.Status.TheVariants.{Done, Violations, Usage, Netlist, Constraints, ReadFault, Waived}
+use Rattle.audit_top.specs.Runs.{Seen, Text, AskedFor, AskedInOrder, IsLong, IsRefusedBy, fault_at, max_bytes, usage_line}
 
 -- want of memory, or this refusal
 abbrev pub IsRefusal : Status → Fault → Ending → Type 0
@@ -76,3 +76,7 @@ pub record IsReadOfBoth {T : Type 0} (net con : Text) (before now : Seen) (resul
 pub record IsEndOfAudit (net con : Text) (before now : Seen) (result : Result Answer Ending) : Type 0 where
   pub reads : IsReadOfBoth net con before now result
   pub audited : IfOk result (λ answer. IsAudited answer.status)
+
+-- the answer to words that are refused
+abbrev pub IsUsage : Answer → Type 0
+IsUsage answer = (answer.status ≡ Usage) × (answer.text ≡ usage_line)

@@ -1,13 +1,15 @@
 //! The audit of a netlist under its constraints.
-ghost use Rattle.std.specs.Prelude.{◌≡◌, ◌≤◌, length, MatchResult, IfErr, OnErr, ◌⊎◌, Err};
+ghost use Rattle.std.specs.Prelude.{◌≡◌, ◌≤◌, length, is_some, MatchResult, IfErr};
+ghost use Rattle.std.specs.List.{list_all};
 ghost use Rattle.audit_top.specs.Runs.{Seen, max_bytes};
 ghost use Rattle.audit_top.specs.Statuses.{audited_status};
-ghost use Rattle.audit_top.specs.Endings.{IsAudited, IsOfFiles, IsEndOfAudit};
+ghost use Rattle.audit_top.specs.Endings.{HasStatus, IsAudited, IsOfFiles, IsEndOfAudit};
 
 use crate::answer::{Answer, Ending, or_refused};
 use crate::input::read_both;
 use crate::status::Status;
-use cdc_base::{Files, List};
+use cdc_base::{Files, List, NoMemory};
+use cdc_model::Verdict;
 use cell_graph::Net;
 use clock_constraints::{Constraints, Waiver};
 use cofactor::Plain;
@@ -15,16 +17,8 @@ use domains::Domains;
 use std::alloc::Global;
 use verilog_ast::Source;
 
-/// A design under its constraints: its cells, the clocks of its bits, and the waivers of its findings.
-#[derive(Drop)]
-struct Design {
-    net: Net,
-    domains: Domains,
-    waivers: List<Waiver>,
-}
-
 /// The source that a netlist reads as.
-fn read_source(alloc: Global, text: &[u8]) -> Result<Source, Ending>
+pub(crate) fn read_source(alloc: Global, text: &[u8]) -> Result<Source, Ending>
     requires { length text.now ≤ max_bytes }
     ensures { IfErr result IsOfFiles }
 {
@@ -35,77 +29,95 @@ fn read_source(alloc: Global, text: &[u8]) -> Result<Source, Ending>
     )
 }
 
-/// The cells of a source under its constraints.
+/// The cells of a source, unfolded from the top that the constraints name.
 fn elaborated(alloc: Global, source: &Source, constraints: &Constraints) -> Result<Net, Ending>
-    ensures { IfErr result IsOfFiles }
+    ensures { IfErr result (HasStatus Status.Netlist) }
 {
     let resets = constraints.resets.as_slice();
-    let flat = or_refused(
-        Status::Netlist,
-        flat_design::flatten(alloc, source, &constraints.top, resets),
-    )?;
+    let flat = flat_design::flatten(alloc, source, &constraints.top, resets);
+    let flat = or_refused(Status::Netlist, flat)?;
     or_refused(Status::Netlist, elaborate::elaborate(alloc, &flat))
 }
 
-/// The design of a netlist and a constraint file. The first refusal counts: of the netlist's text, of the constraint
-/// file, of the unfolding, of the cells, of the clocks.
-fn read_design(alloc: Global, net: &[u8], con: &[u8]) -> Result<Design, Ending>
-    requires { length net.now ≤ max_bytes }
+/// The cells of a source, and the clocks of their bits by the constraints.
+pub(crate) fn constrained(
+    alloc: Global,
+    source: &Source,
+    constraints: &Constraints,
+) -> Result<(Net, Domains), Ending>
     ensures { IfErr result IsOfFiles }
 {
-    let source = read_source(alloc, net)?;
-    let constraints = or_refused(Status::Constraints, clock_constraints::read(alloc, con))?;
-    let net = elaborated(alloc, &source, &constraints)?;
-    let domains = or_refused(
-        Status::Constraints,
-        domains::assign(alloc, &net, &constraints, &Plain),
-    )?;
-    Ok(Design {
-        net,
-        domains,
-        waivers: constraints.waivers,
-    })
+    let net = elaborated(alloc, source, constraints)?;
+    let domains = domains::assign(alloc, &net, constraints, &Plain);
+    let domains = or_refused(Status::Constraints, domains)?;
+    Ok((net, domains))
+}
+
+/// Whether a waiver sets each finding aside.
+fn all_aside(aside: &[Option<u32>]) -> bool
+    ensures { result ≡ list_all is_some aside.now }
+{
+    for waiver in aside {
+        if waiver.is_none() {
+            return false;
+        }
+    }
+    true
 }
 
 /// The status of an audit with so many findings, of which these are set aside by waivers.
 fn audited(findings: usize, aside: &[Option<u32>]) -> Status
-    ensures { result ≡ audited_status findings aside.now }
+    ensures exact { result ≡ audited_status findings aside.now }
+    ensures ended { IsAudited result }
 {
     if findings == 0 {
         Status::Done
-    } else if aside.iter().all(|waiver| waiver.is_some()) {
+    } else if all_aside(aside) {
         Status::Waived
     } else {
         Status::Violations
     }
 }
 
-/// What the audit of these texts answers.
+/// The verdict in the form that was asked for.
+fn verdict_text(
+    alloc: Global,
+    json: bool,
+    net: &Net,
+    domains: &Domains,
+    verdict: &Verdict,
+    waivers: &[Waiver],
+    aside: &[Option<u32>],
+) -> Result<List<u8>, NoMemory> {
+    if json {
+        report::verdict_json(alloc, net, domains, verdict, waivers, aside, &[])
+    } else {
+        report::verdict_text(alloc, net, domains, verdict, waivers, aside)
+    }
+}
+
+/// What the audit of these texts answers. The first refusal counts: of the netlist's text, of the constraint file, of
+/// the unfolding, of the cells, of the clocks, of the crossings, of the waivers.
 fn audit_texts(alloc: Global, json: bool, net: &[u8], con: &[u8]) -> Result<Answer, Ending>
     requires { length net.now ≤ max_bytes }
     ensures { MatchResult result (λ answer. IsAudited answer.status) IsOfFiles }
 {
-    let design = read_design(alloc, net, con)?;
-    let (net, domains) = (&design.net, &design.domains);
-    let waivers = design.waivers.as_slice();
-    let verdict = or_refused(Status::Netlist, obligations::audit(alloc, net, domains))?;
-    let aside = or_refused(
-        Status::Constraints,
-        report::set_aside(alloc, net, domains, &verdict, waivers),
+    let source = read_source(alloc, net)?;
+    let constraints = or_refused(Status::Constraints, clock_constraints::read(alloc, con))?;
+    let (net, domains) = constrained(alloc, &source, &constraints)?;
+    let waivers = constraints.waivers.as_slice();
+    let verdict = or_refused(Status::Netlist, obligations::audit(alloc, &net, &domains))?;
+    let aside = report::set_aside(alloc, &net, &domains, &verdict, waivers);
+    let aside = or_refused(Status::Constraints, aside)?;
+    let text = verdict_text(
+        alloc,
+        json,
+        &net,
+        &domains,
+        &verdict,
+        waivers,
+        aside.as_slice(),
     )?;
-    let text = if json {
-        report::verdict_json(
-            alloc,
-            net,
-            domains,
-            &verdict,
-            waivers,
-            aside.as_slice(),
-            &[],
-        )?
-    } else {
-        report::verdict_text(alloc, net, domains, &verdict, waivers, aside.as_slice())?
-    };
     Ok(Answer {
         status: audited(verdict.findings.len(), aside.as_slice()),
         text,

@@ -57,7 +57,12 @@ pub fn read_both<F: Files>(
         IsReadOfBoth net.now con.now before now result }
     ensures within { IfOk result (λ texts. (length texts.0 ≤ max_bytes) × (length texts.1 ≤ max_bytes)) }
 {
-    let net = read_text(alloc, files, net, Status::Netlist)?;
-    let con = read_text(alloc, files, con, Status::Constraints)?;
-    Ok((net, con))
+    let net = match read_text(alloc, files, net, Status::Netlist) {
+        Ok(net) => net,
+        Err(ending) => return Err(ending),
+    };
+    match read_text(alloc, files, con, Status::Constraints) {
+        Ok(con) => Ok((net, con)),
+        Err(ending) => Err(ending),
+    }
 }

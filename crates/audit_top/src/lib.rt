@@ -3,8 +3,13 @@
 
 pub mod answer;
 pub mod audit;
+pub mod generated;
 pub mod input;
 pub mod output;
+pub mod selftest;
 pub mod status;
+pub mod top;
 
+pub use generated::selftest_source;
 pub use status::Status;
+pub use top::run;

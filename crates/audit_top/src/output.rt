@@ -25,8 +25,10 @@ pub fn write_lines<S: Sink>(out: &mut S, text: &[u8]) -> Result<(), SinkFault>
     let mut left = text;
     while !left.is_empty() {
         let (line, rest) = left.split_at(line_length(left));
-        out.put(line)?;
-        left = rest;
+        match out.put(line) {
+            Ok(()) => left = rest,
+            Err(fault) => return Err(fault),
+        }
     }
     Ok(())
 }
