@@ -13,3 +13,6 @@ pub mod top;
 pub use generated::selftest_source;
 pub use status::Status;
 pub use top::run;
+
+#[cfg(test)]
+mod tests;
