@@ -1,17 +1,42 @@
 //! The grammar of a netlist: from tokens to a source, and back to text.
 #![tactic(auto)]
 
+pub mod copy;
+pub mod decl;
+pub mod expr;
+pub mod halt;
+pub mod header;
+pub mod instance;
+pub mod make;
+pub mod module;
+pub mod operators;
+pub mod stmt;
+pub mod target;
+pub mod text;
+pub mod tokens;
+
 use cdc_base::{List, NoMemory, Stop};
 use std::alloc::Global;
 use verilog_ast::Source;
 use verilog_lex::Token;
 
-/// The source that the tokens read as.
-pub fn parse(_alloc: Global, _tokens: &[Token]) -> Result<Source, Stop> {
-    Err(Stop::Memory)
+/// The one source that the tokens read as. They end with their one `End`.
+///
+/// The refusal stands at the first token up to which, itself included, no source of at most 256 levels begins. It is
+/// E202 where a deeper source does begin so, and E201 where none does.
+pub fn parse(alloc: Global, tokens: &[Token]) -> Result<Source, Stop> {
+    match module::read_source(alloc, tokens) {
+        Ok(source) => Ok(source),
+        Err(halt) => Err(halt::stop_at(alloc, tokens, halt)),
+    }
 }
 
 /// One canonical text of the source.
-pub fn print(_alloc: Global, _source: &Source) -> Result<List<u8>, NoMemory> {
-    Err(NoMemory)
+pub fn print(alloc: Global, source: &Source) -> Result<List<u8>, NoMemory> {
+    let mut out = Vec::new(alloc);
+    text::module::put_source(alloc, &mut out, source)?;
+    Ok(List::from_vec(out))
 }
+
+#[cfg(test)]
+mod tests;
