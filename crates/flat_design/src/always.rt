@@ -38,15 +38,19 @@ fn add_wires_process(
     let mut faults = Faults::new(alloc, Order::Other);
     let body = {
         let look = design.look(alloc, names);
-        let body = statement(&look, body, Mode::Wires, &mut faults)?;
-        if let Some(sig) = first_latch(alloc, design.signals.as_slice(), &body)? {
-            faults.note(311, look.own_name(sig))?;
-        }
-        body
+        wires_process(&look, body, &mut faults)?
     };
     faults.raise(place)?;
     push(&mut design.combs, FlatComb { body })?;
     Ok(())
+}
+
+fn wires_process(look: &Look, body: &Stmt, faults: &mut Faults) -> Result<FStmt, NoMemory> {
+    let body = statement(look, body, Mode::Wires, faults)?;
+    if let Some(sig) = first_latch(look.alloc, look.signals, &body)? {
+        faults.note(311, look.own_name(sig))?;
+    }
+    Ok(body)
 }
 
 /// A clocked process with what its reset gives.

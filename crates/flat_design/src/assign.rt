@@ -68,11 +68,7 @@ fn assigned(
 }
 
 /// What drives wires doesn't drive a bit that a variable index chooses.
-fn note_variable_index(
-    look: &Look,
-    fixed: &Fixed,
-    faults: &mut Faults,
-) -> Result<(), NoMemory> {
+fn note_variable_index(look: &Look, fixed: &Fixed, faults: &mut Faults) -> Result<(), NoMemory> {
     match first_index(&fixed.target) {
         Some(sig) => faults.note(313, look.own_name(sig)),
         None => Ok(()),

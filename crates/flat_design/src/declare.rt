@@ -75,12 +75,7 @@ fn header_names(alloc: Global, module: &Module) -> Result<IndexSet<Name>, Stop> 
 }
 
 /// Each name of the header needs a direction.
-fn try_header(
-    alloc: Global,
-    module: &Module,
-    names: &Names,
-    design: &Design,
-) -> Result<(), Stop> {
+fn try_header(alloc: Global, module: &Module, names: &Names, design: &Design) -> Result<(), Stop> {
     let look = design.look(alloc, names);
     for port in module.ports.as_slice() {
         if !has_direction(&look, &port.name) {
@@ -180,8 +175,8 @@ fn breaks_form(declaring: &Declaring, decl: &Decl, in_header: bool) -> bool {
     let is_stray = role_of(decl.kind) != Role::Inner
         && !in_header
         && !declaring.header.contains(&decl.name);
-    let takes_no_value =
-        matches!(decl.kind, DeclKind::Input | DeclKind::Output) || decl.array.is_some();
+    let takes_no_value = matches!(decl.kind, DeclKind::Input | DeclKind::Output)
+        || decl.array.is_some();
     is_stray || (decl.init.is_some() && takes_no_value)
 }
 

@@ -71,6 +71,7 @@ impl Design {
         Look {
             alloc,
             names,
+            signals: self.signals.as_slice(),
             entries: self.entries.as_slice(),
             active: false,
         }

@@ -1,12 +1,10 @@
 //! Drivers: each bit has one at most, and each bit that is read has one.
+use crate::bits::{bits, lowest};
 use crate::design::Design;
 use crate::fault::refused;
 use crate::flat::{FTarget, FlatAssign, FlatClocked, FlatComb};
-use crate::bits::{bits, lowest};
 use crate::masks::Masks;
-use crate::uses::{
-    add_may_assign, add_reads, add_statement_reads, add_target_reads, all_bits,
-};
+use crate::uses::{add_may_assign, add_reads, add_statement_reads, add_target_reads, all_bits};
 use cdc_base::signal::bit_name;
 use cdc_base::{NoMemory, SigKind, Signal, Stop};
 use std::alloc::Global;
@@ -91,11 +89,7 @@ fn drivers_of(alloc: Global, design: &Design) -> Result<Drivers, NoMemory> {
 
 /// Each part of a target is driven by itself: a bit that stands in two of them has two drivers.
 #[cycle(add_target)]
-fn add_target(
-    signals: &[Signal],
-    target: &FTarget,
-    drivers: &mut Drivers,
-) -> Result<(), NoMemory> {
+fn add_target(signals: &[Signal], target: &FTarget, drivers: &mut Drivers) -> Result<(), NoMemory> {
     match target {
         FTarget::Whole { sig } | FTarget::At { sig, .. } => {
             drivers.add(*sig, all_bits(signals, *sig))

@@ -105,9 +105,7 @@ pub fn note_unknown(look: &Look, name: &Name, faults: &mut Faults) -> Result<(),
 fn named(look: &Look, name: &Name, faults: &mut Faults) -> Result<Resolved, NoMemory> {
     match look.meaning(name) {
         Some(Meaning::Param(param)) => Ok(parameter(param)),
-        Some(Meaning::Signal(sig)) => {
-            Ok(Resolved::variable(look.read(sig, 0, look.width(sig))))
-        }
+        Some(Meaning::Signal(sig)) => { Ok(Resolved::variable(look.read(sig, 0, look.width(sig)))) }
         Some(Meaning::Memory(_)) => {
             faults.note(319, name.as_str())?;
             Ok(Resolved::broken(nothing(), false))

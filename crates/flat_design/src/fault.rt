@@ -110,12 +110,7 @@ impl Faults {
 }
 
 /// A refusal.
-pub fn refused<T>(
-    alloc: Global,
-    number: u16,
-    place: Option<Place>,
-    name: &str,
-) -> Result<T, Stop> {
+pub fn refused<T>(alloc: Global, number: u16, place: Option<Place>, name: &str) -> Result<T, Stop> {
     let name = Name::from_text(alloc, name)?;
     Err(Stop::Refused(Fault {
         number,

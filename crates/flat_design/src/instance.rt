@@ -25,10 +25,7 @@ pub struct Connection {
 /// An expression that drives an input, with the reset that it resolves to; or the target that an output drives.
 #[derive(Drop)]
 enum End {
-    Input {
-        value: FExpr,
-        reset: Option<Reset>,
-    },
+    Input { value: FExpr, reset: Option<Reset> },
     Output(FTarget),
 }
 

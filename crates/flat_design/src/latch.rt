@@ -1,9 +1,7 @@
 //! Latches: bits that a process of wires doesn't assign on each of its paths, or reads before it assigns them.
 use crate::flat::{FCaseItem, FStmt, FTarget};
 use crate::masks::Masks;
-use crate::uses::{
-    add_assigned, add_may_assign, add_reads, add_reads_of, add_target_reads,
-};
+use crate::uses::{add_assigned, add_may_assign, add_reads, add_reads_of, add_target_reads};
 use cdc_base::{NoMemory, Signal};
 use std::alloc::Global;
 
@@ -89,11 +87,12 @@ fn statement_paths(alloc: Global, signals: &[Signal], stmt: &FStmt) -> Result<Pa
             items,
             default,
         } => {
+            let branches = item_paths(alloc, signals, items.as_slice())?;
             let default = match default {
                 Some(default) => Some(statement_paths(alloc, signals, default)?),
                 None => None,
             };
-            let mut all = item_paths(alloc, signals, items.as_slice(), default)?;
+            let mut all = case_paths(alloc, branches, default)?;
             add_reads(signals, subject, &mut all.exposed)?;
             Ok(all)
         }
@@ -111,24 +110,32 @@ fn block_paths(alloc: Global, signals: &[Signal], stmts: &[FStmt]) -> Result<Pat
     Ok(all)
 }
 
-/// The paths through the items of a `case`, and through its `default`. Without one the items take every value.
+/// The paths through the items of a `case`, which read all labels.
 #[cycle(statement_paths)]
 fn item_paths(
     alloc: Global,
     signals: &[Signal],
     items: &[FCaseItem],
-    default: Option<Paths>,
-) -> Result<Paths, NoMemory> {
-    let mut all = default;
-    let mut labels = Masks::new(alloc);
+) -> Result<Option<Paths>, NoMemory> {
+    let mut all = None;
     for item in items {
-        add_reads_of(signals, item.labels.as_slice(), &mut labels)?;
-        let next = statement_paths(alloc, signals, &item.body)?;
+        let mut next = statement_paths(alloc, signals, &item.body)?;
+        add_reads_of(signals, item.labels.as_slice(), &mut next.exposed)?;
         all = Some(either(alloc, all, next)?);
     }
-    let mut all = all.unwrap_or(Paths::new(alloc));
-    all.exposed.add_all(&labels)?;
     Ok(all)
+}
+
+/// The paths through a `case`. Without a `default` its items take every value.
+fn case_paths(
+    alloc: Global,
+    branches: Option<Paths>,
+    default: Option<Paths>,
+) -> Result<Paths, NoMemory> {
+    match default {
+        Some(default) => either(alloc, branches, default),
+        None => Ok(branches.unwrap_or(Paths::new(alloc))),
+    }
 }
 
 fn either(alloc: Global, before: Option<Paths>, next: Paths) -> Result<Paths, NoMemory> {

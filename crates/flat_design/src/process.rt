@@ -176,11 +176,7 @@ fn takes_all(look: &Look, subject: &FExpr, items: &[FCaseItem]) -> Result<bool, 
     Ok(count > low_bits(size))
 }
 
-fn add_values(
-    labels: &[FExpr],
-    size: u8,
-    values: &mut IndexSet<u64>,
-) -> Result<(), NoMemory> {
+fn add_values(labels: &[FExpr], size: u8, values: &mut IndexSet<u64>) -> Result<(), NoMemory> {
     for label in labels {
         if values.insert(value_at(label, size)).is_err() {
             return Err(NoMemory);

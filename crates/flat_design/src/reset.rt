@@ -129,6 +129,7 @@ fn is_true_at(look: &Look, cond: &Expr, active: bool) -> Result<Option<bool>, No
     let level = Look {
         alloc: look.alloc,
         names: look.names,
+        signals: look.signals,
         entries: look.entries,
         active,
     };

@@ -2,7 +2,7 @@
 use crate::bits::low_bits;
 use crate::design::{Entry, Reset};
 use crate::flat::FExpr;
-use cdc_base::{Name, NoMemory};
+use cdc_base::{Name, NoMemory, Signal};
 use indexmap::IndexMap;
 use std::alloc::Global;
 
@@ -98,6 +98,7 @@ pub fn define(
 pub struct Look<'a> {
     pub alloc: Global,
     pub names: &'a Names,
+    pub signals: &'a [Signal],
     pub entries: &'a [Entry],
     pub active: bool,
 }

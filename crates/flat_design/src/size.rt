@@ -41,12 +41,8 @@ pub fn family_of(op: BinaryOp) -> Family {
         | BinaryOp::Xnor
         | BinaryOp::Or => Family::Arithmetic,
         BinaryOp::Shl | BinaryOp::Shr => Family::Shift,
-        BinaryOp::Lt
-        | BinaryOp::Le
-        | BinaryOp::Gt
-        | BinaryOp::Ge
-        | BinaryOp::Eq
-        | BinaryOp::Ne => Family::Comparison,
+        BinaryOp::Lt | BinaryOp::Le | BinaryOp::Gt | BinaryOp::Ge | BinaryOp::Eq | BinaryOp::Ne =>
+            Family::Comparison,
         BinaryOp::LogicAnd | BinaryOp::LogicOr => Family::Logic,
     }
 }

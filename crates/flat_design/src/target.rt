@@ -144,11 +144,7 @@ pub fn expr_target(look: &Look, expr: &Expr, faults: &mut Faults) -> Result<Fixe
 }
 
 #[cycle(expr_target)]
-fn expr_targets(
-    look: &Look,
-    exprs: &[Expr],
-    faults: &mut Faults,
-) -> Result<FixedParts, NoMemory> {
+fn expr_targets(look: &Look, exprs: &[Expr], faults: &mut Faults) -> Result<FixedParts, NoMemory> {
     let mut parts = FixedParts::new(look.alloc);
     for expr in exprs {
         let part = expr_target(look, expr, faults)?;

@@ -28,7 +28,10 @@ pub fn add_reads(signals: &[Signal], expr: &FExpr, reads: &mut Masks) -> Result<
             add_reads(signals, b, reads)
         }
         FExpr::Choose {
-            cond, yes, other, ..
+            cond,
+            yes,
+            other,
+            ..
         } => {
             add_reads(signals, cond, reads)?;
             add_reads(signals, yes, reads)?;
@@ -116,11 +119,7 @@ pub fn add_statement_reads(
 }
 
 #[cycle(add_statement_reads)]
-fn add_block_reads(
-    signals: &[Signal],
-    stmts: &[FStmt],
-    reads: &mut Masks,
-) -> Result<(), NoMemory> {
+fn add_block_reads(signals: &[Signal], stmts: &[FStmt], reads: &mut Masks) -> Result<(), NoMemory> {
     for stmt in stmts {
         add_statement_reads(signals, stmt, reads)?;
     }

@@ -21,7 +21,10 @@ pub fn value_at(expr: &FExpr, size: u8) -> u64 {
             binary_value(*op, value_at(a, left), value_at(b, right), size)
         }
         FExpr::Choose {
-            cond, yes, other, ..
+            cond,
+            yes,
+            other,
+            ..
         } => {
             if value_at(cond, width_of(cond)) != 0 {
                 value_at(yes, size)

@@ -154,7 +154,13 @@ fn begin(
     add_parameters(alloc, module, overrides, &mut names, &visit.design)?;
     if declares(module) {
         let prefix = visit.prefix(library)?;
-        add_declarations(alloc, module, prefix.as_str(), &mut names, &mut visit.design)?;
+        add_declarations(
+            alloc,
+            module,
+            prefix.as_str(),
+            &mut names,
+            &mut visit.design,
+        )?;
     }
     Ok(names)
 }
@@ -169,13 +175,7 @@ fn open_module(
     if let Some(found) = library.modules.get(module) {
         for port in found.ports.as_slice() {
             if let Some(decl) = &port.decl {
-                add_declared_value(
-                    library.alloc,
-                    found.place,
-                    decl,
-                    &names,
-                    &mut visit.design,
-                )?;
+                add_declared_value(library.alloc, found.place, decl, &names, &mut visit.design)?;
             }
         }
     }
@@ -216,7 +216,13 @@ fn step(library: &Library, visit: &mut Visit) -> Result<bool, Stop> {
             add_instance(library, &instance, open, visit)?;
         }
         body => {
-            add_item(library.alloc, item.place, body, &open.names, &mut visit.design)?;
+            add_item(
+                library.alloc,
+                item.place,
+                body,
+                &open.names,
+                &mut visit.design,
+            )?;
             push(&mut visit.open, open)?;
         }
     }
@@ -251,13 +257,17 @@ fn add_instance(
     let (overrides, connections) = {
         let look = visit.design.look(alloc, &outer.names);
         let overrides = overrides_of(&look, module, word, instance.params, &mut faults)?;
-        let connections =
-            connections_of(&look, module, word, &ports, instance.ports, &mut faults)?;
+        let connections = connections_of(&look, module, word, &ports, instance.ports, &mut faults)?;
         (overrides, connections)
     };
     faults.raise(instance.place)?;
     let mut outer = outer;
-    define(alloc, &mut outer.names, instance.name.as_str(), Meaning::Instance)?;
+    define(
+        alloc,
+        &mut outer.names,
+        instance.name.as_str(),
+        Meaning::Instance,
+    )?;
     push(&mut visit.open, outer)?;
     let names = begin(library, number, &overrides, visit)?;
     add_connections(&ports, connections, &names, &mut visit.design)?;
@@ -362,10 +372,8 @@ fn set_top_port(
     design: &mut Design,
 ) -> Result<(), NoMemory> {
     let place = usize::try_from(sig).unwrap_or(usize::MAX);
-    let (Some(entry), Some(signal)) = (
-        design.entries.get_mut(place),
-        design.signals.get_mut(place),
-    ) else {
+    let (Some(entry), Some(signal)) = (design.entries.get_mut(place), design.signals.get_mut(place))
+    else {
         return Ok(());
     };
     if entry.role == Role::Input {
