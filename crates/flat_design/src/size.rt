@@ -1,0 +1,90 @@
+//! The sizes at which operands are evaluated, and the own sizes of operators.
+use crate::flat::FExpr;
+use verilog_ast::{BinaryOp, UnaryOp};
+
+/// The own size of an expression.
+pub fn width_of(expr: &FExpr) -> u8 {
+    match expr {
+        FExpr::Number { width, .. }
+        | FExpr::Read { width, .. }
+        | FExpr::At { width, .. }
+        | FExpr::Unary { width, .. }
+        | FExpr::Binary { width, .. }
+        | FExpr::Choose { width, .. }
+        | FExpr::Join { width, .. }
+        | FExpr::Repeat { width, .. } => *width,
+    }
+}
+
+/// The kinds of binary operators, by the sizes of their operands and of their result.
+#[derive(Clone, Copy, PartialEq, Eq, Debug, Drop)]
+pub enum Family {
+    /// Both operands have the size of the whole.
+    Arithmetic,
+    /// The left operand has the size of the whole, the right one its own.
+    Shift,
+    /// Both operands have the larger of their sizes, and the result has one bit.
+    Comparison,
+    /// Each operand has its own size, and the result has one bit.
+    Logic,
+}
+
+pub fn family_of(op: BinaryOp) -> Family {
+    match op {
+        BinaryOp::Mul
+        | BinaryOp::Div
+        | BinaryOp::Mod
+        | BinaryOp::Add
+        | BinaryOp::Sub
+        | BinaryOp::And
+        | BinaryOp::Xor
+        | BinaryOp::Xnor
+        | BinaryOp::Or => Family::Arithmetic,
+        BinaryOp::Shl | BinaryOp::Shr => Family::Shift,
+        BinaryOp::Lt | BinaryOp::Le | BinaryOp::Gt | BinaryOp::Ge | BinaryOp::Eq | BinaryOp::Ne =>
+            Family::Comparison,
+        BinaryOp::LogicAnd | BinaryOp::LogicOr => Family::Logic,
+    }
+}
+
+/// Whether the operator stands in whole expressions alone.
+pub fn is_whole_only(op: BinaryOp) -> bool {
+    matches!(op, BinaryOp::Mul | BinaryOp::Div | BinaryOp::Mod)
+}
+
+/// The own size of a unary expression over an operand of size `a`.
+pub fn unary_size(op: UnaryOp, a: u8) -> u8 {
+    if op == UnaryOp::Not { a } else { 1 }
+}
+
+/// The own size of a binary expression over operands of sizes `a` and `b`.
+pub fn binary_size(op: BinaryOp, a: u8, b: u8) -> u8 {
+    match family_of(op) {
+        Family::Arithmetic => a.max(b),
+        Family::Shift => a,
+        Family::Comparison | Family::Logic => 1,
+    }
+}
+
+/// The size at which the operand of a unary expression of size `size` is evaluated.
+pub fn operand_size(op: UnaryOp, size: u8, a: u8) -> u8 {
+    if op == UnaryOp::Not { size } else { a }
+}
+
+/// The size at which the left operand of a binary expression of size `size` is evaluated.
+pub fn left_size(op: BinaryOp, size: u8, a: u8, b: u8) -> u8 {
+    match family_of(op) {
+        Family::Arithmetic | Family::Shift => size,
+        Family::Comparison => a.max(b),
+        Family::Logic => a,
+    }
+}
+
+/// The size at which the right operand of a binary expression of size `size` is evaluated.
+pub fn right_size(op: BinaryOp, size: u8, a: u8, b: u8) -> u8 {
+    match family_of(op) {
+        Family::Arithmetic => size,
+        Family::Comparison => a.max(b),
+        Family::Shift | Family::Logic => b,
+    }
+}
