@@ -1,5 +1,5 @@
 -- How the parts of a command end.
-use Rattle.std.specs.Prelude.{ℕ, ◌≡◌, ◌+◌, ◌≤◌, ◌⊎◌, List, [], ◌∷◌, ◌++◌, length, Option, Result, Ok, Err, IfOk, IfErr, MatchResult}
+use Rattle.std.specs.Prelude.{ℕ, ◌≡◌, ◌+◌, ◌≤◌, ◌⊎◌, List, [], ◌∷◌, ◌++◌, length, Option, Result, Ok, Err, IfOk, IfErr, IsErrAnd}
 use Rattle.cdc_base.specs.Causes.{Rose, RoseBy}
 use Rattle.cdc_base.specs.declared.fault.Fault.{Fault}
 use Rattle.report.specs.Faults.{line_of}
@@ -59,3 +59,20 @@ pub record IsReadOf (name : Text) (status : Status) (before now : Seen) (result 
   pub within : IfOk result (λ bytes. length bytes ≤ max_bytes)
   pub short : IfOk result (λ bytes. IsLong before name → ⊥)
   pub ended : IfErr result (IsReadEnding name status before now)
+
+-- why a file over its limit has no answer of its own
+abbrev pub IsLengthEnding : Status → Text → Ending → Type 0
+IsLengthEnding of_file name Memory = Unit {0}
+IsLengthEnding of_file name (Refused s f) = ((s ≡ of_file) × (f ≡ fault_at 600 name)) ⊎ (s ≡ ReadFault)
+
+-- both files were read whole, or the reading ended so
+pub record IsReadOfBoth {T : Type 0} (net con : Text) (before now : Seen) (result : Result T Ending) : Type 0 where
+  pub asks : AskedInOrder (net ∷ con ∷ []) before now
+  pub ended : IfErr result (IsEnding before now)
+  pub long_net : IsLong before net → IsErrAnd result (IsLengthEnding Netlist net)
+  pub long_con : IsLong before con → IsErrAnd result (λ e. IsLengthEnding Constraints con e ⊎ IsLengthEnding Netlist net e)
+
+-- an audit came to its end: both files were read in their order, and there is an answer or a refusal with its cause
+pub record IsEndOfAudit (net con : Text) (before now : Seen) (result : Result Answer Ending) : Type 0 where
+  pub reads : IsReadOfBoth net con before now result
+  pub audited : IfOk result (λ answer. IsAudited answer.status)

@@ -1,7 +1,7 @@
 //! Reading the files that the words name.
-ghost use Rattle.std.specs.Prelude.{◌≡◌, ℕ, List};
-ghost use Rattle.audit_top.specs.Runs.{Seen, fault_at};
-ghost use Rattle.audit_top.specs.Endings.{IsRefusal, IsReadOf};
+ghost use Rattle.std.specs.Prelude.{◌≡◌, ◌≤◌, length, IfOk};
+ghost use Rattle.audit_top.specs.Runs.{Seen, fault_at, max_bytes};
+ghost use Rattle.audit_top.specs.Endings.{IsRefusal, IsReadOf, IsReadOfBoth};
 
 use crate::answer::Ending;
 use crate::status::Status;
@@ -43,4 +43,21 @@ pub fn read_text<F: Files>(
         Err(FileFault::TooLong) => Err(refusal(alloc, status, 600, name)),
         Err(FileFault::Memory) => Err(Ending::Memory),
     }
+}
+
+/// The bytes of both files, in this order. The first refusal counts.
+pub fn read_both<F: Files>(
+    alloc: Global,
+    files: &mut F,
+    net: &str,
+    con: &str,
+) -> Result<(List<u8>, List<u8>), Ending>
+    ensures files { let before : Seen = record { held = F.held files.old; asked = F.asked files.old; taken = F.taken files.old; faults = F.faults files.old } in
+        let now : Seen = record { held = F.held files.new; asked = F.asked files.new; taken = F.taken files.new; faults = F.faults files.new } in
+        IsReadOfBoth net.now con.now before now result }
+    ensures within { IfOk result (λ texts. (length texts.0 ≤ max_bytes) × (length texts.1 ≤ max_bytes)) }
+{
+    let net = read_text(alloc, files, net, Status::Netlist)?;
+    let con = read_text(alloc, files, con, Status::Constraints)?;
+    Ok((net, con))
 }

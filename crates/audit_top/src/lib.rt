@@ -2,6 +2,7 @@
 #![tactic(auto)]
 
 pub mod answer;
+pub mod audit;
 pub mod input;
 pub mod output;
 pub mod status;

@@ -1,5 +1,5 @@
 //! Writing a text, line by line.
-ghost use Rattle.std.specs.Prelude.{◌≡◌, ◌++◌, ◌∷◌, [], take, drop, length, ◌≤◌, OnOk, OnErr, ℕ};
+ghost use Rattle.std.specs.Prelude.{◌≡◌, ◌++◌, ◌∷◌, [], take, drop, length, ◌≤◌, ◌<◌, OnOk, OnErr, ℕ};
 ghost use Rattle.cdc_base.specs.Causes.{Rose, IsAdded, IsFrontAdded};
 
 use cdc_base::{Sink, SinkFault};
@@ -7,6 +7,7 @@ use cdc_base::{Sink, SinkFault};
 /// How many bytes the first line of the text has, its line feed included.
 fn line_length(text: &[u8]) -> usize
     ensures within { result ≤ length text.now }
+    ensures some { 0 < length text.now → 0 < result }
 {
     match text.iter().position(|byte| *byte == b'\n') {
         Some(at) => at + 1,
