@@ -122,3 +122,13 @@ pub fn settle_of(domains: &Domains, bit: Bit) -> u8 {
         None => 1,
     }
 }
+
+/// The value that a node has under the table's cube, where it is known.
+pub fn known_value(table: &Table, node: Node) -> Option<bool> {
+    let masks = table.masks(node.cell);
+    if has_bit(masks.known, node.at) {
+        Some(has_bit(masks.value, node.at))
+    } else {
+        None
+    }
+}

@@ -13,3 +13,6 @@ pub use feeds::Passed;
 pub use graph::Graph;
 pub use net::{Cofactors, Net, Reg};
 pub use values::Values;
+
+#[cfg(test)]
+mod tests;

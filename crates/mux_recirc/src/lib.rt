@@ -1,19 +1,25 @@
 //! Loads of data under a handshake.
 #![tactic(auto)]
 
+pub mod blind;
+pub mod guards;
+pub mod held;
+pub mod parts;
+
 use cdc_base::{List, NoMemory};
 use cdc_model::{Crossing, Load, Ring};
 use cell_graph::Net;
 use domains::Domains;
+pub use guards::Guards;
 use std::alloc::Global;
 
-/// All loads of the net, each with its first ring, in the order of the crossings.
+/// All loads of the net, each with its first ring, in the order of the crossings. `Guards` says more of the rings.
 pub fn loads(
-    _alloc: Global,
-    _net: &Net,
-    _domains: &Domains,
-    _crossings: &[Crossing],
-    _rings: &[Ring],
+    alloc: Global,
+    net: &Net,
+    domains: &Domains,
+    crossings: &[Crossing],
+    rings: &[Ring],
 ) -> Result<List<Load>, NoMemory> {
-    Err(NoMemory)
+    Guards::find(alloc, net, domains, crossings, rings)?.loads(alloc, crossings)
 }

@@ -1,7 +1,6 @@
 //! Crossings that no scheme guards.
 use crate::Found;
 use crate::covers::first_flop;
-use crate::gates::{first_blind, first_held};
 use cdc_base::{List, NoMemory};
 use cdc_model::view::{copied_bit, plain_table};
 use cdc_model::{Cover, Crossing, Finding, Sync};
@@ -53,40 +52,36 @@ fn is_first_flop(syncs: &[Sync], crossing: &Crossing) -> bool {
         .is_ok()
 }
 
-/// What a crossing lacks that no scheme guards, and which is no bare copy.
-fn lack_of(
-    alloc: Global,
-    found: &Found<'_>,
-    crossing: &Crossing,
-) -> Result<Lack, NoMemory> {
-    if let Some(ring) = first_blind(alloc, found.net, found.domains, found.rings, crossing)? {
-        return Ok(Lack::Hold { ring });
+/// What the crossing at a place of the list lacks, where no scheme guards it and it is no bare copy.
+fn lack_of(found: &Found<'_>, place: usize, crossing: &Crossing) -> Lack {
+    if let Some(ring) = found.guards.first_blind(place) {
+        return Lack::Hold { ring };
     }
-    match first_held(alloc, found.net, found.domains, found.rings, crossing)? {
-        Some(ring) => Ok(Lack::Gate { ring }),
-        None => Ok(Lack::Scheme),
+    match found.guards.first_held(found.domains, crossing) {
+        Some(ring) => Lack::Gate { ring },
+        None => Lack::Scheme,
     }
 }
 
-/// What the crossing lacks; None where it is covered or extra.
+/// What the crossing at a place of the list lacks; None where it is covered or extra.
 fn find_lack(
-    alloc: Global,
     found: &Found<'_>,
     table: &Table,
     covers: &[Cover],
     extra: &[Crossing],
+    place: usize,
     crossing: &Crossing,
-) -> Result<Option<Lack>, NoMemory> {
+) -> Option<Lack> {
     if is_covered(covers, crossing) {
-        return Ok(None);
+        return None;
     }
     if is_bare_copy(found, table, crossing) {
-        return Ok(Some(Lack::Flops));
+        return Some(Lack::Flops);
     }
     if is_extra(extra, crossing) {
-        return Ok(None);
+        return None;
     }
-    Ok(Some(lack_of(alloc, found, crossing)?))
+    Some(lack_of(found, place, crossing))
 }
 
 /// All crossings that neither a scheme nor anything else guards, in their order. `covers` and `extra` are ordered as
@@ -99,8 +94,8 @@ pub fn find_uncovered(
 ) -> Result<Vec<Uncovered>, NoMemory> {
     let table = plain_table(alloc, found.net)?;
     let mut uncovered = Vec::new(alloc);
-    for crossing in found.crossings {
-        if let Some(lack) = find_lack(alloc, found, &table, covers, extra, crossing)? {
+    for (place, crossing) in found.crossings.iter().enumerate() {
+        if let Some(lack) = find_lack(found, &table, covers, extra, place, crossing) {
             uncovered
                 .push(Uncovered {
                     crossing: *crossing,

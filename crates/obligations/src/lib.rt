@@ -4,17 +4,17 @@
 pub mod arrivals;
 pub mod bare;
 pub mod covers;
-pub mod gates;
 pub mod words;
 
 use arrivals::add_v6;
 use bare::{add_v1, add_v2, add_v7, add_v8, find_uncovered};
 use cdc_base::{List, NoMemory, Stop};
-use cdc_model::{Cover, Crossing, Extra, Finding, GrayReg, Load, NoExtra, Ring, Sync, Verdict};
+use cdc_model::{Cover, Crossing, Extra, Finding, GrayReg, Load, NoExtra, Sync, Verdict};
 use cell_graph::Net;
 use covers::covers;
 use crossings::Paths;
 use domains::Domains;
+use mux_recirc::Guards;
 use std::alloc::Global;
 use words::{add_v3, add_v4, add_v5, entries};
 
@@ -26,7 +26,7 @@ pub struct Found<'a> {
     pub crossings: &'a [Crossing],
     pub syncs: &'a [Sync],
     pub grays: &'a [GrayReg],
-    pub rings: &'a [Ring],
+    pub guards: &'a Guards,
     pub loads: &'a [Load],
 }
 
@@ -64,14 +64,15 @@ pub fn audit_with<E: Extra>(
     let syncs = two_flop::syncs(alloc, net, domains, crossings.as_slice())?;
     let grays = gray_pointer::gray_regs(alloc, net, domains)?;
     let rings = handshake::rings(alloc, net, domains, syncs.as_slice())?;
-    let loads = mux_recirc::loads(alloc, net, domains, crossings.as_slice(), rings.as_slice())?;
+    let guards = Guards::find(alloc, net, domains, crossings.as_slice(), rings.as_slice())?;
+    let loads = guards.loads(alloc, crossings.as_slice())?;
     let found = Found {
         net,
         domains,
         crossings: crossings.as_slice(),
         syncs: syncs.as_slice(),
         grays: grays.as_slice(),
-        rings: rings.as_slice(),
+        guards: &guards,
         loads: loads.as_slice(),
     };
     let covers = covers(alloc, &found)?;

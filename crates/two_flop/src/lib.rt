@@ -1,18 +1,77 @@
 //! Synchronizers: chains of flops behind a crossing.
 #![tactic(auto)]
 
-use cdc_base::{List, NoMemory};
-use cdc_model::{Crossing, Sync};
+use cdc_base::{Bit, List, NoMemory};
+use cdc_model::view::{copied_bit, plain_table, settle_of};
+use cdc_model::{Crossing, Reader, Readers, Sync};
 use cell_graph::Net;
+use cofactor::Table;
 use domains::Domains;
 use std::alloc::Global;
 
-/// All synchronizers of the net, by their first flops.
+/// The most flops of a synchronizer. A longer chain of copies ends its synchronizer here.
+pub const MAX_FLOPS: usize = 4;
+
+/// All synchronizers of the net, by their first flops. A synchronizer has one flop more than its clock needs cycles to
+/// settle, or more.
 pub fn syncs(
-    _alloc: Global,
-    _net: &Net,
-    _domains: &Domains,
-    _crossings: &[Crossing],
+    alloc: Global,
+    net: &Net,
+    domains: &Domains,
+    crossings: &[Crossing],
 ) -> Result<List<Sync>, NoMemory> {
-    Err(NoMemory)
+    let mut table = plain_table(alloc, net)?;
+    let readers = Readers::find(alloc, net, &mut table)?;
+    let mut syncs = List::new(alloc);
+    for crossing in crossings {
+        if copied_bit(net, &table, crossing.to) == Some(crossing.from) {
+            let flops = chain(alloc, net, domains, &table, &readers, crossing.to)?;
+            if flops.len() > usize::from(settle_of(domains, crossing.to)) {
+                let from = crossing.from;
+                syncs.push(Sync { from, flops })?;
+            }
+        }
+    }
+    Ok(syncs)
+}
+
+/// The first flop and those behind it, each read by the next alone, up to four.
+fn chain(
+    alloc: Global,
+    net: &Net,
+    domains: &Domains,
+    table: &Table,
+    readers: &Readers,
+    first: Bit,
+) -> Result<List<Bit>, NoMemory> {
+    let mut flops = List::new(alloc);
+    flops.push(first)?;
+    let mut last = first;
+    for _ in 1..MAX_FLOPS {
+        let Some(next) = next_flop(net, domains, table, readers, last) else {
+            break;
+        };
+        flops.push(next)?;
+        last = next;
+    }
+    Ok(flops)
+}
+
+/// The one reader of the flop, where that is a plain copy on the flop's clock.
+fn next_flop(
+    net: &Net,
+    domains: &Domains,
+    table: &Table,
+    readers: &Readers,
+    flop: Bit,
+) -> Option<Bit> {
+    let Reader::Alone(next) = readers.of(flop) else {
+        return None;
+    };
+    let is_copy = copied_bit(net, table, next) == Some(flop);
+    if is_copy && domains.clock_of(next) == domains.clock_of(flop) {
+        Some(next)
+    } else {
+        None
+    }
 }

@@ -1,0 +1,76 @@
+//! Registers that may count or hold a Gray code.
+use cdc_base::{NoMemory, Signal};
+use cell_graph::word::mask;
+use cell_graph::{CellId, Net, Reg};
+use domains::Domains;
+use std::alloc::Global;
+
+/// A register of 2 to 64 bits, each of which has a start value.
+#[derive(Clone, Copy, Debug, Drop)]
+pub struct Register {
+    pub sig: u32,
+    pub width: u8,
+    pub clock: u32,
+    pub start: u64,
+    pub next: CellId,
+}
+
+/// The registers that may count or hold a Gray code, ascending.
+pub fn registers(alloc: Global, net: &Net, domains: &Domains) -> Result<Vec<Register>, NoMemory> {
+    let mut registers = Vec::new(alloc);
+    for reg in net.regs.as_slice() {
+        if let Some(register) = register_of(net, domains, reg) {
+            registers.push(register).map_err(|_| NoMemory)?;
+        }
+    }
+    Ok(registers)
+}
+
+fn register_of(net: &Net, domains: &Domains, reg: &Reg) -> Option<Register> {
+    let place = reg.sig as usize;
+    let signal = net.graph.signals().get(place)?;
+    let clock = domains
+        .clock_by_sig
+        .as_slice()
+        .get(place)
+        .copied()
+        .flatten()?;
+    if is_wide(signal) && signal.known == mask(signal.width) {
+        Some(Register {
+            sig: reg.sig,
+            width: signal.width,
+            clock,
+            start: signal.start,
+            next: reg.next,
+        })
+    } else {
+        None
+    }
+}
+
+fn is_wide(signal: &Signal) -> bool {
+    2 <= signal.width && signal.width <= 64
+}
+
+/// Whether the second may hold the Gray code of the first: another register of its clock and width, which starts with
+/// the code.
+pub fn fit(count: &Register, gray: &Register) -> bool {
+    count.sig != gray.sig
+        && count.clock == gray.clock
+        && count.width == gray.width
+        && gray.start == gray_code(count.start)
+}
+
+/// The Gray code of a word.
+pub fn gray_code(word: u64) -> u64 {
+    word ^ (word >> 1)
+}
+
+/// The word that has this Gray code: each of its bits is the exclusive or of the code's bits from there on.
+pub fn decoded(code: u64) -> u64 {
+    let mut word = code;
+    for distance in [1u32, 2, 4, 8, 16, 32] {
+        word ^= word >> distance;
+    }
+    word
+}

@@ -1,0 +1,194 @@
+//! Data bits that keep their value while a ring is under way.
+use crate::parts::{Part, Parts};
+use cdc_base::{Bit, NoMemory};
+use cdc_model::view::{are_together, bits_read, copied_bit, next_node, pair_table};
+use cdc_model::{Crossing, Ring};
+use cell_graph::Net;
+use cofactor::{Fixed, Table};
+use domains::Domains;
+use std::alloc::Global;
+
+/// Which bits are held under which rings: those that keep their value while the request and the last flop back differ.
+#[derive(Drop)]
+pub struct Held {
+    /// By bit, then ring.
+    pairs: Vec<Part>,
+    /// The bits that always keep their value, ascending. Each is held under every ring of its group.
+    constant: Vec<Bit>,
+}
+
+/// A bit that reads one of the ring's two ends.
+#[derive(Clone, Copy, PartialEq, Eq, PartialOrd, Ord, Debug, Drop)]
+struct Question {
+    ring: usize,
+    bit: Bit,
+}
+
+impl Held {
+    /// What is held of the sources of the crossings. A bit that reads neither end of a ring is held where it always
+    /// keeps its value, since fixing bits that it doesn't read changes nothing.
+    pub fn find(
+        alloc: Global,
+        net: &Net,
+        domains: &Domains,
+        table: &mut Table,
+        crossings: &[Crossing],
+        rings: &[Ring],
+    ) -> Result<Held, NoMemory> {
+        let ends = Parts::of_ends(alloc, rings)?;
+        let mut constant = Vec::new(alloc);
+        let mut questions = Vec::new(alloc);
+        for bit in sources(alloc, net, crossings)?.as_slice() {
+            if copied_bit(net, table, *bit) == Some(*bit) {
+                constant.push(*bit).map_err(|_| NoMemory)?;
+            }
+            let reads = bits_read(alloc, net, table, *bit)?;
+            for ring in ends.rings_of(alloc, reads.as_slice())?.as_slice() {
+                ask(domains, rings, *ring, *bit, &mut questions)?;
+            }
+        }
+        questions.sort_unstable();
+        let pairs = answered(alloc, net, rings, questions.as_slice())?;
+        Ok(Held { pairs, constant })
+    }
+
+    /// Whether the bit is held under the ring, given that it has the group of the ring's request.
+    pub fn has(&self, ring: usize, bit: Bit) -> bool {
+        self.is_constant(bit) || self.pairs.binary_search(&Part { bit, ring }).is_ok()
+    }
+
+    /// Whether the bit always keeps its value.
+    pub fn is_constant(&self, bit: Bit) -> bool {
+        self.constant.binary_search(&bit).is_ok()
+    }
+
+    /// The rings under which a bit is held, those of a constant bit left out, ascending.
+    pub fn pairs_of(&self, bit: Bit) -> &[Part] {
+        let pairs = self.pairs.as_slice();
+        let first = pairs.partition_point(|part| part.bit < bit);
+        let end = pairs.partition_point(|part| part.bit <= bit);
+        pairs.get(first..end).unwrap_or(&[])
+    }
+}
+
+/// The register bits that crossings come from, ascending, each once.
+fn sources(alloc: Global, net: &Net, crossings: &[Crossing]) -> Result<Vec<Bit>, NoMemory> {
+    let mut sources = Vec::new(alloc);
+    for crossing in crossings {
+        if next_node(net, crossing.from).is_some() {
+            sources.push(crossing.from).map_err(|_| NoMemory)?;
+        }
+    }
+    sources.sort_unstable();
+    sources.dedup();
+    Ok(sources)
+}
+
+/// Adds the question whether the bit is held under the ring, where it has the group of the ring's request.
+fn ask(
+    domains: &Domains,
+    rings: &[Ring],
+    ring: usize,
+    bit: Bit,
+    questions: &mut Vec<Question>,
+) -> Result<(), NoMemory> {
+    if let Some(request) = request_of(rings, ring) {
+        if are_together(domains, bit, request) {
+            questions
+                .push(Question { ring, bit })
+                .map_err(|_| NoMemory)?;
+        }
+    }
+    Ok(())
+}
+
+fn request_of(rings: &[Ring], ring: usize) -> Option<Bit> {
+    rings.get(ring)?.bits.as_slice().first().copied()
+}
+
+/// The tables in which the two ends of a ring differ.
+#[derive(Drop)]
+struct Busy {
+    ring: usize,
+    rising: Table,
+    falling: Table,
+}
+
+impl Busy {
+    fn open(
+        alloc: Global,
+        net: &Net,
+        rings: &[Ring],
+        ring: usize,
+    ) -> Result<Option<Busy>, NoMemory> {
+        let Some((request, last)) = ends_of(rings, ring) else {
+            return Ok(None);
+        };
+        Ok(Some(Busy {
+            ring,
+            rising: differing(alloc, net, request, last, true)?,
+            falling: differing(alloc, net, request, last, false)?,
+        }))
+    }
+
+    /// Whether the bit keeps its value in both tables.
+    fn keeps(&self, net: &Net, bit: Bit) -> bool {
+        copied_bit(net, &self.rising, bit) == Some(bit)
+            && copied_bit(net, &self.falling, bit) == Some(bit)
+    }
+}
+
+fn ends_of(rings: &[Ring], ring: usize) -> Option<(Bit, Bit)> {
+    let bits = rings.get(ring)?.bits.as_slice();
+    let request = bits.first().copied()?;
+    let last = bits.last().copied()?;
+    Some((request, last))
+}
+
+fn differing(
+    alloc: Global,
+    net: &Net,
+    request: Bit,
+    last: Bit,
+    value: bool,
+) -> Result<Table, NoMemory> {
+    let request = Fixed {
+        bit: request,
+        value,
+    };
+    let last = Fixed {
+        bit: last,
+        value: !value,
+    };
+    pair_table(alloc, net, request, last)
+}
+
+/// The questions that are answered with yes, by bit, then ring. The questions of one ring stand side by side.
+fn answered(
+    alloc: Global,
+    net: &Net,
+    rings: &[Ring],
+    questions: &[Question],
+) -> Result<Vec<Part>, NoMemory> {
+    let mut pairs = Vec::new(alloc);
+    let mut open: Option<Busy> = None;
+    for question in questions {
+        let busy = match open {
+            Some(busy) if busy.ring == question.ring => Some(busy),
+            _ => Busy::open(alloc, net, rings, question.ring)?,
+        };
+        if let Some(busy) = &busy {
+            if busy.keeps(net, question.bit) {
+                pairs
+                    .push(Part {
+                        bit: question.bit,
+                        ring: question.ring,
+                    })
+                    .map_err(|_| NoMemory)?;
+            }
+        }
+        open = busy;
+    }
+    pairs.sort_unstable();
+    Ok(pairs)
+}
