@@ -3,6 +3,7 @@
 #![tactic(auto)]
 
 pub mod bit;
+pub mod bytes;
 pub mod fault;
 pub mod host;
 pub mod limits;

@@ -1,7 +1,10 @@
 //! The source of a netlist, as its text reads: modules, their items, statements, targets and expressions.
 #![tactic(auto)]
 
+pub mod depths;
+
 use cdc_base::{List, Name, Place};
+pub use depths::depth;
 
 #[derive(Drop)]
 pub struct Source {

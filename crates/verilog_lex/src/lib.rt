@@ -6,19 +6,20 @@ ghost use Rattle.cdc_base.specs.declared.fault.Fault.{Fault};
 ghost use Rattle.cdc_base.specs.declared.fault.Stop.TheVariants.{Refused};
 ghost use Rattle.verilog_lex.specs.Tokens.{tokens_of};
 
-pub mod bytes;
 pub mod laws;
+pub mod marks;
 pub mod number;
 pub mod piece;
+pub mod spans;
 pub mod token;
 pub mod walk;
-pub mod words;
 
 use cdc_base::fault::{Fault, Stop};
 use cdc_base::list::List;
+pub use cdc_base::words::Keyword;
+pub use marks::MarkKind;
 use std::alloc::Global;
 pub use token::{Token, TokenKind};
-pub use words::{Keyword, MarkKind};
 
 /// The tokens of the text.
 pub fn lex(alloc: Global, text: &[u8]) -> Result<List<Token>, Stop>

@@ -1,0 +1,27 @@
+-- The marks, and the directives that are skipped.
+use Rattle.std.specs.Prelude.{ℕ, List, [], ◌∷◌, codes, Option, Bool}
+use Rattle.cdc_base.specs.Words.{found_in, is_in}
+use Rattle.verilog_lex.specs.declared.marks.MarkKind.{MarkKind}
+use Rattle.verilog_lex.specs.declared.marks.MarkKind.TheVariants as mark
+
+abbrev pub marks : List (List ℕ × MarkKind)
+marks =
+    (codes "(", mark.ParenOpen) ∷ (codes ")", mark.ParenClose) ∷ (codes "[", mark.BracketOpen) ∷ (codes "]", mark.BracketClose) ∷
+    (codes "{", mark.BraceOpen) ∷ (codes "}", mark.BraceClose) ∷ (codes ",", mark.Comma) ∷ (codes ";", mark.Semicolon) ∷
+    (codes ":", mark.Colon) ∷ (codes ".", mark.Dot) ∷ (codes "#", mark.Hash) ∷ (codes "@", mark.At) ∷
+    (codes "?", mark.Question) ∷ (codes "=", mark.Equals) ∷ (codes "<=", mark.LessEqual) ∷ (codes "+", mark.Plus) ∷
+    (codes "-", mark.Minus) ∷ (codes "*", mark.Star) ∷ (codes "/", mark.Slash) ∷ (codes "%", mark.Percent) ∷
+    (codes "!", mark.Bang) ∷ (codes "~", mark.Tilde) ∷ (codes "&", mark.Ampersand) ∷ (codes "|", mark.Bar) ∷
+    (codes "^", mark.Caret) ∷ (codes "~&", mark.TildeAmpersand) ∷ (codes "~|", mark.TildeBar) ∷ (codes "~^", mark.TildeCaret) ∷
+    (codes "^~", mark.CaretTilde) ∷ (codes "<<", mark.ShiftLeft) ∷ (codes ">>", mark.ShiftRight) ∷ (codes "<", mark.Less) ∷
+    (codes ">", mark.Greater) ∷ (codes ">=", mark.GreaterEqual) ∷ (codes "==", mark.EqualEqual) ∷ (codes "!=", mark.BangEqual) ∷
+    (codes "&&", mark.AmpersandAmpersand) ∷ (codes "||", mark.BarBar) ∷ []
+
+abbrev pub directives : List (List ℕ)
+directives = codes "timescale" ∷ codes "default_nettype" ∷ codes "celldefine" ∷ codes "endcelldefine" ∷ codes "resetall" ∷ []
+
+unfoldable pub is_directive : List ℕ → Bool
+is_directive text = is_in directives text
+
+unfoldable pub mark_of : List ℕ → Option MarkKind
+mark_of text = found_in marks text

@@ -1,0 +1,113 @@
+//! The marks of the profile, and the directives that are skipped.
+ghost use Rattle.std.specs.Prelude.{◌≡◌};
+ghost use Rattle.verilog_lex.specs.Marks.{is_directive, mark_of};
+
+use cdc_base::words::{find_in, has_word};
+
+/// A mark, named by its signs.
+#[derive(Clone, Copy, PartialEq, Eq, Debug, Drop)]
+pub enum MarkKind {
+    ParenOpen,
+    ParenClose,
+    BracketOpen,
+    BracketClose,
+    BraceOpen,
+    BraceClose,
+    Comma,
+    Semicolon,
+    Colon,
+    Dot,
+    Hash,
+    At,
+    Question,
+    Equals,
+    LessEqual,
+    Plus,
+    Minus,
+    Star,
+    Slash,
+    Percent,
+    Bang,
+    Tilde,
+    Ampersand,
+    Bar,
+    Caret,
+    TildeAmpersand,
+    TildeBar,
+    TildeCaret,
+    CaretTilde,
+    ShiftLeft,
+    ShiftRight,
+    Less,
+    Greater,
+    GreaterEqual,
+    EqualEqual,
+    BangEqual,
+    AmpersandAmpersand,
+    BarBar,
+}
+
+const MARKS: [(&str, MarkKind); 38] = [
+    ("(", MarkKind::ParenOpen),
+    (")", MarkKind::ParenClose),
+    ("[", MarkKind::BracketOpen),
+    ("]", MarkKind::BracketClose),
+    ("{", MarkKind::BraceOpen),
+    ("}", MarkKind::BraceClose),
+    (",", MarkKind::Comma),
+    (";", MarkKind::Semicolon),
+    (":", MarkKind::Colon),
+    (".", MarkKind::Dot),
+    ("#", MarkKind::Hash),
+    ("@", MarkKind::At),
+    ("?", MarkKind::Question),
+    ("=", MarkKind::Equals),
+    ("<=", MarkKind::LessEqual),
+    ("+", MarkKind::Plus),
+    ("-", MarkKind::Minus),
+    ("*", MarkKind::Star),
+    ("/", MarkKind::Slash),
+    ("%", MarkKind::Percent),
+    ("!", MarkKind::Bang),
+    ("~", MarkKind::Tilde),
+    ("&", MarkKind::Ampersand),
+    ("|", MarkKind::Bar),
+    ("^", MarkKind::Caret),
+    ("~&", MarkKind::TildeAmpersand),
+    ("~|", MarkKind::TildeBar),
+    ("~^", MarkKind::TildeCaret),
+    ("^~", MarkKind::CaretTilde),
+    ("<<", MarkKind::ShiftLeft),
+    (">>", MarkKind::ShiftRight),
+    ("<", MarkKind::Less),
+    (">", MarkKind::Greater),
+    (">=", MarkKind::GreaterEqual),
+    ("==", MarkKind::EqualEqual),
+    ("!=", MarkKind::BangEqual),
+    ("&&", MarkKind::AmpersandAmpersand),
+    ("||", MarkKind::BarBar),
+];
+
+const DIRECTIVES: [&str; 5] = [
+    "timescale",
+    "default_nettype",
+    "celldefine",
+    "endcelldefine",
+    "resetall",
+];
+
+/// Whether the bytes name a directive that is skipped.
+#[tactic(auto, unfolding(crate::specs::Marks::is_directive))]
+pub fn is_directive(text: &[u8]) -> bool
+    ensures { result ≡ is_directive text.now }
+{
+    has_word(&DIRECTIVES, text)
+}
+
+/// The mark with these bytes.
+#[tactic(auto, unfolding(crate::specs::Marks::mark_of))]
+pub fn named_mark(text: &[u8]) -> Option<MarkKind>
+    ensures { result ≡ mark_of text.now }
+{
+    find_in(&MARKS, text)
+}
