@@ -30,13 +30,19 @@ pub struct Uncovered {
 
 fn is_covered(covers: &[Cover], crossing: &Crossing) -> bool {
     covers
-        .binary_search_by_key(&(crossing.to, crossing.from), |cover| (cover.to, cover.from))
+        .binary_search_by_key(
+            &(crossing.to, crossing.from),
+            |cover| (cover.to, cover.from),
+        )
         .is_ok()
 }
 
 fn is_extra(extra: &[Crossing], crossing: &Crossing) -> bool {
     extra
-        .binary_search_by_key(&(crossing.to, crossing.from), |other| (other.to, other.from))
+        .binary_search_by_key(
+            &(crossing.to, crossing.from),
+            |other| (other.to, other.from),
+        )
         .is_ok()
 }
 

@@ -41,14 +41,38 @@ fn findings(
     let entries = entries(alloc, found)?;
     let mut paths = Paths::open(alloc, found.net)?;
     let mut findings = List::new(alloc);
-    add_v1(alloc, found, &mut paths, uncovered.as_slice(), &mut findings)?;
-    add_v2(alloc, found, &mut paths, uncovered.as_slice(), &mut findings)?;
+    add_v1(
+        alloc,
+        found,
+        &mut paths,
+        uncovered.as_slice(),
+        &mut findings,
+    )?;
+    add_v2(
+        alloc,
+        found,
+        &mut paths,
+        uncovered.as_slice(),
+        &mut findings,
+    )?;
     add_v3(alloc, found, entries.as_slice(), &mut findings)?;
     add_v4(alloc, entries.as_slice(), &mut findings)?;
     add_v5(alloc, entries.as_slice(), &mut findings)?;
     add_v6(alloc, found, &mut findings)?;
-    add_v7(alloc, found, &mut paths, uncovered.as_slice(), &mut findings)?;
-    add_v8(alloc, found, &mut paths, uncovered.as_slice(), &mut findings)?;
+    add_v7(
+        alloc,
+        found,
+        &mut paths,
+        uncovered.as_slice(),
+        &mut findings,
+    )?;
+    add_v8(
+        alloc,
+        found,
+        &mut paths,
+        uncovered.as_slice(),
+        &mut findings,
+    )?;
     Ok(findings)
 }
 

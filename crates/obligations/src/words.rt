@@ -21,8 +21,7 @@ pub fn entries(alloc: Global, found: &Found<'_>) -> Result<Vec<Entry>, NoMemory>
         let Some(to) = first_flop(sync) else {
             continue;
         };
-        let (Some(group), Some(clock)) =
-            (found.domains.group_of(to), found.domains.clock_of(to))
+        let (Some(group), Some(clock)) = (found.domains.group_of(to), found.domains.clock_of(to))
         else {
             continue;
         };
