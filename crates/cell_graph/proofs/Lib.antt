@@ -1,1 +1,3 @@
+pub mod FeedLists
+pub mod Places
 pub mod Shifts

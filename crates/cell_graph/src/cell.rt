@@ -93,3 +93,10 @@ pub struct Node {
     pub cell: CellId,
     pub at: u8,
 }
+
+/// A cell of a graph and its bits.
+#[derive(Clone, Copy, Debug, Drop)]
+pub(crate) struct Entry {
+    pub(crate) cell: Cell,
+    pub(crate) width: u8,
+}

@@ -1,18 +1,14 @@
 //! A growing graph of cells over the signals of a design.
-ghost use Rattle.std.specs.Prelude.{◌≡◌};
+ghost use Rattle.std.specs.Prelude.{◌≡◌, ◌+◌, ◌<◌, ◌≤◌, List, [], length, map, Some, slice_get, IfOk, IfErr, OnOk, OnErr};
+ghost use Rattle.cell_graph.specs.Cells.{place_in, place_of, with_cell, cell_at, cell_width, width_of, widths, signal_width, HasCause};
+ghost use Rattle.cell_graph.specs.Kept.{cells_of};
 
-use crate::cell::{Cell, CellId};
+use crate::cell::{Cell, CellId, Entry};
 use cdc_base::limits::MAX_CELLS;
 use cdc_base::{Fault, List, Name, NoMemory, Signal, Stop};
 use std::alloc::Global;
 use std::collections::HashMap;
-
-/// A cell of the graph and its bits.
-#[derive(Clone, Copy, Debug, Drop)]
-pub(crate) struct Entry {
-    pub(crate) cell: Cell,
-    pub(crate) width: u8,
-}
+use std::marker::Model;
 
 /// Cells over signals. Each cell stands behind its operands, and equal cells are kept once.
 #[derive(Drop)]
@@ -24,9 +20,22 @@ pub struct Graph {
     calls: u32,
 }
 
+impl Model for Graph {
+    ghost use Rattle.cell_graph.specs.Cells.{Cells};
+    ghost use Rattle.cell_graph.specs.Kept.{IsKept, cells_of};
+
+    ghost Value = { Cells };
+
+    ghost view = { λ g. record { signals = g.signals; cells = cells_of g.entries.items; calls = g.calls } };
+
+    ghost invariant = { λ g. IsKept g.signals g.entries.items g.places g.calls };
+}
+
 impl Graph {
     /// A graph without cells.
-    pub fn new(alloc: Global, signals: List<Signal>) -> Result<Graph, NoMemory> {
+    pub fn new(alloc: Global, signals: List<Signal>) -> Result<Graph, NoMemory>
+        ensures { IfOk result (λ g. (g.signals ≡ signals) × (g.cells ≡ []) × (g.calls ≡ 0)) }
+    {
         Ok(Graph {
             alloc,
             signals,
@@ -36,87 +45,106 @@ impl Graph {
         })
     }
 
-    /// The place of the cell, which is added where no equal one is there. Refused with E602 where as many cells as
-    /// the limit allows were given a place before, equal ones counted again.
-    pub fn add(&mut self, cell: Cell) -> Result<CellId, Stop> {
+    /// The place of the cell, which is added at the end where no equal one is there. Refused with E602 where as many
+    /// cells as the limit allows were given a place before, equal ones counted again.
+    pub fn add(&mut self, cell: Cell) -> Result<CellId, Stop>
+        ensures there { IfOk result (λ id. id.0 ≡ place_of self.old.cells cell) }
+        ensures cells { OnOk result (self.new.cells ≡ with_cell self.old.cells cell) }
+        ensures found { IfOk result (λ id. slice_get self.new.cells id.0 ≡ Some cell) }
+        ensures signals { self.new.signals ≡ self.old.signals }
+        ensures counted { OnOk result (self.new.calls ≡ self.old.calls + 1) }
+        ensures room { OnOk result (self.old.calls < MAX_CELLS) }
+        ensures full { IfErr result (HasCause 602 (MAX_CELLS ≤ self.old.calls)) }
+        ensures unchanged { OnErr result (self.new ≡ self.old) }
+    {
         if self.calls >= MAX_CELLS {
             return Err(too_many_cells(self.alloc));
         }
-        let id = self.kept(cell)?;
+        if let Some(id) = self.place(cell) {
+            self.calls += 1;
+            return Ok(CellId(id));
+        }
+        let id = self.cell_count();
+        let width = self.width_of(cell);
+        let count = self.entries.len();
+        if self.entries.push(Entry { cell, width }).is_err() {
+            return Err(Stop::Memory);
+        }
+        if self.places.insert(cell, id).is_err() {
+            self.entries.truncate(count);
+            return Err(Stop::Memory);
+        }
         self.calls += 1;
-        Ok(id)
+        Ok(CellId(id))
     }
 
     /// Counts `calls` further calls of `add`, as if they had answered. Refused with E602, and nothing counted, where
     /// that passes the limit.
-    pub fn count_again(&mut self, calls: u32) -> Result<(), Stop> {
-        if calls > MAX_CELLS.saturating_sub(self.calls) {
+    pub fn count_again(&mut self, calls: u32) -> Result<(), Stop>
+        ensures cells { self.new.cells ≡ self.old.cells }
+        ensures signals { self.new.signals ≡ self.old.signals }
+        ensures counted { OnOk result (self.new.calls ≡ self.old.calls + calls) }
+        ensures room { OnOk result (self.old.calls + calls ≤ MAX_CELLS) }
+        ensures full { IfErr result (HasCause 602 (MAX_CELLS < self.old.calls + calls)) }
+        ensures unchanged { OnErr result (self.new ≡ self.old) }
+    {
+        if calls > MAX_CELLS - self.calls {
             return Err(too_many_cells(self.alloc));
         }
-        self.calls = self.calls.saturating_add(calls);
+        self.calls += calls;
         Ok(())
     }
 
-    pub fn signals(&self) -> &[Signal] {
+    pub fn signals(&self) -> &[Signal]
+        ensures { result.now ≡ self.now.signals }
+    {
         self.signals.as_slice()
     }
 
     /// How many cells there are, equal ones counted once.
-    pub fn cell_count(&self) -> u32 {
+    pub fn cell_count(&self) -> u32
+        ensures { result ≡ length self.now.cells }
+    {
         u32::try_from(self.entries.len()).unwrap_or(u32::MAX)
     }
 
     /// The cell at a place; a zero bit where the graph has no such place.
-    pub fn cell(&self, id: CellId) -> Cell {
-        match self.entry(id) {
+    pub fn cell(&self, id: CellId) -> Cell
+        ensures { result ≡ cell_at self.now id }
+    {
+        match self.entries.get(id.0 as usize) {
             Some(entry) => entry.cell,
             None => Cell::Const { width: 1, value: 0 },
         }
     }
 
     /// The bits of the cell.
-    pub fn width(&self, id: CellId) -> u8 {
-        match self.entry(id) {
+    pub fn width(&self, id: CellId) -> u8
+        ensures { result ≡ cell_width self.now id }
+    {
+        match self.entries.get(id.0 as usize) {
             Some(entry) => entry.width,
             None => 1,
         }
     }
 
-    pub(crate) fn entries(&self) -> &[Entry] {
+    pub(crate) fn entries(&self) -> &[Entry]
+        ensures cells { cells_of result.now ≡ self.now.cells }
+    {
         self.entries.as_slice()
     }
 
-    fn entry(&self, id: CellId) -> Option<Entry> {
-        self.entries.get(id.0 as usize).copied()
-    }
-
     /// The place that the cell has already.
-    fn place(&self, cell: Cell) -> Option<u32> {
+    fn place(&self, cell: Cell) -> Option<u32>
+        ensures { result ≡ place_in self.now.cells cell }
+    {
         self.places.get(&cell).copied()
     }
 
-    /// The place of the cell, which is added at the end where no equal one is there.
-    fn kept(&mut self, cell: Cell) -> Result<CellId, NoMemory>
-        ensures { self.new.calls ≡ self.old.calls }
-    {
-        if let Some(id) = self.place(cell) {
-            return Ok(CellId(id));
-        }
-        let id = self.cell_count();
-        let width = self.width_of(cell);
-        let count = self.entries.len();
-        self.entries
-            .push(Entry { cell, width })
-            .map_err(|_| NoMemory)?;
-        if self.places.insert(cell, id).is_err() {
-            self.entries.truncate(count);
-            return Err(NoMemory);
-        }
-        Ok(CellId(id))
-    }
-
     /// The bits that the cell has here. A sum of widths stands still at the end of its type.
-    fn width_of(&self, cell: Cell) -> u8 {
+    fn width_of(&self, cell: Cell) -> u8
+        ensures { result ≡ width_of self.now.signals (widths self.now.signals self.now.cells) cell }
+    {
         match cell {
             Cell::Var { sig } => self.signal_width(sig),
             Cell::Const { width, .. } | Cell::Slice { width, .. } | Cell::Extend { width, .. } => {
@@ -136,7 +164,9 @@ impl Graph {
         }
     }
 
-    fn signal_width(&self, sig: u32) -> u8 {
+    fn signal_width(&self, sig: u32) -> u8
+        ensures { result ≡ signal_width self.now.signals sig }
+    {
         match self.signals.as_slice().get(sig as usize) {
             Some(signal) => signal.width,
             None => 1,
@@ -144,7 +174,9 @@ impl Graph {
     }
 }
 
-fn too_many_cells(alloc: Global) -> Stop {
+fn too_many_cells(alloc: Global) -> Stop
+    ensures { HasCause 602 (Unit {0}) result }
+{
     match Name::from_text(alloc, "") {
         Ok(name) => Stop::Refused(Fault {
             number: 602,

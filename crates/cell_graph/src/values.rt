@@ -1,6 +1,6 @@
 //! The values of all cells of a graph in one reading of its signals.
-use crate::cell::{Cell, CellId, ReduceKind};
-use crate::graph::{Entry, Graph};
+use crate::cell::{Cell, CellId, Entry, ReduceKind};
+use crate::graph::Graph;
 use crate::word::{mask, shifted_left, shifted_right};
 use cdc_base::NoMemory;
 use std::alloc::Global;
