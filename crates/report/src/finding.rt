@@ -1,7 +1,9 @@
 //! The lines of a finding.
 use crate::names::{add_bit, add_group, add_node, add_signal};
 use crate::text::Text;
+use cdc_base::limits::MAX_WIDTH;
 use cdc_base::{Bit, List, NoMemory};
+use cdc_model::view::settle_of;
 use cdc_model::{Arrival, Crossing, Finding};
 use cell_graph::{Net, Node};
 use domains::Domains;
@@ -29,14 +31,7 @@ fn add_crossing(text: &mut Text, net: &Net, from: Bit, to: Bit) -> Result<(), No
 
 /// What a copy without a synchronizer lacks: the flops that its clock's settling needs.
 fn add_lack(text: &mut Text, domains: &Domains, to: Bit) -> Result<(), NoMemory> {
-    let settle = match domains.clock_of(to) {
-        Some(clock) => domains
-            .clocks
-            .as_slice()
-            .get(clock as usize)
-            .map_or(1, |pin| pin.settle),
-        None => 1,
-    };
+    let settle = settle_of(domains, to);
     if settle < 2 {
         return text.add(": no second flop");
     }
@@ -75,11 +70,13 @@ fn add_entry(
 
 /// How many bits of one word the flops copy.
 fn count_sources(flops: &[Crossing]) -> u32 {
-    let mut sources = 0u64;
-    for flop in flops {
-        sources |= 1u64.checked_shl(u32::from(flop.from.at)).unwrap_or(0);
+    let mut count = 0;
+    for at in 0..MAX_WIDTH {
+        if flops.iter().any(|flop| flop.from.at == at) {
+            count += 1;
+        }
     }
-    sources.count_ones()
+    count
 }
 
 fn add_ring(text: &mut Text, what: &str, ring: u64) -> Result<(), NoMemory> {

@@ -11,14 +11,6 @@ use clock_constraints::Waiver;
 use domains::Domains;
 use std::alloc::Global;
 
-fn hex_digit(value: u8) -> u8 {
-    match value {
-        0..=9 => b'0' + value,
-        10..=15 => b'a' + (value - 10),
-        _ => b'0',
-    }
-}
-
 /// Adds a byte of a string. Quotes, backslashes and control bytes are escaped.
 fn add_escaped(text: &mut Text, byte: u8) -> Result<(), NoMemory> {
     match byte {
@@ -31,7 +23,8 @@ fn add_escaped(text: &mut Text, byte: u8) -> Result<(), NoMemory> {
         13 => text.add("\\r"),
         0..=31 => {
             text.add("\\u00")?;
-            text.add_bytes(&[hex_digit(byte / 16), hex_digit(byte % 16)])
+            text.add_hex_digit(byte / 16)?;
+            text.add_hex_digit(byte)
         }
         _ => text.add_byte(byte),
     }

@@ -15,20 +15,13 @@ fn is_state(domains: &Domains, signal: &Signal, sig: u32) -> bool {
         || domains.statics.as_slice().binary_search(&sig).is_ok()
 }
 
-fn hex_digit(value: u64) -> u8 {
-    match (value % 16) as u8 {
-        digit @ 0..=9 => b'0' + digit,
-        digit => b'a' + (digit - 10),
-    }
-}
-
 /// Adds the lowest digits of the value, in hexadecimal.
 fn add_hex(text: &mut Text, digits: u8, value: u64) -> Result<(), NoMemory> {
     let mut left = digits;
     while left > 0 {
         left -= 1;
         let rest = value.checked_shr(4 * u32::from(left)).unwrap_or(0);
-        text.add_byte(hex_digit(rest))?;
+        text.add_hex_digit((rest % 16) as u8)?;
     }
     Ok(())
 }
