@@ -1,20 +1,113 @@
 //! The verdict on a net.
 #![tactic(auto)]
 
-use cdc_base::Stop;
-use cdc_model::{Extra, NoExtra, Verdict};
-use cell_graph::Net;
-use domains::Domains;
-use std::alloc::Global;
+pub mod arrivals;
+pub mod bare;
+pub mod covers;
+pub mod words;
 
-/// The verdict with further crossings that are guarded.
+use arrivals::add_v6;
+use bare::{add_v1, add_v2, add_v7, add_v8, find_uncovered};
+use cdc_base::{List, NoMemory, Stop};
+use cdc_model::{Cover, Crossing, Extra, Finding, GrayReg, Load, NoExtra, Sync, Verdict};
+use cell_graph::Net;
+use covers::covers;
+use crossings::Paths;
+use domains::Domains;
+use mux_recirc::Guards;
+use std::alloc::Global;
+use words::{add_v3, add_v4, add_v5, entries};
+
+/// A design and what was found in it.
+#[derive(Clone, Copy, Drop)]
+pub struct Found<'a> {
+    pub net: &'a Net,
+    pub domains: &'a Domains,
+    pub crossings: &'a [Crossing],
+    pub syncs: &'a [Sync],
+    pub grays: &'a [GrayReg],
+    pub guards: &'a Guards,
+    pub loads: &'a [Load],
+}
+
+/// All findings of the design, by their numbers.
+fn findings(
+    alloc: Global,
+    found: &Found<'_>,
+    covers: &[Cover],
+    extra: &[Crossing],
+) -> Result<List<Finding>, NoMemory> {
+    let uncovered = find_uncovered(alloc, found, covers, extra)?;
+    let entries = entries(alloc, found)?;
+    let mut paths = Paths::open(alloc, found.net)?;
+    let mut findings = List::new(alloc);
+    add_v1(
+        alloc,
+        found,
+        &mut paths,
+        uncovered.as_slice(),
+        &mut findings,
+    )?;
+    add_v2(
+        alloc,
+        found,
+        &mut paths,
+        uncovered.as_slice(),
+        &mut findings,
+    )?;
+    add_v3(alloc, found, entries.as_slice(), &mut findings)?;
+    add_v4(alloc, entries.as_slice(), &mut findings)?;
+    add_v5(alloc, entries.as_slice(), &mut findings)?;
+    add_v6(alloc, found, &mut findings)?;
+    add_v7(
+        alloc,
+        found,
+        &mut paths,
+        uncovered.as_slice(),
+        &mut findings,
+    )?;
+    add_v8(
+        alloc,
+        found,
+        &mut paths,
+        uncovered.as_slice(),
+        &mut findings,
+    )?;
+    Ok(findings)
+}
+
+/// The verdict on the net. A crossing of `extra` is guarded by something beside the schemes, so it needs none. Refused with
+/// E603 where the net has too many crossings.
 pub fn audit_with<E: Extra>(
-    _alloc: Global,
-    _net: &Net,
-    _domains: &Domains,
-    _extra: &E,
+    alloc: Global,
+    net: &Net,
+    domains: &Domains,
+    extra: &E,
 ) -> Result<Verdict, Stop> {
-    Err(Stop::Memory)
+    let crossings = crossings::find(alloc, net, domains)?;
+    let syncs = two_flop::syncs(alloc, net, domains, crossings.as_slice())?;
+    let grays = gray_pointer::gray_regs(alloc, net, domains)?;
+    let rings = handshake::rings(alloc, net, domains, syncs.as_slice())?;
+    let guards = Guards::find(alloc, net, domains, crossings.as_slice(), rings.as_slice())?;
+    let loads = guards.loads(alloc, crossings.as_slice())?;
+    let found = Found {
+        net,
+        domains,
+        crossings: crossings.as_slice(),
+        syncs: syncs.as_slice(),
+        grays: grays.as_slice(),
+        guards: &guards,
+        loads: loads.as_slice(),
+    };
+    let covers = covers(alloc, &found)?;
+    let findings = findings(alloc, &found, covers.as_slice(), extra.covers())?;
+    Ok(Verdict {
+        crossings,
+        grays,
+        rings,
+        covers,
+        findings,
+    })
 }
 
 /// The verdict on the net.

@@ -1,14 +1,23 @@
 //! The lines of a finding.
+ghost use Rattle.std.specs.Prelude.{◌≡◌, ◌++◌, map, IfOk};
+ghost use Rattle.std.specs.List.{flat_map};
+ghost use Rattle.std.specs.Fmt.{decimal};
+ghost use Rattle.report.specs.Findings.{crossing_text, lack_text, word_text, entry_text, sources_below, ring_number, node_step, path_text, flop_text, arrival_text, code_text};
+
 use crate::names::{add_bit, add_group, add_node, add_signal};
 use crate::text::Text;
+use cdc_base::limits::MAX_WIDTH;
 use cdc_base::{Bit, List, NoMemory};
+use cdc_model::view::settle_of;
 use cdc_model::{Arrival, Crossing, Finding};
 use cell_graph::{Net, Node};
 use domains::Domains;
 use std::alloc::Global;
 
 /// The number of the violation, behind its `V`.
-pub fn code_of(finding: &Finding) -> &'static str {
+pub fn code_of(finding: &Finding) -> &'static str
+    ensures { result.now ≡ code_text finding.now }
+{
     match finding {
         Finding::V1 { .. } => "V1",
         Finding::V2 { .. } => "V2",
@@ -21,22 +30,18 @@ pub fn code_of(finding: &Finding) -> &'static str {
     }
 }
 
-fn add_crossing(text: &mut Text, net: &Net, from: Bit, to: Bit) -> Result<(), NoMemory> {
+pub fn add_crossing(text: &mut Text, net: &Net, from: Bit, to: Bit) -> Result<(), NoMemory>
+    ensures { IfOk result (λ _. text.new ≡ text.old ++ crossing_text net.now from to) }
+{
     add_bit(text, net, from)?;
     text.add(" -> ")?;
     add_bit(text, net, to)
 }
 
-/// What a copy without a synchronizer lacks: the flops that its clock's settling needs.
-fn add_lack(text: &mut Text, domains: &Domains, to: Bit) -> Result<(), NoMemory> {
-    let settle = match domains.clock_of(to) {
-        Some(clock) => domains
-            .clocks
-            .as_slice()
-            .get(clock as usize)
-            .map_or(1, |pin| pin.settle),
-        None => 1,
-    };
+/// Adds what a copy without a synchronizer lacks: the flops that its clock's settling needs.
+fn add_lack(text: &mut Text, settle: u8) -> Result<(), NoMemory>
+    ensures { IfOk result (λ _. text.new ≡ text.old ++ lack_text settle) }
+{
     if settle < 2 {
         return text.add(": no second flop");
     }
@@ -53,7 +58,9 @@ fn add_word(
     word: u32,
     group: u32,
     flops: &[Crossing],
-) -> Result<(), NoMemory> {
+) -> Result<(), NoMemory>
+    ensures { IfOk result (λ _. text.new ≡ text.old ++ word_text net.now domains.now word group flops.now) }
+{
     add_entry(text, net, domains, word, group)?;
     text.add(": ")?;
     text.add_number(u64::from(count_sources(flops)))?;
@@ -67,22 +74,30 @@ fn add_entry(
     domains: &Domains,
     word: u32,
     group: u32,
-) -> Result<(), NoMemory> {
+) -> Result<(), NoMemory>
+    ensures { IfOk result (λ _. text.new ≡ text.old ++ entry_text net.now domains.now word group) }
+{
     add_signal(text, net, word)?;
     text.add(" -> ")?;
     add_group(text, domains, group)
 }
 
 /// How many bits of one word the flops copy.
-fn count_sources(flops: &[Crossing]) -> u32 {
-    let mut sources = 0u64;
-    for flop in flops {
-        sources |= 1u64.checked_shl(u32::from(flop.from.at)).unwrap_or(0);
+fn count_sources(flops: &[Crossing]) -> u32
+    ensures { result ≡ sources_below flops.now 64 }
+{
+    let mut count = 0;
+    for at in 0..MAX_WIDTH {
+        if flops.iter().any(|flop| flop.from.at == at) {
+            count += 1;
+        }
     }
-    sources.count_ones()
+    count
 }
 
-fn add_ring(text: &mut Text, what: &str, ring: u64) -> Result<(), NoMemory> {
+fn add_ring(text: &mut Text, what: &str, ring: u64) -> Result<(), NoMemory>
+    ensures { IfOk result (λ _. text.new ≡ text.old ++ what.now ++ decimal (ring_number ring)) }
+{
     text.add(what)?;
     text.add_number(ring.saturating_add(1))
 }
@@ -104,7 +119,7 @@ pub fn first_line(
         }
         Finding::V2 { from, to, .. } => {
             add_crossing(&mut text, net, *from, *to)?;
-            add_lack(&mut text, domains, *to)?;
+            add_lack(&mut text, settle_of(domains, *to))?;
         }
         Finding::V3 { word, group, flops } => {
             add_word(&mut text, net, domains, *word, *group, flops.as_slice())?;
@@ -136,25 +151,38 @@ pub fn first_line(
     Ok(text.into_list())
 }
 
-fn path_line(alloc: Global, net: &Net, to: Bit, path: &[Node]) -> Result<List<u8>, NoMemory> {
+fn add_nodes(text: &mut Text, net: &Net, path: &[Node]) -> Result<(), NoMemory>
+    ensures { IfOk result (λ _. text.new ≡ text.old ++ flat_map (node_step net.now) path.now) }
+{
+    for node in path {
+        text.add(" <- ")?;
+        add_node(text, net, *node)?;
+    }
+    Ok(())
+}
+
+fn path_line(alloc: Global, net: &Net, to: Bit, path: &[Node]) -> Result<List<u8>, NoMemory>
+    ensures { IfOk result (λ line. line ≡ path_text net.now to path.now) }
+{
     let mut text = Text::new(alloc);
     text.add("  path ")?;
     add_bit(&mut text, net, to)?;
-    for node in path {
-        text.add(" <- ")?;
-        add_node(&mut text, net, *node)?;
-    }
+    add_nodes(&mut text, net, path)?;
     Ok(text.into_list())
 }
 
-fn flop_line(alloc: Global, net: &Net, flop: &Crossing) -> Result<List<u8>, NoMemory> {
+fn flop_line(alloc: Global, net: &Net, flop: &Crossing) -> Result<List<u8>, NoMemory>
+    ensures { IfOk result (λ line. line ≡ flop_text net.now flop.now) }
+{
     let mut text = Text::new(alloc);
     text.add("  flop ")?;
     add_crossing(&mut text, net, flop.from, flop.to)?;
     Ok(text.into_list())
 }
 
-fn arrival_line(alloc: Global, net: &Net, arrival: &Arrival) -> Result<List<u8>, NoMemory> {
+fn arrival_line(alloc: Global, net: &Net, arrival: &Arrival) -> Result<List<u8>, NoMemory>
+    ensures { IfOk result (λ line. line ≡ arrival_text net.now arrival.now) }
+{
     let mut text = Text::new(alloc);
     text.add("  arrival ")?;
     add_bit(&mut text, net, arrival.bit)?;
@@ -170,7 +198,9 @@ fn add_flop_lines(
     net: &Net,
     lines: &mut List<List<u8>>,
     flops: &[Crossing],
-) -> Result<(), NoMemory> {
+) -> Result<(), NoMemory>
+    ensures { IfOk result (λ _. lines.new ≡ lines.old ++ map (flop_text net.now) flops.now) }
+{
     for flop in flops {
         lines.push(flop_line(alloc, net, flop)?)?;
     }
@@ -182,7 +212,9 @@ fn add_arrival_lines(
     net: &Net,
     lines: &mut List<List<u8>>,
     arrivals: &[Arrival],
-) -> Result<(), NoMemory> {
+) -> Result<(), NoMemory>
+    ensures { IfOk result (λ _. lines.new ≡ lines.old ++ map (arrival_text net.now) arrivals.now) }
+{
     for arrival in arrivals {
         lines.push(arrival_line(alloc, net, arrival)?)?;
     }

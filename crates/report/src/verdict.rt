@@ -1,5 +1,10 @@
 //! The verdict as text.
-use crate::names::{add_bit, add_bits, add_signal};
+ghost use Rattle.std.specs.Prelude.{◌≡◌, ◌++◌, IfOk};
+ghost use Rattle.std.specs.List.{flat_map};
+ghost use Rattle.report.specs.Verdicts.{ring_lines, shape_text, gray_text, gray_line, scheme_text, number_of, cover_line, line, counted, sum_line};
+
+use crate::finding::add_crossing;
+use crate::names::{add_bits, add_signal};
 use crate::text::Text;
 use crate::waivers::{all_lines, count_waived, reason_at};
 use cdc_base::{List, NoMemory};
@@ -9,7 +14,9 @@ use clock_constraints::Waiver;
 use domains::Domains;
 use std::alloc::Global;
 
-fn add_rings(text: &mut Text, net: &Net, rings: &[Ring]) -> Result<(), NoMemory> {
+fn add_rings(text: &mut Text, net: &Net, rings: &[Ring]) -> Result<(), NoMemory>
+    ensures { IfOk result (λ _. text.new ≡ text.old ++ ring_lines net.now 0 rings.now) }
+{
     for (place, ring) in rings.iter().enumerate() {
         text.add("ring ")?;
         text.add_number((place as u64).saturating_add(1))?;
@@ -20,7 +27,9 @@ fn add_rings(text: &mut Text, net: &Net, rings: &[Ring]) -> Result<(), NoMemory>
     Ok(())
 }
 
-fn shape_name(shape: Shape) -> &'static str {
+fn shape_name(shape: Shape) -> &'static str
+    ensures { result.now ≡ shape_text shape }
+{
     match shape {
         Shape::G1 => "G1",
         Shape::G2 => "G2",
@@ -29,7 +38,9 @@ fn shape_name(shape: Shape) -> &'static str {
 }
 
 /// Adds the line of a Gray register, without a line feed.
-pub fn add_gray(text: &mut Text, net: &Net, gray: &GrayReg) -> Result<(), NoMemory> {
+pub fn add_gray(text: &mut Text, net: &Net, gray: &GrayReg) -> Result<(), NoMemory>
+    ensures { IfOk result (λ _. text.new ≡ text.old ++ gray_text net.now gray.now) }
+{
     text.add("gray ")?;
     add_signal(text, net, gray.gray)?;
     text.add(" of ")?;
@@ -38,7 +49,9 @@ pub fn add_gray(text: &mut Text, net: &Net, gray: &GrayReg) -> Result<(), NoMemo
     text.add(shape_name(gray.shape))
 }
 
-fn add_grays(text: &mut Text, net: &Net, grays: &[GrayReg]) -> Result<(), NoMemory> {
+fn add_grays(text: &mut Text, net: &Net, grays: &[GrayReg]) -> Result<(), NoMemory>
+    ensures { IfOk result (λ _. text.new ≡ text.old ++ flat_map (gray_line net.now) grays.now) }
+{
     for gray in grays {
         add_gray(text, net, gray)?;
         text.add("\n")?;
@@ -46,7 +59,9 @@ fn add_grays(text: &mut Text, net: &Net, grays: &[GrayReg]) -> Result<(), NoMemo
     Ok(())
 }
 
-pub fn scheme_name(scheme: Scheme) -> &'static str {
+pub fn scheme_name(scheme: Scheme) -> &'static str
+    ensures { result.now ≡ scheme_text scheme }
+{
     match scheme {
         Scheme::TwoFlop { .. } => "two-flop",
         Scheme::Gray { .. } => "gray",
@@ -56,18 +71,20 @@ pub fn scheme_name(scheme: Scheme) -> &'static str {
 }
 
 /// How many flops a synchronizer has, or the number of a ring, counted from 1.
-pub fn scheme_number(scheme: Scheme) -> u64 {
+pub fn scheme_number(scheme: Scheme) -> u64
+    ensures { result ≡ number_of scheme }
+{
     match scheme {
         Scheme::TwoFlop { stages } | Scheme::Gray { stages } => u64::from(stages),
         Scheme::Handshake { ring } | Scheme::Recirc { ring } => ring.saturating_add(1),
     }
 }
 
-fn add_cover(text: &mut Text, net: &Net, cover: &Cover) -> Result<(), NoMemory> {
+fn add_cover(text: &mut Text, net: &Net, cover: &Cover) -> Result<(), NoMemory>
+    ensures { IfOk result (λ _. text.new ≡ text.old ++ cover_line net.now cover.now) }
+{
     text.add("cover ")?;
-    add_bit(text, net, cover.from)?;
-    text.add(" -> ")?;
-    add_bit(text, net, cover.to)?;
+    add_crossing(text, net, cover.from, cover.to)?;
     text.add(" ")?;
     text.add(scheme_name(cover.scheme))?;
     text.add(" ")?;
@@ -75,14 +92,18 @@ fn add_cover(text: &mut Text, net: &Net, cover: &Cover) -> Result<(), NoMemory> 
     text.add("\n")
 }
 
-fn add_covers(text: &mut Text, net: &Net, covers: &[Cover]) -> Result<(), NoMemory> {
+fn add_covers(text: &mut Text, net: &Net, covers: &[Cover]) -> Result<(), NoMemory>
+    ensures { IfOk result (λ _. text.new ≡ text.old ++ flat_map (cover_line net.now) covers.now) }
+{
     for cover in covers {
         add_cover(text, net, cover)?;
     }
     Ok(())
 }
 
-fn add_lines(text: &mut Text, lines: &[List<u8>]) -> Result<(), NoMemory> {
+fn add_lines(text: &mut Text, lines: &[List<u8>]) -> Result<(), NoMemory>
+    ensures { IfOk result (λ _. text.new ≡ text.old ++ flat_map line lines.now) }
+{
     for line in lines {
         text.add_bytes(line.as_slice())?;
         text.add("\n")?;
@@ -111,25 +132,31 @@ fn add_findings(
     Ok(())
 }
 
+/// Adds a count, where it isn't 0.
+fn add_count(text: &mut Text, word: &str, count: usize) -> Result<(), NoMemory>
+    ensures { IfOk result (λ _. text.new ≡ text.old ++ counted word.now count) }
+{
+    if count == 0 {
+        return Ok(());
+    }
+    text.add(word)?;
+    text.add_number(count as u64)?;
+    text.add(" ")
+}
+
 fn add_sum(
     text: &mut Text,
     findings: usize,
     waived: usize,
     crossings: usize,
-) -> Result<(), NoMemory> {
+) -> Result<(), NoMemory>
+    ensures { IfOk result (λ _. text.new ≡ text.old ++ sum_line findings waived crossings) }
+{
     if findings == 0 {
         text.add("clean ")?;
     }
-    if findings > waived {
-        text.add("violations=")?;
-        text.add_number((findings - waived) as u64)?;
-        text.add(" ")?;
-    }
-    if waived > 0 {
-        text.add("waived=")?;
-        text.add_number(waived as u64)?;
-        text.add(" ")?;
-    }
+    add_count(text, "violations=", findings.saturating_sub(waived))?;
+    add_count(text, "waived=", waived)?;
     text.add("crossings=")?;
     text.add_number(crossings as u64)?;
     text.add("\n")
