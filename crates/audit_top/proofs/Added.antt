@@ -12,7 +12,7 @@ pub front_added : (a b c : Option (List ℕ)) (done line rest text : List ℕ) �
 front_added a b c done line rest text whole first (front, left, is, second) =
     let pieces : (done ++ front) ++ (left ++ rest) ≡ text
     = append_assoc done front (left ++ rest)
-        ∙ ap (λ w. done ++ w) (sym (append_assoc front left rest) ∙ ap (λ w. w ++ rest) is) ∙ whole in
+    ∙ ap (λ w. done ++ w) (sym (append_assoc front left rest) ∙ ap (λ w. w ++ rest) is) ∙ whole in
     (done ++ front, left ++ rest, pieces, added_twice a b c done front first second)
 
 -- a whole piece was added, and this is left

@@ -27,8 +27,13 @@ module _ (words : List Text) (before now : Seen) (s : Status) (text slice : Text
   run_done added = record {
     asks = asks;
     unwritten = λ e. absurd (never_unwritten before now text (subst (λ (x : Status). IsText before now x text) e is_answer.fits));
-    answer = inl (s, text, is_answer, written_whole before now s text out_before.written out_now.written is_answer.fits
-        (subst (λ (t : Text). IsAdded out_before.written t out_now.written) is added));
+    answer = inl (
+      s,
+      text,
+      is_answer,
+      written_whole before now s text out_before.written out_now.written is_answer.fits
+          (subst (λ (t : Text). IsAdded out_before.written t out_now.written) is added),
+    );
   }
 
   pub run_unwritten : Rose out_before.faults out_now.faults → IsFrontAdded out_before.written slice out_now.written

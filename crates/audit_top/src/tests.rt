@@ -80,9 +80,14 @@ always @(posedge cb) begin s1 <= a & en; s2 <= s1; end
 assign q = s2;
 endmodule
 ";
-    let one_clock = "module m(input ca, cb, d, output q); reg r; always @(posedge ca) r <= d; assign q = r; endmodule";
+    let one_clock =
+        "module m(input ca, cb, d, output q); reg r; always @(posedge ca) r <= d; assign q = r; endmodule";
     for (net, inputs, wanted) in [
-        (TWO_FLOPS, "d", "cover a -> s1 two-flop 2\nclean crossings=1\n0"),
+        (
+            TWO_FLOPS,
+            "d",
+            "cover a -> s1 two-flop 2\nclean crossings=1\n0",
+        ),
         (one_clock, "d", "clean crossings=0\n0"),
         (one_clock, "", "error E405: input not declared: d\n4"),
         ("", "d", "error E301: no top module: m\n3"),
@@ -113,17 +118,38 @@ endmodule
 fn words_and_devices_are_answered(rt: HostRuntime) -> Result<(), Fail> {
     let alloc = rt.alloc();
     let usage = "usage: cdcaudit audit [--json] NET CON | selftest N\n2";
-    let json = "{\"clean\":true,\"covers\":[{\"from\":\"a\",\"n\":2,\"scheme\":\"two-flop\",\"to\":\"s1\"}],\"crossings\":1,\"findings\":[],\"gray\":[],\"rings\":[]}\n0";
+    let json =
+        "{\"clean\":true,\"covers\":[{\"from\":\"a\",\"n\":2,\"scheme\":\"two-flop\",\"to\":\"s1\"}],\"crossings\":1,\"findings\":[],\"gray\":[],\"rings\":[]}\n0";
     for (words, reads, puts, wanted) in [
         ("audit net.v", 0, 0, usage),
         ("selftest 501", 0, 0, usage),
         ("audit --json net.v con.toml", 0, 0, json),
-        ("audit net.v other.toml", 0, 0, "error E001: cannot read: other.toml\n6"),
-        ("audit net.v con.toml", 1, 0, "error E001: cannot read: net.v\n6"),
-        ("audit net.v con.toml", 2, 0, "error E001: cannot read: con.toml\n6"),
+        (
+            "audit net.v other.toml",
+            0,
+            0,
+            "error E001: cannot read: other.toml\n6",
+        ),
+        (
+            "audit net.v con.toml",
+            1,
+            0,
+            "error E001: cannot read: net.v\n6",
+        ),
+        (
+            "audit net.v con.toml",
+            2,
+            0,
+            "error E001: cannot read: con.toml\n6",
+        ),
         ("audit net.v con.toml", 0, 1, "7"),
         ("audit net.v con.toml", 0, 2, "cover a -> s1 two-flop 2\n7"),
-        ("selftest 1", 0, 0, "selftest channels=1 bits=31 crossings=10 rings=1 clean\n0"),
+        (
+            "selftest 1",
+            0,
+            0,
+            "selftest channels=1 bits=31 crossings=10 rings=1 clean\n0",
+        ),
     ] {
         let answer = answered(alloc, words, TWO_FLOPS, "d", (&[reads], &[puts]))?;
         assert_eq!(rt; answer.as_str(), wanted, "{words} {reads} {puts}");

@@ -15,6 +15,3 @@ pub use graph::Graph;
 pub use laws::cofactors_are_sound;
 pub use net::{Cofactors, Net, Reg};
 pub use values::Values;
-
-#[cfg(test)]
-mod tests;

@@ -6,8 +6,6 @@ mod entry;
 mod file;
 mod names;
 pub mod refusal;
-#[cfg(test)]
-mod tests;
 mod value;
 
 use cdc_base::{List, Name, ResetPin};

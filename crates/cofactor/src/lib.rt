@@ -11,6 +11,3 @@ pub use cube::{Cube, Fixed};
 pub use masks::Masks;
 pub use nodes::{Plain, known, origin, reads, same};
 pub use table::Table;
-
-#[cfg(test)]
-mod tests;

@@ -6,8 +6,6 @@ mod group;
 mod port;
 mod register;
 mod table;
-#[cfg(test)]
-mod tests;
 
 pub use assignment::assign;
 use cdc_base::{Bit, List, Name};

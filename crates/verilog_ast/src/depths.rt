@@ -24,7 +24,7 @@ pub fn depth(source: &Source) -> u32
 }
 
 fn depth_of_module(module: &Module) -> u32
-    ensures { result ≡ capped (module_depth module.now) }
+    ensures { result ≡ capped (module_depth «module».now) }
 {
     deepest_param(module.params.as_slice())
         .max(deepest_port(module.ports.as_slice()))

@@ -9,7 +9,7 @@ returns-in-Ok-write_lines g c =
 pub returns-in-Err-Failed : goal.returns-in-Err-Failed
 returns-in-Err-Failed g c =
     run_unwritten _ _ _ _ _ _ _ _ c.answer.ensures.asks c.in-Ok.ensures.answered c.as_slice.ensures
-        (c.write_lines.ensures.failed (rw c.in-Err-Failed.field-0-is at c.in-Err-Failed.is)) c.in-Err-Failed.ensures.front
+    (c.write_lines.ensures.failed (rw c.in-Err-Failed.field-0-is at c.in-Err-Failed.is)) c.in-Err-Failed.ensures.front
 
 pub returns : goal.returns
 returns g c =
