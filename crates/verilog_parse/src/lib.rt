@@ -37,6 +37,3 @@ pub fn print(alloc: Global, source: &Source) -> Result<List<u8>, NoMemory> {
     text::module::put_source(alloc, &mut out, source)?;
     Ok(List::from_vec(out))
 }
-
-#[cfg(test)]
-mod tests;
