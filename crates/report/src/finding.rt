@@ -1,23 +1,14 @@
 //! The lines of a finding.
-ghost use Rattle.std.specs.Prelude.{◌≡◌, ◌++◌, map, IfOk};
-ghost use Rattle.std.specs.List.{flat_map};
-ghost use Rattle.std.specs.Fmt.{decimal};
-ghost use Rattle.report.specs.Findings.{crossing_text, lack_text, word_text, entry_text, sources_below, ring_number, node_step, path_text, flop_text, arrival_text, code_text};
-
 use crate::names::{add_bit, add_group, add_node, add_signal};
 use crate::text::Text;
-use cdc_base::limits::MAX_WIDTH;
 use cdc_base::{Bit, List, NoMemory};
-use cdc_model::view::settle_of;
 use cdc_model::{Arrival, Crossing, Finding};
 use cell_graph::{Net, Node};
 use domains::Domains;
 use std::alloc::Global;
 
 /// The number of the violation, behind its `V`.
-pub fn code_of(finding: &Finding) -> &'static str
-    ensures { result.now ≡ code_text finding.now }
-{
+pub fn code_of(finding: &Finding) -> &'static str {
     match finding {
         Finding::V1 { .. } => "V1",
         Finding::V2 { .. } => "V2",
@@ -30,18 +21,22 @@ pub fn code_of(finding: &Finding) -> &'static str
     }
 }
 
-pub fn add_crossing(text: &mut Text, net: &Net, from: Bit, to: Bit) -> Result<(), NoMemory>
-    ensures { IfOk result (λ _. text.new ≡ text.old ++ crossing_text net.now from to) }
-{
+fn add_crossing(text: &mut Text, net: &Net, from: Bit, to: Bit) -> Result<(), NoMemory> {
     add_bit(text, net, from)?;
     text.add(" -> ")?;
     add_bit(text, net, to)
 }
 
-/// Adds what a copy without a synchronizer lacks: the flops that its clock's settling needs.
-fn add_lack(text: &mut Text, settle: u8) -> Result<(), NoMemory>
-    ensures { IfOk result (λ _. text.new ≡ text.old ++ lack_text settle) }
-{
+/// What a copy without a synchronizer lacks: the flops that its clock's settling needs.
+fn add_lack(text: &mut Text, domains: &Domains, to: Bit) -> Result<(), NoMemory> {
+    let settle = match domains.clock_of(to) {
+        Some(clock) => domains
+            .clocks
+            .as_slice()
+            .get(clock as usize)
+            .map_or(1, |pin| pin.settle),
+        None => 1,
+    };
     if settle < 2 {
         return text.add(": no second flop");
     }
@@ -58,9 +53,7 @@ fn add_word(
     word: u32,
     group: u32,
     flops: &[Crossing],
-) -> Result<(), NoMemory>
-    ensures { IfOk result (λ _. text.new ≡ text.old ++ word_text net.now domains.now word group flops.now) }
-{
+) -> Result<(), NoMemory> {
     add_entry(text, net, domains, word, group)?;
     text.add(": ")?;
     text.add_number(u64::from(count_sources(flops)))?;
@@ -74,30 +67,22 @@ fn add_entry(
     domains: &Domains,
     word: u32,
     group: u32,
-) -> Result<(), NoMemory>
-    ensures { IfOk result (λ _. text.new ≡ text.old ++ entry_text net.now domains.now word group) }
-{
+) -> Result<(), NoMemory> {
     add_signal(text, net, word)?;
     text.add(" -> ")?;
     add_group(text, domains, group)
 }
 
 /// How many bits of one word the flops copy.
-fn count_sources(flops: &[Crossing]) -> u32
-    ensures { result ≡ sources_below flops.now 64 }
-{
-    let mut count = 0;
-    for at in 0..MAX_WIDTH {
-        if flops.iter().any(|flop| flop.from.at == at) {
-            count += 1;
-        }
+fn count_sources(flops: &[Crossing]) -> u32 {
+    let mut sources = 0u64;
+    for flop in flops {
+        sources |= 1u64.checked_shl(u32::from(flop.from.at)).unwrap_or(0);
     }
-    count
+    sources.count_ones()
 }
 
-fn add_ring(text: &mut Text, what: &str, ring: u64) -> Result<(), NoMemory>
-    ensures { IfOk result (λ _. text.new ≡ text.old ++ what.now ++ decimal (ring_number ring)) }
-{
+fn add_ring(text: &mut Text, what: &str, ring: u64) -> Result<(), NoMemory> {
     text.add(what)?;
     text.add_number(ring.saturating_add(1))
 }
@@ -119,7 +104,7 @@ pub fn first_line(
         }
         Finding::V2 { from, to, .. } => {
             add_crossing(&mut text, net, *from, *to)?;
-            add_lack(&mut text, settle_of(domains, *to))?;
+            add_lack(&mut text, domains, *to)?;
         }
         Finding::V3 { word, group, flops } => {
             add_word(&mut text, net, domains, *word, *group, flops.as_slice())?;
@@ -151,38 +136,25 @@ pub fn first_line(
     Ok(text.into_list())
 }
 
-fn add_nodes(text: &mut Text, net: &Net, path: &[Node]) -> Result<(), NoMemory>
-    ensures { IfOk result (λ _. text.new ≡ text.old ++ flat_map (node_step net.now) path.now) }
-{
-    for node in path {
-        text.add(" <- ")?;
-        add_node(text, net, *node)?;
-    }
-    Ok(())
-}
-
-fn path_line(alloc: Global, net: &Net, to: Bit, path: &[Node]) -> Result<List<u8>, NoMemory>
-    ensures { IfOk result (λ line. line ≡ path_text net.now to path.now) }
-{
+fn path_line(alloc: Global, net: &Net, to: Bit, path: &[Node]) -> Result<List<u8>, NoMemory> {
     let mut text = Text::new(alloc);
     text.add("  path ")?;
     add_bit(&mut text, net, to)?;
-    add_nodes(&mut text, net, path)?;
+    for node in path {
+        text.add(" <- ")?;
+        add_node(&mut text, net, *node)?;
+    }
     Ok(text.into_list())
 }
 
-fn flop_line(alloc: Global, net: &Net, flop: &Crossing) -> Result<List<u8>, NoMemory>
-    ensures { IfOk result (λ line. line ≡ flop_text net.now flop.now) }
-{
+fn flop_line(alloc: Global, net: &Net, flop: &Crossing) -> Result<List<u8>, NoMemory> {
     let mut text = Text::new(alloc);
     text.add("  flop ")?;
     add_crossing(&mut text, net, flop.from, flop.to)?;
     Ok(text.into_list())
 }
 
-fn arrival_line(alloc: Global, net: &Net, arrival: &Arrival) -> Result<List<u8>, NoMemory>
-    ensures { IfOk result (λ line. line ≡ arrival_text net.now arrival.now) }
-{
+fn arrival_line(alloc: Global, net: &Net, arrival: &Arrival) -> Result<List<u8>, NoMemory> {
     let mut text = Text::new(alloc);
     text.add("  arrival ")?;
     add_bit(&mut text, net, arrival.bit)?;
@@ -198,9 +170,7 @@ fn add_flop_lines(
     net: &Net,
     lines: &mut List<List<u8>>,
     flops: &[Crossing],
-) -> Result<(), NoMemory>
-    ensures { IfOk result (λ _. lines.new ≡ lines.old ++ map (flop_text net.now) flops.now) }
-{
+) -> Result<(), NoMemory> {
     for flop in flops {
         lines.push(flop_line(alloc, net, flop)?)?;
     }
@@ -212,9 +182,7 @@ fn add_arrival_lines(
     net: &Net,
     lines: &mut List<List<u8>>,
     arrivals: &[Arrival],
-) -> Result<(), NoMemory>
-    ensures { IfOk result (λ _. lines.new ≡ lines.old ++ map (arrival_text net.now) arrivals.now) }
-{
+) -> Result<(), NoMemory> {
     for arrival in arrivals {
         lines.push(arrival_line(alloc, net, arrival)?)?;
     }

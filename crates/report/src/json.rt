@@ -1,10 +1,6 @@
 //! The verdict as JSON: one compact object, its keys in the order of their bytes.
-ghost use Rattle.std.specs.Prelude.{◌≡◌, ◌++◌, IfOk};
-ghost use Rattle.std.specs.List.{flat_map};
-ghost use Rattle.report.specs.Json.{escaped, string_json, list_json, bit_json, cover_json, gray_json, ring_json};
-
 use crate::finding::code_of;
-use crate::names::{add_bit, add_separator};
+use crate::names::add_bit;
 use crate::text::Text;
 use crate::verdict::{add_gray, scheme_name, scheme_number};
 use crate::waivers::{all_lines, count_waived, reason_at};
@@ -15,10 +11,16 @@ use clock_constraints::Waiver;
 use domains::Domains;
 use std::alloc::Global;
 
+fn hex_digit(value: u8) -> u8 {
+    match value {
+        0..=9 => b'0' + value,
+        10..=15 => b'a' + (value - 10),
+        _ => b'0',
+    }
+}
+
 /// Adds a byte of a string. Quotes, backslashes and control bytes are escaped.
-fn add_escaped(text: &mut Text, byte: u8) -> Result<(), NoMemory>
-    ensures { IfOk result (λ _. text.new ≡ text.old ++ escaped byte) }
-{
+fn add_escaped(text: &mut Text, byte: u8) -> Result<(), NoMemory> {
     match byte {
         b'"' => text.add("\\\""),
         b'\\' => text.add("\\\\"),
@@ -29,41 +31,35 @@ fn add_escaped(text: &mut Text, byte: u8) -> Result<(), NoMemory>
         13 => text.add("\\r"),
         0..=31 => {
             text.add("\\u00")?;
-            text.add_hex_digit(byte / 16)?;
-            text.add_hex_digit(byte)
+            text.add_bytes(&[hex_digit(byte / 16), hex_digit(byte % 16)])
         }
         _ => text.add_byte(byte),
     }
 }
 
-fn add_all_escaped(text: &mut Text, bytes: &[u8]) -> Result<(), NoMemory>
-    ensures { IfOk result (λ _. text.new ≡ text.old ++ flat_map escaped bytes.now) }
-{
+fn add_string(text: &mut Text, bytes: &[u8]) -> Result<(), NoMemory> {
+    text.add("\"")?;
     for byte in bytes {
         add_escaped(text, *byte)?;
+    }
+    text.add("\"")
+}
+
+/// Adds the comma between entries, before each but the first.
+fn add_comma(text: &mut Text, place: usize) -> Result<(), NoMemory> {
+    if place > 0 {
+        text.add(",")?;
     }
     Ok(())
 }
 
-fn add_string(text: &mut Text, bytes: &[u8]) -> Result<(), NoMemory>
-    ensures { IfOk result (λ _. text.new ≡ text.old ++ string_json bytes.now) }
-{
-    text.add("\"")?;
-    add_all_escaped(text, bytes)?;
-    text.add("\"")
-}
-
-fn add_bit_string(text: &mut Text, net: &Net, bit: Bit) -> Result<(), NoMemory>
-    ensures { IfOk result (λ _. text.new ≡ text.old ++ bit_json net.now bit) }
-{
+fn add_bit_string(text: &mut Text, net: &Net, bit: Bit) -> Result<(), NoMemory> {
     let mut name = Text::new(text.alloc());
     add_bit(&mut name, net, bit)?;
     add_string(text, name.as_slice())
 }
 
-fn add_cover(text: &mut Text, net: &Net, cover: &Cover) -> Result<(), NoMemory>
-    ensures { IfOk result (λ _. text.new ≡ text.old ++ cover_json net.now cover.now) }
-{
+fn add_cover(text: &mut Text, net: &Net, cover: &Cover) -> Result<(), NoMemory> {
     text.add("{\"from\":")?;
     add_bit_string(text, net, cover.from)?;
     text.add(",\"n\":")?;
@@ -75,34 +71,28 @@ fn add_cover(text: &mut Text, net: &Net, cover: &Cover) -> Result<(), NoMemory>
     text.add("}")
 }
 
-fn add_covers(text: &mut Text, net: &Net, covers: &[Cover]) -> Result<(), NoMemory>
-    ensures { IfOk result (λ _. text.new ≡ text.old ++ list_json (cover_json net.now) covers.now) }
-{
+fn add_covers(text: &mut Text, net: &Net, covers: &[Cover]) -> Result<(), NoMemory> {
     text.add("[")?;
     for (place, cover) in covers.iter().enumerate() {
-        add_separator(text, ",", place)?;
+        add_comma(text, place)?;
         add_cover(text, net, cover)?;
     }
     text.add("]")
 }
 
-fn add_names(text: &mut Text, names: &[Name]) -> Result<(), NoMemory>
-    ensures { IfOk result (λ _. text.new ≡ text.old ++ list_json string_json names.now) }
-{
+fn add_names(text: &mut Text, names: &[Name]) -> Result<(), NoMemory> {
     text.add("[")?;
     for (place, name) in names.iter().enumerate() {
-        add_separator(text, ",", place)?;
+        add_comma(text, place)?;
         add_string(text, name.as_bytes())?;
     }
     text.add("]")
 }
 
-fn add_lines(text: &mut Text, lines: &[List<u8>]) -> Result<(), NoMemory>
-    ensures { IfOk result (λ _. text.new ≡ text.old ++ list_json string_json lines.now) }
-{
+fn add_lines(text: &mut Text, lines: &[List<u8>]) -> Result<(), NoMemory> {
     text.add("[")?;
     for (place, line) in lines.iter().enumerate() {
-        add_separator(text, ",", place)?;
+        add_comma(text, place)?;
         add_string(text, line.as_slice())?;
     }
     text.add("]")
@@ -133,7 +123,7 @@ fn add_findings(
 ) -> Result<(), NoMemory> {
     text.add("[")?;
     for (place, finding) in findings.iter().enumerate() {
-        add_separator(text, ",", place)?;
+        add_comma(text, place)?;
         add_finding(
             text,
             net,
@@ -145,42 +135,34 @@ fn add_findings(
     text.add("]")
 }
 
-fn add_gray_string(text: &mut Text, net: &Net, gray: &GrayReg) -> Result<(), NoMemory>
-    ensures { IfOk result (λ _. text.new ≡ text.old ++ gray_json net.now gray.now) }
-{
+fn add_gray_string(text: &mut Text, net: &Net, gray: &GrayReg) -> Result<(), NoMemory> {
     let mut line = Text::new(text.alloc());
     add_gray(&mut line, net, gray)?;
     add_string(text, line.as_slice())
 }
 
-fn add_grays(text: &mut Text, net: &Net, grays: &[GrayReg]) -> Result<(), NoMemory>
-    ensures { IfOk result (λ _. text.new ≡ text.old ++ list_json (gray_json net.now) grays.now) }
-{
+fn add_grays(text: &mut Text, net: &Net, grays: &[GrayReg]) -> Result<(), NoMemory> {
     text.add("[")?;
     for (place, gray) in grays.iter().enumerate() {
-        add_separator(text, ",", place)?;
+        add_comma(text, place)?;
         add_gray_string(text, net, gray)?;
     }
     text.add("]")
 }
 
-fn add_ring(text: &mut Text, net: &Net, bits: &[Bit]) -> Result<(), NoMemory>
-    ensures { IfOk result (λ _. text.new ≡ text.old ++ list_json (bit_json net.now) bits.now) }
-{
+fn add_ring(text: &mut Text, net: &Net, bits: &[Bit]) -> Result<(), NoMemory> {
     text.add("[")?;
     for (place, bit) in bits.iter().enumerate() {
-        add_separator(text, ",", place)?;
+        add_comma(text, place)?;
         add_bit_string(text, net, *bit)?;
     }
     text.add("]")
 }
 
-fn add_rings(text: &mut Text, net: &Net, rings: &[Ring]) -> Result<(), NoMemory>
-    ensures { IfOk result (λ _. text.new ≡ text.old ++ list_json (ring_json net.now) rings.now) }
-{
+fn add_rings(text: &mut Text, net: &Net, rings: &[Ring]) -> Result<(), NoMemory> {
     text.add("[")?;
     for (place, ring) in rings.iter().enumerate() {
-        add_separator(text, ",", place)?;
+        add_comma(text, place)?;
         add_ring(text, net, ring.bits.as_slice())?;
     }
     text.add("]")

@@ -6,8 +6,6 @@ pub mod finding;
 pub mod json;
 pub mod names;
 pub mod replay;
-#[cfg(test)]
-mod tests;
 pub mod text;
 pub mod verdict;
 pub mod waivers;

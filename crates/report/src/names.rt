@@ -1,16 +1,11 @@
 //! Printed names of bits, signals, nodes and groups.
-ghost use Rattle.std.specs.Prelude.{◌≡◌, ◌++◌, codes, IfOk};
-ghost use Rattle.report.specs.Names.{bit_name as bit_name_of, bit_names, signal_name, group_name, kind_name, reduction_name, node_name, before_entry};
-
 use crate::text::Text;
 use cdc_base::signal::bit_name;
 use cdc_base::{Bit, NoMemory};
 use cell_graph::{Cell, Net, Node, ReduceKind};
 use domains::Domains;
 
-pub fn add_bit(text: &mut Text, net: &Net, bit: Bit) -> Result<(), NoMemory>
-    ensures { IfOk result (λ _. text.new ≡ text.old ++ bit_name_of net.now bit) }
-{
+pub fn add_bit(text: &mut Text, net: &Net, bit: Bit) -> Result<(), NoMemory> {
     match net.graph.signals().get(bit.sig as usize) {
         Some(signal) => {
             let name = bit_name(text.alloc(), signal, bit.at)?;
@@ -20,39 +15,25 @@ pub fn add_bit(text: &mut Text, net: &Net, bit: Bit) -> Result<(), NoMemory>
     }
 }
 
-/// Adds what stands between entries of a list, before each entry but the first.
-pub fn add_separator(text: &mut Text, separator: &str, place: usize) -> Result<(), NoMemory>
-    ensures { IfOk result (λ _. text.new ≡ text.old ++ before_entry separator.now place) }
-{
-    if place > 0 {
-        text.add(separator)?;
-    }
-    Ok(())
-}
-
 /// Adds the bits, separated by spaces.
-pub fn add_bits(text: &mut Text, net: &Net, bits: &[Bit]) -> Result<(), NoMemory>
-    ensures { IfOk result (λ _. text.new ≡ text.old ++ bit_names net.now bits.now) }
-{
+pub fn add_bits(text: &mut Text, net: &Net, bits: &[Bit]) -> Result<(), NoMemory> {
     for (place, bit) in bits.iter().enumerate() {
-        add_separator(text, " ", place)?;
+        if place > 0 {
+            text.add(" ")?;
+        }
         add_bit(text, net, *bit)?;
     }
     Ok(())
 }
 
-pub fn add_signal(text: &mut Text, net: &Net, sig: u32) -> Result<(), NoMemory>
-    ensures { IfOk result (λ _. text.new ≡ text.old ++ signal_name net.now sig) }
-{
+pub fn add_signal(text: &mut Text, net: &Net, sig: u32) -> Result<(), NoMemory> {
     match net.graph.signals().get(sig as usize) {
         Some(signal) => text.add(signal.name.as_str()),
         None => Ok(()),
     }
 }
 
-pub fn add_group(text: &mut Text, domains: &Domains, group: u32) -> Result<(), NoMemory>
-    ensures { IfOk result (λ _. text.new ≡ text.old ++ group_name domains.now group) }
-{
+pub fn add_group(text: &mut Text, domains: &Domains, group: u32) -> Result<(), NoMemory> {
     match domains.groups.as_slice().get(group as usize) {
         Some(name) => text.add(name.as_str()),
         None => Ok(()),
@@ -60,9 +41,7 @@ pub fn add_group(text: &mut Text, domains: &Domains, group: u32) -> Result<(), N
 }
 
 /// Adds a bit of a state signal by its name, and a bit of any other cell by the kind of the cell.
-pub fn add_node(text: &mut Text, net: &Net, node: Node) -> Result<(), NoMemory>
-    ensures { IfOk result (λ _. text.new ≡ text.old ++ node_name net.now node) }
-{
+pub fn add_node(text: &mut Text, net: &Net, node: Node) -> Result<(), NoMemory> {
     match net.graph.cell(node.cell) {
         Cell::Var { sig } => add_bit(text, net, Bit { sig, at: node.at }),
         cell => {
@@ -74,9 +53,7 @@ pub fn add_node(text: &mut Text, net: &Net, node: Node) -> Result<(), NoMemory>
     }
 }
 
-fn kind_of(cell: Cell) -> &'static str
-    ensures { result.now ≡ kind_name cell }
-{
+fn kind_of(cell: Cell) -> &'static str {
     match cell {
         Cell::Var { .. } => "Var",
         Cell::Const { .. } => "Const",
@@ -98,9 +75,7 @@ fn kind_of(cell: Cell) -> &'static str
     }
 }
 
-fn reduction(kind: ReduceKind) -> &'static str
-    ensures { result.now ≡ reduction_name kind }
-{
+fn reduction(kind: ReduceKind) -> &'static str {
     match kind {
         ReduceKind::And => "ReduceAnd",
         ReduceKind::Or => "ReduceOr",

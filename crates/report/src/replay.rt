@@ -1,8 +1,4 @@
 //! A run as text.
-ghost use Rattle.std.specs.Prelude.{◌≡◌, ◌++◌, IfOk};
-ghost use Rattle.std.specs.List.{flat_map};
-ghost use Rattle.report.specs.Replay.{hex_digits, value_text, list_text, race_line, change_line, unsettled_line};
-
 use crate::names::{add_bit, add_bits};
 use crate::text::Text;
 use cdc_base::{Bit, List, NoMemory, SigKind, Signal};
@@ -19,23 +15,26 @@ fn is_state(domains: &Domains, signal: &Signal, sig: u32) -> bool {
         || domains.statics.as_slice().binary_search(&sig).is_ok()
 }
 
+fn hex_digit(value: u64) -> u8 {
+    match (value % 16) as u8 {
+        digit @ 0..=9 => b'0' + digit,
+        digit => b'a' + (digit - 10),
+    }
+}
+
 /// Adds the lowest digits of the value, in hexadecimal.
-fn add_hex(text: &mut Text, digits: u8, value: u64) -> Result<(), NoMemory>
-    ensures { IfOk result (λ _. text.new ≡ text.old ++ hex_digits digits value) }
-{
+fn add_hex(text: &mut Text, digits: u8, value: u64) -> Result<(), NoMemory> {
     let mut left = digits;
     while left > 0 {
         left -= 1;
         let rest = value.checked_shr(4 * u32::from(left)).unwrap_or(0);
-        text.add_hex_digit((rest % 16) as u8)?;
+        text.add_byte(hex_digit(rest))?;
     }
     Ok(())
 }
 
 /// Adds a value with its width, in as many hexadecimal digits as the width needs.
-fn add_value(text: &mut Text, width: u8, value: u64) -> Result<(), NoMemory>
-    ensures { IfOk result (λ _. text.new ≡ text.old ++ value_text width value) }
-{
+fn add_value(text: &mut Text, width: u8, value: u64) -> Result<(), NoMemory> {
     text.add_number(u64::from(width))?;
     text.add("'h")?;
     add_hex(text, width.div_ceil(4), value)
@@ -89,18 +88,14 @@ fn add_edges(text: &mut Text, clocks: &[ClockPin], edges: &[u32]) -> Result<(), 
 }
 
 /// Adds the bits in their order, or a dash where there is none.
-fn add_list(text: &mut Text, net: &Net, bits: &[Bit]) -> Result<(), NoMemory>
-    ensures { IfOk result (λ _. text.new ≡ text.old ++ list_text net.now bits.now) }
-{
+fn add_list(text: &mut Text, net: &Net, bits: &[Bit]) -> Result<(), NoMemory> {
     if bits.is_empty() {
         return text.add("-");
     }
     add_bits(text, net, bits)
 }
 
-fn add_race(text: &mut Text, net: &Net, race: &Race) -> Result<(), NoMemory>
-    ensures { IfOk result (λ _. text.new ≡ text.old ++ race_line net.now race.now) }
-{
+fn add_race(text: &mut Text, net: &Net, race: &Race) -> Result<(), NoMemory> {
     text.add("  race ")?;
     add_bit(text, net, race.bit)?;
     text.add(": flip ")?;
@@ -132,9 +127,7 @@ fn add_races(text: &mut Text, net: &Net, races: &[Race]) -> Result<(), NoMemory>
     Ok(())
 }
 
-fn add_change(text: &mut Text, signal: &Signal, before: u64, after: u64) -> Result<(), NoMemory>
-    ensures { IfOk result (λ _. text.new ≡ text.old ++ change_line signal.now before after) }
-{
+fn add_change(text: &mut Text, signal: &Signal, before: u64, after: u64) -> Result<(), NoMemory> {
     text.add("  ")?;
     text.add(signal.name.as_str())?;
     text.add(" = ")?;
@@ -161,9 +154,7 @@ fn add_changes(
     Ok(())
 }
 
-fn add_unsettled(text: &mut Text, net: &Net, bits: &[Bit]) -> Result<(), NoMemory>
-    ensures { IfOk result (λ _. text.new ≡ text.old ++ flat_map (unsettled_line net.now) bits.now) }
-{
+fn add_unsettled(text: &mut Text, net: &Net, bits: &[Bit]) -> Result<(), NoMemory> {
     for bit in bits {
         text.add("  unsettled ")?;
         add_bit(text, net, *bit)?;

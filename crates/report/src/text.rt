@@ -1,7 +1,6 @@
 //! Growing texts.
 ghost use Rattle.std.specs.Prelude.{◌≡◌, ◌++◌, ◌∷◌, [], IfOk};
 ghost use Rattle.std.specs.Fmt.{decimal};
-ghost use Rattle.report.specs.Digits.{hex_digit};
 
 use cdc_base::{List, NoMemory};
 use std::alloc::Global;
@@ -69,18 +68,6 @@ impl Text {
             Ok(digits) => self.add(digits.as_str()),
             Err(_) => Err(NoMemory),
         }
-    }
-
-    /// Adds the lowest four bits of the value as one hexadecimal digit.
-    pub fn add_hex_digit(&mut self, value: u8) -> Result<(), NoMemory>
-        ensures { IfOk result (λ _. self.new ≡ self.old ++ hex_digit value ∷ []) }
-    {
-        let digit = value % 16;
-        self.add_byte(if digit < 10 {
-            b'0' + digit
-        } else {
-            b'a' + (digit - 10)
-        })
     }
 
     pub fn as_slice(&self) -> &[u8]
