@@ -12,7 +12,6 @@ messages =
     ∷ (103, codes "bad number")
     ∷ (104, codes "directive left out")
     ∷ (105, codes "reserved word left out")
-    ∷ (200, codes "not read yet")
     ∷ (201, codes "no reading")
     ∷ (202, codes "nested too deep")
     ∷ (301, codes "no top module")

@@ -7,14 +7,13 @@ use cdc_base::{Fault, List, Name, NoMemory, Place};
 use std::alloc::Global;
 
 /// What each number of a refusal means, by number.
-const MESSAGES: [(u16, &str); 56] = [
+const MESSAGES: [(u16, &str); 55] = [
     (1, "cannot read"),
     (101, "no token begins here"),
     (102, "unfinished comment or attribute"),
     (103, "bad number"),
     (104, "directive left out"),
     (105, "reserved word left out"),
-    (200, "not read yet"),
     (201, "no reading"),
     (202, "nested too deep"),
     (301, "no top module"),
