@@ -1,17 +1,21 @@
 -- What an audit answers, once it came to its end.
-use Rattle.std.proofs.Common.{◌≡◌, ◌∙◌, ap, ap₂, sym, subst, inl, inr, ◌⊎◌, ◌∷◌, [], List, ℕ, Ok, Err, Some, refl, Result, codes, Option}
-use Rattle.std.specs.Prelude.{IfOk, MatchResult}
+use Rattle.std.proofs.Common.{◌≡◌, ◌∙◌, ap, ap₂, sym, subst, inl, inr, ◌⊎◌, ◌∷◌, [], List, ℕ, true, Ok, Err, Some, refl, Result, codes, Option}
+use Rattle.std.specs.Prelude.{IfOk, IfErr, MatchResult}
+use Rattle.std.specs.List.{list_all}
+use Rattle.std.proofs.lemmas.Bool.{false≢true}
 use Rattle.cdc_base.specs.declared.fault.Fault.{Fault}
 use Rattle.cdc_base.specs.declared.list.NoMemory.{NoMemory}
 use Rattle.report.specs.Faults.{line_of}
+use Rattle.refusals.specs.Numbers.{is_listed, netlist_numbers, all_constraint_numbers}
 use Rattle.command_line.specs.Cli.{IsAccepted, file_words}
 use Rattle.audit_top.specs.declared.answer.Answer.{Answer}
 use Rattle.audit_top.specs.declared.answer.Ending.{Ending}
 use Rattle.audit_top.specs.declared.answer.Ending.TheVariants.{Refused, Memory}
 use Rattle.audit_top.specs.declared.status.Status.{Status}
 use Rattle.audit_top.specs.declared.status.Status.TheVariants as status
-use Rattle.audit_top.specs.Runs.{Seen, Text, IsAnswer, IsLong, IsRefusedBy, IsRefusedForLength, IsText, fault_at}
-use Rattle.audit_top.specs.Endings.{IsAnswerTo, IsAudited, IsEnding, IsEndOfAudit, IsLengthEnding}
+use Rattle.audit_top.specs.Runs.{Seen, Text, IsAnswer, IsLong, IsRefusedBy, IsRefusedForLength, IsText, IsOfFile, TellsOfLength, fault_at, numbers_of}
+use Rattle.audit_top.specs.Endings.{IsAnswerTo, IsAudited, IsEnding, IsEndOfAudit, IsLengthEnding, IsOfFiles, IsReadOfBoth}
+use Rattle.audit_top.proofs.Lines.{is_other, other_line}
 
 audited_fits : (before now : Seen) (s : Status) (text : Text) → IsAudited s → IsText before now s text
 audited_fits before now status.Done text h = tt
@@ -37,6 +41,101 @@ refused_fits before now status.Record f h = absurd h
 refused_fits before now status.WriteFault f h = absurd h
 refused_fits before now status.Memory f h = absurd h
 
+-- the status of a file
+abbrev IsOfStatus : Status → Type 0
+IsOfStatus s = (s ≡ status.Netlist) ⊎ (s ≡ status.Constraints)
+
+-- an audit that came to its end has no such status
+audited_of_none : (s : Status) → IsAudited s → IsOfStatus s → ⊥
+audited_of_none s h (inl is) = subst (λ (x : Status). IsAudited x) is h
+audited_of_none s h (inr is) = subst (λ (x : Status). IsAudited x) is h
+
+file_tells : (numbers : List ℕ) (before now : Seen) (f g : Fault) → list_all is_other numbers ≡ true → IsOfFile numbers before now f
+    → line_of f ≡ line_of g → g.number ≡ 600 → TellsOfLength before now (line_of f)
+file_tells numbers before now f g all (inl (last, is, rose)) lines number = (f.name, last, ap line_of is, rose)
+file_tells numbers before now f g all (inr listed) lines number = absurd (other_line numbers f g all listed lines number)
+
+-- a line with the number of a file's length is that of a file over its limit
+line_tells : (before now : Seen) (s : Status) (f g : Fault) → IsOfStatus s → IsRefusedBy before now s f → line_of f ≡ line_of g
+    → g.number ≡ 600 → TellsOfLength before now (line_of f)
+line_tells before now s f g (inl is) refused lines number =
+    file_tells netlist_numbers before now f g refl (subst (λ (x : Status). IsRefusedBy before now x f) is refused) lines number
+line_tells before now s f g (inr is) refused lines number =
+    file_tells all_constraint_numbers before now f g refl (subst (λ (x : Status). IsRefusedBy before now x f) is refused) lines number
+
+-- a refusal by a rule that goes with its status
+listed_ending : (before now : Seen) (s : Status) (f : Fault) → is_listed (numbers_of s) f.number ≡ true → IsRefusedBy before now s f
+listed_ending before now status.Netlist f h = inr h
+listed_ending before now status.Constraints f h = inr h
+listed_ending before now status.ReadFault f h = absurd (false≢true h)
+listed_ending before now status.Done f h = absurd (false≢true h)
+listed_ending before now status.Violations f h = absurd (false≢true h)
+listed_ending before now status.Waived f h = absurd (false≢true h)
+listed_ending before now status.Usage f h = absurd (false≢true h)
+listed_ending before now status.Record f h = absurd (false≢true h)
+listed_ending before now status.WriteFault f h = absurd (false≢true h)
+listed_ending before now status.Memory f h = absurd (false≢true h)
+
+texts_ended : (before now : Seen) (r : Result Answer Ending) → MatchResult r (λ a. IsAudited a.status) IsOfFiles
+    → IfErr r (IsEnding before now)
+texts_ended before now (Ok own) h = tt
+texts_ended before now (Err Memory) h = tt
+texts_ended before now (Err (Refused s f)) h = listed_ending before now s f h
+
+texts_audited : (r : Result Answer Ending) → MatchResult r (λ a. IsAudited a.status) IsOfFiles → IfOk r (λ a. IsAudited a.status)
+texts_audited (Ok own) h = h
+texts_audited (Err e) h = tt
+
+-- both files were read, and their texts have an answer or a refusal
+pub answered_texts : {T : Type 0} (net con : Text) (before now : Seen) (texts : T) (r : Result Answer Ending)
+    → IsReadOfBoth {T = T} net con before now (Ok texts) → MatchResult r (λ a. IsAudited a.status) IsOfFiles
+    → IsEndOfAudit net con before now r
+answered_texts net con before now texts r reads h = record {
+  reads = record {
+    asks = reads.asks;
+    ended = texts_ended before now r h;
+    long_net = λ long. absurd (reads.long_net long);
+    long_con = λ long. absurd (reads.long_con long);
+  };
+  audited = texts_audited r h;
+}
+
+-- a selftest reads no file
+module _ (words : List Text) (before now : Seen) (accepted : IsAccepted words) (named : file_words words ≡ []) where
+  own_test : (own : Answer) → IsAudited own.status → IsAnswer words before now own.status own.text
+  own_test own audited = record {
+    usage = λ is _. subst (λ (s : Status). IsAudited s) is audited;
+    refused = λ not_accepted. absurd (not_accepted accepted);
+    fits = audited_fits before now own.status own.text audited;
+    too_long = λ g of_file _ _. absurd (audited_of_none own.status audited of_file);
+    long_net = λ n c _ files long. cc;
+    long_con = λ n c _ files long. cc;
+  }
+
+  line_test : (s : Status) (f : Fault) → IsRefusedBy before now s f → IsAnswer words before now s (line_of f)
+  line_test s f refused = record {
+    usage = λ is _. subst (λ (x : Status). IsRefusedBy before now x f) is refused;
+    refused = λ not_accepted. absurd (not_accepted accepted);
+    fits = refused_fits before now s f refused;
+    too_long = λ g of_file lines number. line_tells before now s f g of_file refused lines number;
+    long_net = λ n c _ files long. cc;
+    long_con = λ n c _ files long. cc;
+  }
+
+  one_test : (ended : Result Answer Ending) (a : Answer) → MatchResult ended (λ own. IsAudited own.status) IsOfFiles
+      → MatchResult ended (λ own. a ≡ own) (λ e. IsAnswerTo e a) → IsAnswer words before now a.status a.text
+  one_test (Ok own) a audited is = subst (λ (x : Answer). IsAnswer words before now x.status x.text) (sym is) (own_test own audited)
+  one_test (Err Memory) a audited is = absurd is
+  one_test (Err (Refused s f)) a listed (status_is, text_is) =
+      subst (λ (x : Status). IsAnswer words before now x a.text) (sym status_is)
+      (subst (λ (t : Text). IsAnswer words before now s t) (sym text_is) (line_test s f (listed_ending before now s f listed)))
+
+  pub answered_test : (ended : Result Answer Ending) (result : Result Answer NoMemory)
+      → MatchResult ended (λ own. IsAudited own.status) IsOfFiles → IfOk result (λ a. MatchResult ended (λ own. a ≡ own) (λ e. IsAnswerTo e a))
+      → IfOk result (λ a. IsAnswer words before now a.status a.text)
+  answered_test ended (Ok a) h is = one_test ended a h is
+  answered_test ended (Err e) h is = tt
+
 length_answer : (of_file s : Status) (f : Fault) (name : Text) → IsLengthEnding of_file name (Refused s f)
     → IsRefusedForLength of_file name s (line_of f)
 length_answer of_file s f name (inl (is, fault)) = inl (is, ap line_of fault)
@@ -60,6 +159,7 @@ module _ (words : List Text) (before now : Seen) (net con : Text) (accepted : Is
     usage = λ is _. subst (λ (s : Status). IsAudited s) is end.audited;
     refused = λ not_accepted. absurd (not_accepted accepted);
     fits = audited_fits before now own.status own.text end.audited;
+    too_long = λ g of_file _ _. absurd (audited_of_none own.status end.audited of_file);
     long_net = λ n c _ files long. absurd (end.reads.long_net (subst (λ (x : Text). IsLong before x) (sym (is_net n c files)) long));
     long_con = λ n c _ files long. absurd (end.reads.long_con (subst (λ (x : Text). IsLong before x) (sym (is_con n c files)) long));
   }
@@ -69,6 +169,7 @@ module _ (words : List Text) (before now : Seen) (net con : Text) (accepted : Is
     usage = λ is _. subst (λ (x : Status). IsRefusedBy before now x f) is end.reads.ended;
     refused = λ not_accepted. absurd (not_accepted accepted);
     fits = refused_fits before now s f end.reads.ended;
+    too_long = λ g of_file lines number. line_tells before now s f g of_file end.reads.ended lines number;
     long_net = λ n c _ files long. subst (λ (x : Text). IsRefusedForLength status.Netlist x s (line_of f)) (is_net n c files)
         (length_answer status.Netlist s f net (end.reads.long_net (subst (λ (x : Text). IsLong before x) (sym (is_net n c files)) long)));
     long_con = λ n c _ files long.

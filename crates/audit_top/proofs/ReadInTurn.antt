@@ -1,13 +1,24 @@
 -- Two reads, one after the other.
-use Rattle.std.proofs.Common.{◌≡◌, ◌≢◌, ◌∙◌, ◌≤◌, ap, sym, subst, inl, inr, ◌⊎◌, ◌++◌, ◌∷◌, [], List, ℕ, Ok, Err, Some, append_assoc, arith, refl, Result}
-use Rattle.cdc_base.specs.Causes.{Rose}
+use Rattle.std.proofs.Common.{◌≡◌, ◌≢◌, ◌∙◌, ◌≤◌, ap, sym, subst, append-nil, inl, inr, ◌⊎◌, ◌++◌, ◌+◌, ◌∷◌, [], List, ℕ, Ok, Err, Some, append_assoc, arith, refl, Result}
+use Rattle.cdc_base.specs.Causes.{Rose, RoseBy}
 use Rattle.cdc_base.specs.declared.fault.Fault.{Fault}
 use Rattle.audit_top.specs.declared.answer.Ending.{Ending}
 use Rattle.audit_top.specs.declared.answer.Ending.TheVariants.{Refused, Memory}
 use Rattle.audit_top.specs.declared.status.Status.{Status}
 use Rattle.audit_top.specs.declared.status.Status.TheVariants.{Netlist, Constraints, ReadFault}
-use Rattle.audit_top.specs.Runs.{Seen, Text, AskedFor, AskedInOrder, IsLong, IsRefusedBy, IsUnread, IsLastAsked, fault_at}
+use Rattle.audit_top.specs.declared.status.Status.TheVariants as status
+use Rattle.audit_top.specs.Runs.{Seen, Text, AskedFor, AskedInOrder, IsLong, IsRefusedBy, IsUnread, IsTooLong, IsLastAsked, fault_at, max_bytes}
 use Rattle.audit_top.specs.Endings.{IsEnding, IsLengthEnding, IsReadEnding, IsReadOf, IsReadOfBoth}
+
+-- no count is lower than before
+abbrev IsLater : Seen → Seen → Type 0
+IsLater before now = (before.taken ≤ now.taken) × (before.faults ≤ now.faults)
+
+-- the statuses of the files
+abbrev IsFileStatus : Status → Type 0
+IsFileStatus Netlist = Unit {0}
+IsFileStatus Constraints = Unit {0}
+IsFileStatus _ = ⊥
 
 -- a file that was read whole was asked for
 asked_ok : (name : Text) (status : Status) (before now : Seen) (bytes : List ℕ) → IsReadOf name status before now (Ok bytes)
@@ -35,20 +46,61 @@ unread name before mid now fault later asked is rose =
     let risen : Rose before.faults now.faults = omega (arith, rose) in
     ((mid.asked, last), same, risen)
 
-refused_ending : (con : Text) (before mid now : Seen) (s : Status) (f : Fault) → before.faults ≤ mid.faults
-    → now.asked ≡ mid.asked ++ con ∷ [] → IsReadEnding con Constraints mid now (Refused s f) → IsEnding before now (Refused s f)
-refused_ending con before mid now s f later asked (inl (is, fault, rose)) =
-    subst (λ (x : Status). IsRefusedBy before now x f) (sym is) (unread con before mid now f later asked fault rose)
-refused_ending con before mid now s f later asked (inr (is, fault, rose)) =
-    subst (λ (x : Status). IsRefusedBy before now x f) (sym is) tt
+-- a file over its limit after an earlier read is the file asked for last, and the count of bytes rose since the first
+too_long : (name : Text) (before mid now : Seen) (fault : Fault) → before.taken ≤ mid.taken → now.asked ≡ mid.asked ++ name ∷ []
+    → fault ≡ fault_at 600 name → RoseBy (max_bytes + 1) mid.taken now.taken → IsTooLong before now fault
+too_long name before mid now fault later asked is rose =
+    let named : name ≡ fault.name = sym (ap (λ (f : Fault). f.name) is) in
+    let last : now.asked ≡ mid.asked ++ fault.name ∷ [] = asked ∙ ap (λ n. mid.asked ++ n ∷ []) named in
+    let same : fault ≡ fault_at 600 fault.name = is ∙ ap (fault_at 600) named in
+    let risen : RoseBy (max_bytes + 1) before.taken now.taken = omega (arith, rose) in
+    ((mid.asked, last), same, risen)
 
-second_ending : (con : Text) (before mid now : Seen) (e : Ending) → before.faults ≤ mid.faults
-    → IsReadOf con Constraints mid now (Err e) → IsEnding before now e
-second_ending con before mid now Memory later read = tt
-second_ending con before mid now (Refused s f) later read = elim read.asks [
-  | inl asked ↦ refused_ending con before mid now s f later asked read.ended
+-- the file of a status is over its limit
+long_file : (s : Status) (before now : Seen) (fault : Fault) → IsFileStatus s → IsTooLong before now fault → IsRefusedBy before now s fault
+long_file Netlist before now fault of_file long = inl long
+long_file Constraints before now fault of_file long = inl long
+long_file status.Done before now fault of_file long = absurd of_file
+long_file status.Violations before now fault of_file long = absurd of_file
+long_file status.Usage before now fault of_file long = absurd of_file
+long_file status.Record before now fault of_file long = absurd of_file
+long_file status.ReadFault before now fault of_file long = absurd of_file
+long_file status.WriteFault before now fault of_file long = absurd of_file
+long_file status.Memory before now fault of_file long = absurd of_file
+long_file status.Waived before now fault of_file long = absurd of_file
+
+refused_ending : (name : Text) (of_name : Status) (before mid now : Seen) (s : Status) (f : Fault) → IsFileStatus of_name
+    → IsLater before mid → now.asked ≡ mid.asked ++ name ∷ [] → IsReadEnding name of_name mid now (Refused s f)
+    → IsEnding before now (Refused s f)
+refused_ending name of_name before mid now s f of_file later asked (inl (is, fault, rose)) =
+    subst (λ (x : Status). IsRefusedBy before now x f) (sym is) (unread name before mid now f later.1 asked fault rose)
+refused_ending name of_name before mid now s f of_file later asked (inr (is, fault, rose)) =
+    subst (λ (x : Status). IsRefusedBy before now x f) (sym is)
+    (long_file of_name before now f of_file (too_long name before mid now f later.0 asked fault rose))
+
+-- a read after earlier ones ended
+read_ending : (name : Text) (of_name : Status) (before mid now : Seen) (e : Ending) → IsFileStatus of_name → IsLater before mid
+    → IsReadOf name of_name mid now (Err e) → IsEnding before now e
+read_ending name of_name before mid now Memory of_file later read = tt
+read_ending name of_name before mid now (Refused s f) of_file later read = elim read.asks [
+  | inl asked ↦ refused_ending name of_name before mid now s f of_file later asked read.ended
   | inr (p, same) ↦ cc
 ]
+
+asked_one : (net con : Text) (before now : Seen) (result : Result (List ℕ) Ending)
+    → (now.asked ≡ before.asked ++ net ∷ []) ⊎ ((result ≡ Err Memory) × (now.asked ≡ before.asked))
+    → AskedInOrder (net ∷ con ∷ []) before now
+asked_one net con before now result (inl first) = (net ∷ [], con ∷ [], refl, first)
+asked_one net con before now result (inr (p, same)) = ([], net ∷ con ∷ [], refl, same ∙ sym (append-nil before.asked))
+
+first_length : (net : Text) (before now : Seen) (e : Ending) → IsReadEnding net Netlist before now e → IsLengthEnding Netlist net e
+first_length net before now Memory ended = tt
+first_length net before now (Refused s f) (inl (is, fault, rose)) = inr is
+first_length net before now (Refused s f) (inr (is, fault, rose)) = inl (is, fault)
+
+first_lengths : (net con : Text) (before now : Seen) (e : Ending) → IsReadEnding net Netlist before now e
+    → IsLengthEnding Constraints con e ⊎ IsLengthEnding Netlist net e
+first_lengths net con before now e ended = inr (first_length net before now e ended)
 
 second_length : (net con : Text) (mid now : Seen) (e : Ending) → IsReadEnding con Constraints mid now e
     → IsLengthEnding Constraints con e ⊎ IsLengthEnding Netlist net e
@@ -56,12 +108,22 @@ second_length net con mid now Memory ended = inl tt
 second_length net con mid now (Refused s f) (inl (is, fault, rose)) = inl (inr is)
 second_length net con mid now (Refused s f) (inr (is, fault, rose)) = inl (inl (is, fault))
 
+-- the first read ended
+pub first_ends : {T : Type 0} (net con : Text) (before now : Seen) (e : Ending) → IsReadOf net Netlist before now (Err e)
+    → IsReadOfBoth {T = T} net con before now (Err e)
+first_ends net con before now e first = record {
+  asks = asked_one net con before now (Err e) first.asks;
+  ended = read_ending net Netlist before before now e tt (omega arith, omega arith) first;
+  long_net = λ _. first_length net before now e first.ended;
+  long_con = λ _. first_lengths net con before now e first.ended;
+}
+
 -- the second read ended
 pub second_ends : {T : Type 0} (net con : Text) (before mid now : Seen) (bytes : List ℕ) (e : Ending)
     → IsReadOf net Netlist before mid (Ok bytes) → IsReadOf con Constraints mid now (Err e) → IsReadOfBoth {T = T} net con before now (Err e)
 second_ends net con before mid now bytes e first second = record {
   asks = asked_both net con before mid now (Err e) (asked_ok net Netlist before mid bytes first) second.asks;
-  ended = second_ending con before mid now e first.rising.1 second;
+  ended = read_ending con Constraints before mid now e tt first.rising second;
   long_net = λ long. absurd (first.short long);
   long_con = λ _. second_length net con mid now e second.ended;
 }

@@ -1,14 +1,15 @@
 -- How the parts of a command end.
-use Rattle.std.specs.Prelude.{ℕ, ◌≡◌, ◌+◌, ◌≤◌, ◌⊎◌, List, [], ◌∷◌, ◌++◌, length, Option, Result, Ok, Err, IfOk, IfErr, IsErrAnd}
+use Rattle.std.specs.Prelude.{ℕ, ◌≡◌, ◌+◌, ◌≤◌, ◌⊎◌, true, List, [], ◌∷◌, ◌++◌, length, Option, Result, Ok, Err, IfOk, IfErr, IsErrAnd}
 use Rattle.cdc_base.specs.Causes.{Rose, RoseBy}
 use Rattle.cdc_base.specs.declared.fault.Fault.{Fault}
+use Rattle.refusals.specs.Numbers.{is_listed}
 use Rattle.report.specs.Faults.{line_of}
 use Rattle.audit_top.specs.declared.answer.Answer.{Answer}
 use Rattle.audit_top.specs.declared.answer.Ending.{Ending}
 use Rattle.audit_top.specs.declared.answer.Ending.TheVariants.{Refused, Memory}
 use Rattle.audit_top.specs.declared.status.Status.{Status}
 use Rattle.audit_top.specs.declared.status.Status.TheVariants.{Done, Violations, Usage, Netlist, Constraints, ReadFault, Waived}
-use Rattle.audit_top.specs.Runs.{Seen, Text, AskedFor, AskedInOrder, IsLong, IsRefusedBy, fault_at, max_bytes, usage_line}
+use Rattle.audit_top.specs.Runs.{Seen, Text, AskedFor, AskedInOrder, IsLong, IsRefusedBy, fault_at, max_bytes, numbers_of, usage_line}
 
 -- want of memory, or this refusal
 abbrev pub IsRefusal : Status → Fault → Ending → Type 0
@@ -20,11 +21,6 @@ abbrev pub IsEnding : Seen → Seen → Ending → Type 0
 IsEnding before now Memory = Unit {0}
 IsEnding before now (Refused status fault) = IsRefusedBy before now status fault
 
--- want of memory, or a refusal with this status
-abbrev pub HasStatus : Status → Ending → Type 0
-HasStatus status Memory = Unit {0}
-HasStatus status (Refused s f) = s ≡ status
-
 -- the statuses of an audit that came to its end
 abbrev pub IsAudited : Status → Type 0
 IsAudited Done = Unit {0}
@@ -32,12 +28,10 @@ IsAudited Violations = Unit {0}
 IsAudited Waived = Unit {0}
 IsAudited _ = ⊥
 
--- why bytes that were read have no answer: want of memory, or a refusal of one of the two files
+-- why bytes that were read have no answer: want of memory, or a refusal by a rule that goes with its status
 abbrev pub IsOfFiles : Ending → Type 0
 IsOfFiles Memory = Unit {0}
-IsOfFiles (Refused Netlist f) = Unit {0}
-IsOfFiles (Refused Constraints f) = Unit {0}
-IsOfFiles (Refused _ f) = ⊥
+IsOfFiles (Refused status f) = is_listed (numbers_of status) f.number ≡ true
 
 -- the answer that an ending has: the line of its refusal
 abbrev pub IsAnswerTo : Ending → Answer → Type 0

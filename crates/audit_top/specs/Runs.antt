@@ -1,8 +1,9 @@
 -- What a run of the program answers, as far as its words, its files and its output tell.
-use Rattle.std.specs.Prelude.{ℕ, ◌≡◌, ◌+◌, ◌<◌, ◌≤◌, ◌⊎◌, List, [], ◌∷◌, ◌++◌, length, Option, Some, None, codes}
+use Rattle.std.specs.Prelude.{ℕ, ◌≡◌, ◌+◌, ◌<◌, ◌≤◌, ◌⊎◌, true, List, [], ◌∷◌, ◌++◌, length, Option, Some, None, codes}
 use Rattle.cdc_base.specs.Causes.{Rose, RoseBy, IsAdded, IsFrontAdded}
 use Rattle.cdc_base.specs.declared.fault.Fault.{Fault}
 use Rattle.command_line.specs.Cli.{IsAccepted, file_words}
+use Rattle.refusals.specs.Numbers.{is_listed, netlist_numbers, all_constraint_numbers}
 use Rattle.report.specs.Faults.{line_of}
 use Rattle.audit_top.specs.declared.status.Status.{Status}
 use Rattle.audit_top.specs.declared.status.Status.TheVariants.{Done, Violations, Usage, Netlist, Constraints, Record, ReadFault, WriteFault, Memory, Waived}
@@ -55,11 +56,21 @@ abbrev pub IsTooLong : Seen → Seen → Fault → Type 0
 IsTooLong before now fault = IsLastAsked fault.name now × (fault ≡ fault_at 600 fault.name)
     × RoseBy (max_bytes + 1) before.taken now.taken
 
+-- the rules that a file of this status may break, once it was read
+abbrev pub numbers_of : Status → List ℕ
+numbers_of Netlist = netlist_numbers
+numbers_of Constraints = all_constraint_numbers
+numbers_of _ = []
+
+-- a file is over its limit, or breaks one of these rules
+abbrev pub IsOfFile : List ℕ → Seen → Seen → Fault → Type 0
+IsOfFile numbers before now fault = IsTooLong before now fault ⊎ (is_listed numbers fault.number ≡ true)
+
 -- the refusal that goes with a status: a failed read, a file over its limit, or a rule that a file's bytes break
 abbrev pub IsRefusedBy : Seen → Seen → Status → Fault → Type 0
 IsRefusedBy before now ReadFault fault = IsUnread before now fault
-IsRefusedBy before now Netlist fault = Unit {0}
-IsRefusedBy before now Constraints fault = Unit {0}
+IsRefusedBy before now Netlist fault = IsOfFile netlist_numbers before now fault
+IsRefusedBy before now Constraints fault = IsOfFile all_constraint_numbers before now fault
 IsRefusedBy before now _ fault = ⊥
 
 -- the text that goes with a status: the usage line, the line of a refusal, or what the command prints
@@ -79,11 +90,18 @@ abbrev pub IsRefusedForLength : Status → Text → Status → Text → Type 0
 IsRefusedForLength of_file name status text =
     ((status ≡ of_file) × (text ≡ line_of (fault_at 600 name))) ⊎ (status ≡ ReadFault)
 
+-- the file asked for last was over its limit, and the text is the line that names it
+abbrev pub TellsOfLength : Seen → Seen → Text → Type 0
+TellsOfLength before now text = (name : Text) × IsLastAsked name now × (text ≡ line_of (fault_at 600 name))
+    × RoseBy (max_bytes + 1) before.taken now.taken
+
 -- a status and a text, from the words and from what the files told
 pub record IsAnswer (words : List Text) (before now : Seen) (status : Status) (text : Text) : Type 0 where
   pub usage : status ≡ Usage → IsAccepted words → ⊥
   pub refused : (IsAccepted words → ⊥) → status ≡ Usage
   pub fits : IsText before now status text
+  pub too_long : (fault : Fault) → (status ≡ Netlist) ⊎ (status ≡ Constraints) → text ≡ line_of fault → fault.number ≡ 600
+      → TellsOfLength before now text
   pub long_net : (net con : Text) → IsAccepted words → file_words words ≡ net ∷ con ∷ [] → IsLong before net
       → IsRefusedForLength Netlist net status text
   pub long_con : (net con : Text) → IsAccepted words → file_words words ≡ net ∷ con ∷ [] → IsLong before con

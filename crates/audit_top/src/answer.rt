@@ -1,6 +1,9 @@
 //! What a command answers: a status and a text, or the refusal that ends it.
-ghost use Rattle.std.specs.Prelude.{◌≡◌, IfOk, IfErr, MatchResult};
-ghost use Rattle.audit_top.specs.Endings.{IsAnswerTo, HasStatus};
+ghost use Rattle.std.specs.Prelude.{ℕ, ◌≡◌, true, List, IfOk, IfErr, MatchResult};
+ghost use Rattle.std.specs.List.{list_all};
+ghost use Rattle.refusals.specs.Numbers.{is_listed, HasNumberIn};
+ghost use Rattle.audit_top.specs.Runs.{numbers_of};
+ghost use Rattle.audit_top.specs.Endings.{IsAnswerTo, IsOfFiles};
 
 use crate::status::Status;
 use cdc_base::{Fault, List, NoMemory, Stop};
@@ -31,9 +34,9 @@ impl From<NoMemory> for Ending {
     }
 }
 
-/// What a layer gives, where a refusal of it has this status.
+/// What a layer gives, where a refusal of it has this status. The layer refuses by rules that go with the status.
 pub fn or_refused<T>(status: Status, given: Result<T, Stop>) -> Result<T, Ending>
-    ensures ended { IfErr result (HasStatus status) }
+    ensures ended { (numbers : List ℕ) → list_all (is_listed (numbers_of status)) numbers ≡ true → IfErr given (HasNumberIn numbers) → IfErr result IsOfFiles }
     ensures given { IfOk result (λ value. given ≡ Ok value) }
 {
     match given {

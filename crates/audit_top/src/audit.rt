@@ -3,7 +3,7 @@ ghost use Rattle.std.specs.Prelude.{◌≡◌, ◌≤◌, length, is_some, Match
 ghost use Rattle.std.specs.List.{list_all};
 ghost use Rattle.audit_top.specs.Runs.{Seen, max_bytes};
 ghost use Rattle.audit_top.specs.Statuses.{audited_status};
-ghost use Rattle.audit_top.specs.Endings.{HasStatus, IsAudited, IsOfFiles, IsEndOfAudit};
+ghost use Rattle.audit_top.specs.Endings.{IsAudited, IsOfFiles, IsEndOfAudit};
 
 use crate::answer::{Answer, Ending, or_refused};
 use crate::input::read_both;
@@ -31,7 +31,7 @@ pub(crate) fn read_source(alloc: Global, text: &[u8]) -> Result<Source, Ending>
 
 /// The cells of a source, unfolded from the top that the constraints name.
 fn elaborated(alloc: Global, source: &Source, constraints: &Constraints) -> Result<Net, Ending>
-    ensures { IfErr result (HasStatus Status.Netlist) }
+    ensures { IfErr result IsOfFiles }
 {
     let resets = constraints.resets.as_slice();
     let flat = flat_design::flatten(alloc, source, &constraints.top, resets);

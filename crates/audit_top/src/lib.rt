@@ -13,6 +13,3 @@ pub mod top;
 pub use generated::selftest_source;
 pub use status::Status;
 pub use top::run;
-
-#[cfg(test)]
-mod tests;

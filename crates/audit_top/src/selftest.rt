@@ -8,7 +8,7 @@ use crate::audit::{constrained, read_source};
 use crate::generated::{selftest_constraints, selftest_source};
 use crate::status::Status;
 use cdc_base::limits::MAX_FILE_BYTES;
-use cdc_base::{Fault, List, Name, NoMemory};
+use cdc_base::{List, NoMemory};
 use cdc_model::Verdict;
 use cell_graph::Net;
 use domains::Domains;
@@ -56,7 +56,8 @@ fn counts(
     }
 }
 
-/// The bytes of the generated design, as a netlist file has them.
+/// The bytes of the generated design, as a netlist file has them. No more are kept than a file may have, which no number of
+/// channels comes near.
 fn generated_text(alloc: Global, channels: u32) -> Result<List<u8>, Ending>
     ensures within { IfOk result (λ text. length text ≤ max_bytes) }
     ensures ended { IfErr result IsOfFiles }
@@ -64,15 +65,7 @@ fn generated_text(alloc: Global, channels: u32) -> Result<List<u8>, Ending>
     let source = selftest_source(alloc, channels)?;
     let text = verilog_parse::print(alloc, &source)?;
     if text.len() as u64 > MAX_FILE_BYTES {
-        let name = Name::from_text(alloc, "selftest")?;
-        return Err(Ending::Refused {
-            status: Status::Netlist,
-            fault: Fault {
-                number: 600,
-                place: None,
-                name,
-            },
-        });
+        return Err(Ending::Memory);
     }
     Ok(text)
 }

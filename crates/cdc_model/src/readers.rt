@@ -1,5 +1,6 @@
 //! Who reads each state bit of a net.
-use crate::view::{bits_read, register_bits};
+use crate::below::{Below, Marks};
+use crate::view::{bits_read, reads_marked, register_bits};
 use cdc_base::{Bit, NoMemory, SigKind, Signal};
 use cell_graph::{CellId, Net, Node};
 use cofactor::Table;
@@ -32,7 +33,7 @@ struct Span {
     width: u8,
 }
 
-/// The readers of each bit of the registers and top inputs.
+/// The readers of bits of registers and top inputs.
 #[derive(Drop)]
 pub struct Readers {
     spans: Vec<Span>,
@@ -40,15 +41,25 @@ pub struct Readers {
 }
 
 impl Readers {
-    /// The readers of a net's bits. The table is one without a cube.
-    pub fn find(alloc: Global, net: &Net, table: &mut Table) -> Result<Readers, NoMemory> {
+    /// The readers of the bits of the marked signals; of other bits it knows none. The table is one without a cube.
+    pub fn find(
+        alloc: Global,
+        net: &Net,
+        table: &mut Table,
+        marks: &[Option<u32>],
+    ) -> Result<Readers, NoMemory> {
+        let below = Below::find(alloc, &net.graph, marks)?;
         let mut readers = Readers::empty(alloc, net.graph.signals())?;
         for bit in register_bits(alloc, net)?.as_slice() {
-            let reads = bits_read(alloc, net, table, *bit)?;
-            readers.note_all(reads.as_slice(), Reader::Alone(*bit));
+            if reads_marked(net, &below, *bit) {
+                let reads = bits_read(alloc, net, table, *bit)?;
+                readers.note_all(reads.as_slice(), Reader::Alone(*bit));
+            }
         }
         for output in net.outputs.as_slice() {
-            readers.note_output(alloc, net, table, *output)?;
+            if below.of(*output) != Marks::Nothing {
+                readers.note_output(alloc, net, table, *output)?;
+            }
         }
         Ok(readers)
     }

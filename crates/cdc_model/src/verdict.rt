@@ -1,4 +1,14 @@
 //! The verdict on a design.
+ghost use Rattle.std.specs.Prelude.{◌≡◌, ◌≢◌, Bool, true, Some, List, ◌↔◌, Contains};
+ghost use Rattle.cdc_base.specs.declared.bit.Bit.{Bit};
+ghost use Rattle.cdc_model.specs.declared.scheme.GrayReg.{GrayReg};
+ghost use Rattle.cdc_model.specs.Design.{Design};
+ghost use Rattle.cdc_model.specs.Facts.{none_extra, no_extra, AreJustifiedBy, none_justified};
+ghost use Rattle.cdc_model.specs.Ordered.{IsAscending};
+ghost use Rattle.cdc_model.specs.Runs.{State};
+ghost use Rattle.cdc_model.specs.Verdict.{crossing_key};
+ghost use Rattle.cdc_model.specs.Schemes.{Trees, AreTrees, AreSyncs, IsCrossing, Sync, Ring};
+
 use crate::scheme::{Arrival, Cover, Crossing, GrayReg, Ring};
 use cdc_base::{Bit, List};
 use cell_graph::Node;
@@ -71,7 +81,28 @@ pub struct Verdict {
 
 /// Further crossings that something beside the schemes guards.
 pub trait Extra {
-    fn covers(&self) -> &[Crossing];
+    /// The crossings, by source and register bit.
+    ghost is_extra: { Self → Bit → Bit → Bool };
+
+    /// The value was made for this design and these lists.
+    ghost fits: { Self → Design → Trees → List Sync → List GrayReg → Type 0 };
+
+    /// What holds in each state of each run.
+    ghost keeps: { Self → State → Type 0 };
+
+    /// All of the crossings, in their order.
+    fn covers(&self) -> &[Crossing]
+        ensures listed { (b x : Bit) → (is_extra self.now b x ≡ true) ↔ Contains result.now (record { from = b; to = x }) }
+        ensures ordered { IsAscending crossing_key result.now };
+
+    /// They are crossings, and none is a plain copy.
+    ghost crosses: { (a : Self) (d : Design) (t : Trees) (syncs : List Sync) (grays : List GrayReg) → fits a d t syncs grays →
+        (b x : Bit) → is_extra a b x ≡ true → IsCrossing d t b x × (d.copied x ≢ Some b) };
+
+    /// The fact holds at the start, each step keeps it, and under it what the crossings bring isn't seen.
+    ghost justifies: { (a : Self) (d : Design) (t : Trees) (syncs : List Sync) (grays : List GrayReg) (rings : List Ring) →
+        fits a d t syncs grays → AreTrees d t → AreSyncs d t syncs → ((g : GrayReg) → Contains grays g → t.is_gray g ≡ true) →
+        AreJustifiedBy d syncs grays rings (is_extra a) (keeps a) };
 }
 
 /// No further crossing.
@@ -79,7 +110,17 @@ pub trait Extra {
 pub struct NoExtra;
 
 impl Extra for NoExtra {
+    ghost is_extra = { λ a. none_extra };
+
+    ghost fits = { λ a d t syncs grays. Unit {0} };
+
+    ghost keeps = { λ a s. Unit {0} };
+
     fn covers(&self) -> &[Crossing] {
         &[]
     }
+
+    ghost crosses = { λ a d t syncs grays fits b x extra. no_extra b x extra };
+
+    ghost justifies = { λ a d t syncs grays rings fits laws are_syncs are_grays. none_justified d syncs grays rings };
 }

@@ -1,40 +1,65 @@
 //! Register bits: their next values, start values and groups.
+ghost use Rattle.std.specs.Prelude.{◌≡◌, ◌++◌, List, IfOk};
+ghost use Rattle.cdc_base.specs.declared.bit.Bit.{Bit};
+ghost use Rattle.cell_graph.specs.Tree.{bit_at};
+ghost use Rattle.domains.specs.Assignment.{clock_of, group_of};
+ghost use Rattle.cdc_model.specs.Design.{bits_from, differ, are_equal};
+ghost use Rattle.cdc_model.specs.Nets.{next_cell, next_node_of, AreAscending, bit_count, bits_of_registers, start_of, settle_at};
+
+use crate::below::{Below, Marks};
 use cdc_base::{Bit, List, NoMemory};
-use cell_graph::{Net, Node};
+use cell_graph::{CellId, Net, Node, Reg};
 use cofactor::{Cube, Fixed, Table};
 use domains::Domains;
 use std::alloc::Global;
 
 /// The node of a register bit's next value; None where the bit is no register's.
-pub fn next_node(net: &Net, bit: Bit) -> Option<Node> {
-    let regs = net.regs.as_slice();
-    match regs.binary_search_by_key(&bit.sig, |reg| reg.sig) {
-        Ok(place) => regs.get(place).map(|reg| Node {
-            cell: reg.next,
-            at: bit.at,
-        }),
+pub fn next_node(net: &Net, bit: Bit) -> Option<Node>
+    ensures { AreAscending net.now.regs → result ≡ next_node_of net.now bit }
+{
+    match next_of(net.regs.as_slice(), bit.sig) {
+        Some(cell) => Some(Node { cell, at: bit.at }),
+        None => None,
+    }
+}
+
+/// The cell of the next value of a register, among registers that ascend.
+fn next_of(regs: &[Reg], sig: u32) -> Option<CellId>
+    ensures { AreAscending regs.now → result ≡ next_cell regs.now sig }
+{
+    match regs.binary_search_by_key(&sig, |reg| reg.sig) {
+        Ok(place) => match regs.get(place) {
+            Some(reg) => Some(reg.next),
+            None => None,
+        },
         Err(_) => None,
     }
 }
 
 /// The bits of all registers, ascending.
-pub fn register_bits(alloc: Global, net: &Net) -> Result<Vec<Bit>, NoMemory> {
-    let mut bits = Vec::new(alloc);
+pub fn register_bits(alloc: Global, net: &Net) -> Result<List<Bit>, NoMemory>
+    ensures { IfOk result (λ bits. bits ≡ bits_of_registers net.now.graph.signals net.now.regs) }
+{
+    let mut bits = List::new(alloc);
     for reg in net.regs.as_slice() {
         add_bits(net, reg.sig, &mut bits)?;
     }
     Ok(bits)
 }
 
-fn add_bits(net: &Net, sig: u32, bits: &mut Vec<Bit>) -> Result<(), NoMemory> {
+fn add_bits(net: &Net, sig: u32, bits: &mut List<Bit>) -> Result<(), NoMemory>
+    ensures { IfOk result (λ _. bits.new ≡ bits.old ++ bits_from sig 0 (bit_count net.now.graph.signals sig)) }
+{
     for at in 0..width_of(net, sig) {
-        bits.push(Bit { sig, at }).map_err(|_| NoMemory)?;
+        bits.push(Bit { sig, at })?;
     }
     Ok(())
 }
 
 /// The bits of a signal; 0 where the net has no such signal.
-pub fn width_of(net: &Net, sig: u32) -> u8 {
+pub fn width_of(net: &Net, sig: u32) -> u8
+    ensures { result ≡ bit_count net.now.graph.signals sig }
+{
     match net.graph.signals().get(sig as usize) {
         Some(signal) => signal.width,
         None => 0,
@@ -42,7 +67,9 @@ pub fn width_of(net: &Net, sig: u32) -> u8 {
 }
 
 /// The value that a bit starts with, where it is known.
-pub fn start_value(net: &Net, bit: Bit) -> Option<bool> {
+pub fn start_value(net: &Net, bit: Bit) -> Option<bool>
+    ensures { result ≡ start_of net.now.graph.signals bit }
+{
     let signal = net.graph.signals().get(bit.sig as usize)?;
     if has_bit(signal.known, bit.at) {
         Some(has_bit(signal.start, bit.at))
@@ -52,7 +79,9 @@ pub fn start_value(net: &Net, bit: Bit) -> Option<bool> {
 }
 
 /// Whether a bit of the word is set; bits from 64 on never are.
-pub fn has_bit(word: u64, at: u8) -> bool {
+pub fn has_bit(word: u64, at: u8) -> bool
+    ensures { result ≡ bit_at word at }
+{
     at < 64 && word >> at & 1 == 1
 }
 
@@ -77,6 +106,36 @@ pub fn bits_read(
     }
 }
 
+/// Whether a marked signal stands below the bit's next value. Where none does, the bit reads no bit of one.
+pub fn reads_marked(net: &Net, below: &Below, bit: Bit) -> bool {
+    match next_node(net, bit) {
+        Some(node) => below.of(node.cell) != Marks::Nothing,
+        None => false,
+    }
+}
+
+/// No mark for any signal of the net.
+pub fn unmarked(alloc: Global, net: &Net) -> Result<Vec<Option<u32>>, NoMemory> {
+    match vec![in alloc; None; net.graph.signals().len()] {
+        Ok(marks) => Ok(marks),
+        Err(_) => Err(NoMemory),
+    }
+}
+
+/// Marks the signal of a bit.
+pub fn mark(marks: &mut Vec<Option<u32>>, bit: Bit) {
+    if let Some(mark) = marks.get_mut(bit.sig as usize) {
+        *mark = Some(0);
+    }
+}
+
+pub fn is_marked(marks: &[Option<u32>], bit: Bit) -> bool {
+    match marks.get(bit.sig as usize) {
+        Some(mark) => mark.is_some(),
+        None => false,
+    }
+}
+
 /// A table in which no bit is fixed.
 pub fn plain_table(alloc: Global, net: &Net) -> Result<Table, NoMemory> {
     Table::open(
@@ -88,16 +147,35 @@ pub fn plain_table(alloc: Global, net: &Net) -> Result<Table, NoMemory> {
     )
 }
 
-/// A table in which two different bits are fixed.
-pub fn pair_table(alloc: Global, net: &Net, one: Fixed, another: Fixed) -> Result<Table, NoMemory> {
+/// A table in which two different bits are fixed, for the next values of these register bits.
+pub fn pair_table(
+    alloc: Global,
+    net: &Net,
+    one: Fixed,
+    another: Fixed,
+    bits: &[Bit],
+) -> Result<Table, NoMemory> {
     let mut fixed = List::new(alloc);
     fixed.push(one)?;
     fixed.push(another)?;
-    Table::open(alloc, net, &Cube { fixed })
+    let roots = next_cells(alloc, net, bits)?;
+    Table::open_below(alloc, net, &Cube { fixed }, roots.as_slice())
+}
+
+fn next_cells(alloc: Global, net: &Net, bits: &[Bit]) -> Result<Vec<CellId>, NoMemory> {
+    let mut cells = Vec::new(alloc);
+    for bit in bits {
+        if let Some(node) = next_node(net, *bit) {
+            cells.push(node.cell).map_err(|_| NoMemory)?;
+        }
+    }
+    Ok(cells)
 }
 
 /// Whether both bits have groups, and different ones.
-pub fn are_apart(domains: &Domains, one: Bit, another: Bit) -> bool {
+pub fn are_apart(domains: &Domains, one: Bit, another: Bit) -> bool
+    ensures { result ≡ differ (group_of domains.now one) (group_of domains.now another) }
+{
     match (domains.group_of(one), domains.group_of(another)) {
         (Some(group), Some(other)) => group != other,
         _ => false,
@@ -105,7 +183,9 @@ pub fn are_apart(domains: &Domains, one: Bit, another: Bit) -> bool {
 }
 
 /// Whether both bits have groups, and one group.
-pub fn are_together(domains: &Domains, one: Bit, another: Bit) -> bool {
+pub fn are_together(domains: &Domains, one: Bit, another: Bit) -> bool
+    ensures { result ≡ are_equal (group_of domains.now one) (group_of domains.now another) }
+{
     match (domains.group_of(one), domains.group_of(another)) {
         (Some(group), Some(other)) => group == other,
         _ => false,
@@ -113,7 +193,9 @@ pub fn are_together(domains: &Domains, one: Bit, another: Bit) -> bool {
 }
 
 /// The cycles of its clock that a bit may need to settle; 1 where it has no clock.
-pub fn settle_of(domains: &Domains, bit: Bit) -> u8 {
+pub fn settle_of(domains: &Domains, bit: Bit) -> u8
+    ensures { result ≡ settle_at domains.now (clock_of domains.now bit) }
+{
     match domains.clock_of(bit) {
         Some(clock) => match domains.clocks.as_slice().get(clock as usize) {
             Some(pin) => pin.settle,

@@ -6,3 +6,7 @@ pub mod Places
 pub mod Shifts
 pub mod Sound
 pub mod Trees
+pub mod Words
+pub mod CellValues
+pub mod Cones
+pub mod Unread

@@ -1,9 +1,13 @@
+pub mod Below
 pub mod Cells
 pub mod Cofactor
 pub mod Feeds
 pub mod Kept
 pub mod Laws
+pub mod Met
 pub mod Origin
 pub mod Reading
+pub mod Stands
 pub mod Tree
 pub mod Unfolded
+pub mod Values

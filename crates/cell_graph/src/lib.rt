@@ -2,6 +2,7 @@
 #![tactic(auto)]
 
 pub mod cell;
+mod cone;
 pub mod feeds;
 pub mod graph;
 pub mod laws;

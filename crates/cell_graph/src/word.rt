@@ -25,3 +25,10 @@ pub fn shifted_right(word: u64, by: u64) -> u64
 {
     if by < 64 { word >> by } else { 0 }
 }
+
+/// The low `width` bits of the word.
+pub fn low_bits(word: u64, width: u8) -> u64
+    ensures { result ≡ word % 2 ^ width }
+{
+    word & mask(width)
+}

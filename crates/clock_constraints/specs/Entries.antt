@@ -1,8 +1,8 @@
 -- What the entries of the file's arrays say.
-use Rattle.std.specs.Prelude.{ℕ, List, [], ◌∷◌, Bool, true, false, ◌&&◌, Option, None, Some, Result, Ok, Err, option_and_then, is_some, codes, if◌then◌else◌}
+use Rattle.std.specs.Prelude.{List, [], ◌∷◌, Bool, true, ◌&&◌, Option, None, Some, Result, Ok, option_and_then, is_some, codes, if◌then◌else◌}
 use Rattle.cdc_base.specs.declared.fault.Fault.{Fault}
 use Rattle.cdc_base.specs.declared.signal.ResetPin.{ResetPin}
-use Rattle.toml.specs.Data.{Data, Items, no_items, item, Members, get, get_member, as_array, as_table}
+use Rattle.toml.specs.Data.{Data, Items, no_items, item, get, as_array, as_table}
 use Rattle.clock_constraints.specs.declared.ClockPin.{ClockPin}
 use Rattle.clock_constraints.specs.declared.Waiver.{Waiver}
 use Rattle.clock_constraints.specs.declared.entry.InputEntry.{InputEntry}

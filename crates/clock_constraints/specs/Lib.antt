@@ -3,3 +3,4 @@ pub mod Values
 pub mod Entries
 pub mod Names
 pub mod Files
+pub mod Fit

@@ -1,5 +1,5 @@
 -- What a value at a key says, and which keys a table may have.
-use Rattle.std.specs.Prelude.{ℕ, List, [], Bool, true, false, not, ◌&&◌, ◌==◌, nat_le, length, Option, None, Some, Result, Ok, option_map, option_and_then, pos, ℤ, codes, if◌then◌else◌}
+use Rattle.std.specs.Prelude.{ℕ, List, Bool, true, false, not, ◌&&◌, ◌==◌, nat_le, length, Option, None, Some, Result, Ok, option_map, option_and_then, pos, codes, if◌then◌else◌}
 use Rattle.std.specs.List.{list_all, list_any}
 use Rattle.std.specs.Str.{bytes_eq}
 use Rattle.cdc_base.specs.declared.fault.Fault.{Fault}

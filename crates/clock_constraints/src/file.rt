@@ -4,6 +4,7 @@ ghost use Rattle.toml.specs.Data.{get_member, as_str};
 ghost use Rattle.toml.specs.View.{table_view};
 ghost use Rattle.clock_constraints.specs.Refusals.{Text, Gives, Passes, required, unless};
 ghost use Rattle.clock_constraints.specs.Names.{repeated, input_pins};
+ghost use Rattle.clock_constraints.specs.Fit.{AreFit};
 ghost use Rattle.clock_constraints.specs.Files.{document, port_names, constraints, IsMeaning, IsStopOf};
 
 use crate::entry::InputEntry;
@@ -116,6 +117,7 @@ fn constraints(alloc: Global, table: &Table) -> Result<Constraints, Stop>
 /// waived twice.
 pub fn read(alloc: Global, text: &[u8]) -> Result<Constraints, Stop>
     ensures ok { IfOk result (IsMeaning text.now) }
+    ensures fit { IfOk result AreFit }
     ensures refused { IfErr result (IsStopOf text.now) }
 {
     let table = match toml::table_from_slice(alloc, text) {

@@ -1,36 +1,43 @@
 //! The cofactors of one node.
-ghost use Rattle.std.specs.Prelude.{◌≡◌, option_map};
+ghost use Rattle.std.specs.Prelude.{◌≡◌, option_map, IfOk};
+ghost use Rattle.cell_graph.specs.Cofactor as rules;
 ghost use Rattle.cell_graph.specs.Origin.{origin as tree_origin};
 ghost use Rattle.cell_graph.specs.Unfolded.{IsWellFormed, IsNodeOf, bit_of, tree_of};
+ghost use Rattle.cofactor.specs.Cubes.{cube_of};
+ghost use Rattle.cofactor.specs.Order.{AreAscending};
 
 use crate::cube::Cube;
 use crate::table::Table;
 use cdc_base::{Bit, List, NoMemory};
-use cell_graph::{CellId, Cofactors, Net, Node, Passed};
+use cell_graph::{Cofactors, Net, Node, Passed};
 use std::alloc::Global;
 
 /// The value that the node has in every reading of the cube, where the rules show one.
-pub fn known(alloc: Global, net: &Net, node: Node, cube: &Cube) -> Result<Option<bool>, NoMemory> {
-    let table = table_for(alloc, net, node.cell, cube)?;
+pub fn known(alloc: Global, net: &Net, node: Node, cube: &Cube) -> Result<Option<bool>, NoMemory>
+    ensures { IfOk result (λ o. IsWellFormed net.now.graph → IsNodeOf net.now.graph node →
+        o ≡ rules.known (cube_of cube.now) (tree_of net.now.graph node.cell) node.at) }
+{
+    let roots = [node.cell];
+    let table = Table::open_below(alloc, net, cube, &roots)?;
     Ok(table.masks(node.cell).bit(node.at))
 }
 
 /// The state bit that the node equals in every reading of the cube, where the rules show one.
-pub fn same(alloc: Global, net: &Net, node: Node, cube: &Cube) -> Result<Option<Bit>, NoMemory> {
-    let table = table_for(alloc, net, node.cell, cube)?;
+pub fn same(alloc: Global, net: &Net, node: Node, cube: &Cube) -> Result<Option<Bit>, NoMemory>
+    ensures { IfOk result (λ o. IsWellFormed net.now.graph → IsNodeOf net.now.graph node →
+        o ≡ rules.same (cube_of cube.now) (tree_of net.now.graph node.cell) node.at) }
+{
+    let roots = [node.cell];
+    let table = Table::open_below(alloc, net, cube, &roots)?;
     Ok(table.same(node))
 }
 
 /// The state bits that the node reads under the cube, ascending.
-pub fn reads(alloc: Global, net: &Net, node: Node, cube: &Cube) -> Result<List<Bit>, NoMemory> {
-    let mut table = table_for(alloc, net, node.cell, cube)?;
+pub fn reads(alloc: Global, net: &Net, node: Node, cube: &Cube) -> Result<List<Bit>, NoMemory>
+    ensures ascending { IfOk result (λ bits. AreAscending bits) }
+{
+    let mut table = Table::open_below(alloc, net, cube, &[node.cell])?;
     table.reads(alloc, net, node)
-}
-
-/// A table of the cells up to this one, on which it stands.
-fn table_for(alloc: Global, net: &Net, cell: CellId, cube: &Cube) -> Result<Table, NoMemory> {
-    let count = net.graph.cell_count().min(cell.0.saturating_add(1));
-    Table::open_front(alloc, &net.graph, cube, count)
 }
 
 /// The bit that the node only passes on, through concatenations, slices, extensions and shifts by constants; None
@@ -59,6 +66,8 @@ pub fn origin(net: &Net, node: Node) -> Option<Node>
 pub struct Plain;
 
 impl Cofactors for Plain {
+    ghost reads = { λ g n b answer. Unit {0} };
+
     fn origin_of(&self, net: &Net, node: Node) -> Option<Node> {
         origin(net, node)
     }
@@ -70,4 +79,6 @@ impl Cofactors for Plain {
         let bits = reads(alloc, net, node, &free)?;
         Ok(bits.as_slice().contains(&bit))
     }
+
+    ghost unread = { λ g n b h. tt };
 }

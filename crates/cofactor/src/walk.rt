@@ -1,4 +1,8 @@
 //! The state bits that a node reads, by a walk that meets each bit of a cell once.
+ghost use Rattle.std.specs.Prelude.{IfOk};
+ghost use Rattle.std.specs.List.{Contains};
+ghost use Rattle.cofactor.specs.Order.{AreAscending};
+
 use crate::masks::has_bit;
 use crate::table::{Met, Table};
 use cdc_base::{Bit, List, NoMemory};
@@ -22,7 +26,9 @@ struct Walk {
 
 impl Table {
     /// The state bits that the node reads, ascending.
-    pub fn reads(&mut self, alloc: Global, net: &Net, node: Node) -> Result<List<Bit>, NoMemory> {
+    pub fn reads(&mut self, alloc: Global, net: &Net, node: Node) -> Result<List<Bit>, NoMemory>
+        ensures ascending { IfOk result (λ bits. AreAscending bits) }
+    {
         self.begin_walk(alloc)?;
         let mut walk = Walk {
             wanted: Vec::new(alloc),
@@ -35,9 +41,7 @@ impl Table {
             };
             self.read_cell(&net.graph, &mut walk, next)?;
         }
-        walk.found.sort_unstable();
-        walk.found.dedup();
-        Ok(List::from_vec(walk.found))
+        Ok(List::from_vec(into_ascending(walk.found)))
     }
 
     /// Makes room for the marks, and gives the walk a number of its own.
@@ -54,7 +58,10 @@ impl Table {
     /// Asks for those of the bits that the walk hasn't met.
     fn want(&mut self, walk: &mut Walk, cell: CellId, bits: u64) -> Result<(), NoMemory> {
         let number = self.walk;
-        let Some(met) = self.met.get_mut(cell.0 as usize) else {
+        let Some(place) = self.place_of(cell) else {
+            return Ok(());
+        };
+        let Some(met) = self.met.get_mut(place) else {
             return Ok(());
         };
         if met.walk != number {
@@ -183,4 +190,16 @@ fn up_to(bits: u64) -> u64 {
         }
     }
     all
+}
+
+/// The bits in their order, each once.
+fn into_ascending(bits: Vec<Bit>) -> Vec<Bit>
+    ensures there { (b : Bit) → Contains bits.items b → Contains result.items b }
+    ensures only { (b : Bit) → Contains result.items b → Contains bits.items b }
+    ensures ascending { AreAscending result.items }
+{
+    let mut bits = bits;
+    bits.sort_unstable();
+    bits.dedup();
+    bits
 }

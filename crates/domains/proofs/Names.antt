@@ -1,5 +1,5 @@
 -- Look-ups by name over lists.
-use Rattle.std.proofs.Common.{◌≡◌, Bool, true, false, cond, List, [], ◌∷◌, ◌++◌, Option, None, Some, refl, ap}
+use Rattle.std.proofs.Common.{◌≡◌, true, false, cond, List, [], ◌∷◌, ◌++◌, None, Some, refl}
 use Rattle.std.specs.Str.{bytes_eq}
 use Rattle.clock_constraints.specs.Refusals.{Text}
 use Rattle.domains.specs.Tables.{or_else, named}

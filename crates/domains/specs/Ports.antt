@@ -1,5 +1,5 @@
 -- What the ports of the top are declared as, and the rules that they may break.
-use Rattle.std.specs.Prelude.{ℕ, ◌+◌, List, [], ◌∷◌, ◌++◌, map, Bool, true, false, not, ◌==◌, Option, None, Some, Result, Ok, Err, is_some, option_map, find, if◌then◌else◌}
+use Rattle.std.specs.Prelude.{ℕ, ◌+◌, List, [], ◌∷◌, ◌++◌, map, Bool, true, false, not, ◌==◌, Option, None, Some, Result, Ok, is_some, option_map, find, if◌then◌else◌}
 use Rattle.std.specs.Option.{option_map_or}
 use Rattle.cdc_base.specs.declared.fault.Fault.{Fault}
 use Rattle.cdc_base.specs.declared.signal.Signal.{Signal}
@@ -12,7 +12,6 @@ use Rattle.clock_constraints.specs.declared.Constraints.{Constraints}
 use Rattle.clock_constraints.specs.Refusals.{Text, broken, ◌>>=◌, required}
 use Rattle.domains.specs.declared.port.Role.{Role}
 use Rattle.domains.specs.declared.port.Role.TheVariants.{Pin, Clocked, Reset, Static}
-use Rattle.domains.specs.Tables.{named}
 
 abbrev pub is_input : SigKind → Bool
 is_input Input = true

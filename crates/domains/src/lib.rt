@@ -1,6 +1,9 @@
 //! The clock and the group of each bit of a net.
 #![tactic(auto)]
 
+ghost use Rattle.std.specs.Prelude.{◌≡◌};
+ghost use Rattle.domains.specs.Assignment.{clock_of, group_of};
+
 mod assignment;
 mod group;
 mod port;
@@ -25,7 +28,9 @@ pub struct Domains {
 
 impl Domains {
     /// The clock of a bit of a register or a clocked input; None for any other.
-    pub fn clock_of(&self, bit: Bit) -> Option<u32> {
+    pub fn clock_of(&self, bit: Bit) -> Option<u32>
+        ensures { result ≡ clock_of self.now bit }
+    {
         self.clock_by_sig
             .as_slice()
             .get(bit.sig as usize)
@@ -34,7 +39,9 @@ impl Domains {
     }
 
     /// The group of a bit's clock; None where the bit has no clock.
-    pub fn group_of(&self, bit: Bit) -> Option<u32> {
+    pub fn group_of(&self, bit: Bit) -> Option<u32>
+        ensures { result ≡ group_of self.now bit }
+    {
         let clock = self.clock_of(bit)?;
         self.group_by_clock.as_slice().get(clock as usize).copied()
     }

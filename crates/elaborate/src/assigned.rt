@@ -3,7 +3,7 @@ use crate::mask::span;
 use crate::memory::insert;
 use crate::present::Present;
 use cdc_base::NoMemory;
-use flat_design::{FStmt, FTarget};
+use flat_form::{FStmt, FTarget};
 use std::collections::BTreeMap;
 
 /// For each signal the bits that may be assigned, bit i of the mask for bit i of the signal.

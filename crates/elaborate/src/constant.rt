@@ -3,7 +3,7 @@ use crate::expr::{operand_width, operand_widths, own_width};
 use crate::mask::mask;
 use crate::memory::push;
 use cdc_base::NoMemory;
-use flat_design::{FCaseItem, FExpr};
+use flat_form::{FCaseItem, FExpr};
 use std::alloc::Global;
 use verilog_ast::{BinaryOp, UnaryOp};
 

@@ -4,7 +4,7 @@ use crate::memory::push;
 use crate::present::Present;
 use cdc_base::NoMemory;
 use cell_graph::{Cell, CellId, ReduceKind};
-use flat_design::FExpr;
+use flat_form::FExpr;
 use std::alloc::Global;
 use verilog_ast::{BinaryOp, UnaryOp};
 

@@ -5,10 +5,11 @@
 //! as often as it is used.
 #![tactic(auto)]
 
-ghost use Rattle.std.specs.Prelude.{◌≡◌, ◌≤◌, length, map, vec_len, IfOk};
+ghost use Rattle.std.specs.Prelude.{◌≡◌, ◌≤◌, length, map, vec_len, IfOk, IfErr};
 ghost use Rattle.cell_graph.specs.declared.net.Reg.{Reg as NetRegister};
 ghost use Rattle.elaborate.specs.declared.sketch.Register.{Register as RegisterDraft};
 ghost use Rattle.cdc_base.specs.declared.limits.TheConstants.{MAX_STATE_BITS};
+ghost use Rattle.refusals.specs.Numbers.{HasNumberIn, elaboration_numbers};
 ghost use Rattle.elaborate.specs.Limits.{state_bits};
 ghost use Rattle.elaborate.specs.Registers.{registers_from};
 
@@ -25,8 +26,6 @@ mod process;
 mod refusal;
 mod sketch;
 mod target;
-#[cfg(test)]
-mod tests;
 mod walk;
 
 use crate::links::Links;
@@ -36,7 +35,8 @@ use crate::sketch::Sketch;
 use cdc_base::limits::MAX_CELLS;
 use cdc_base::{List, NoMemory, Signal, Stop};
 use cell_graph::{CellId, Graph, Net, Reg};
-use flat_design::Flat;
+use flat_form::Flat;
+use refusals::past_limit;
 use std::alloc::Global;
 
 /// Makes the cells of the design's registers and outputs.
@@ -46,13 +46,14 @@ use std::alloc::Global;
 /// registers' clocks and next values and of the outputs have more cells than the limit, each use of a shared tree
 /// counted.
 pub fn elaborate(alloc: Global, flat: &Flat) -> Result<Net, Stop>
+    ensures numbered { IfErr result (HasNumberIn elaboration_numbers) }
     ensures registers { IfOk result (λ net. map (λ (r : NetRegister). r.sig) net.regs ≡ registers_from 0 flat.now.signals) }
     ensures outputs { IfOk result (λ net. length net.outputs ≡ length flat.now.outputs) }
     ensures state_bits { IfOk result (λ net. state_bits flat.now.signals ≤ MAX_STATE_BITS) }
 {
     let signals = flat.signals.as_slice();
     if refusal::has_too_many_state_bits(signals) {
-        return Err(refusal::limit(alloc, 605));
+        return Err(past_limit(alloc, 605));
     }
     let sketch = Sketch::of(alloc, flat)?;
     let links = Links::of(alloc, signals, &sketch)?;
@@ -91,6 +92,7 @@ fn first_loop<'a>(
 
 /// The cells of registers and outputs.
 fn make_net(alloc: Global, signals: &[Signal], sketch: &Sketch, links: &Links) -> Result<Net, Stop>
+    ensures numbered { IfErr result (HasNumberIn elaboration_numbers) }
     ensures registers { IfOk result (λ net. map (λ (r : NetRegister). r.sig) net.regs ≡ map (λ (r : RegisterDraft). r.sig) sketch.now.registers.items) }
     ensures outputs { IfOk result (λ net. length net.outputs ≡ vec_len sketch.now.outputs) }
 {
@@ -110,7 +112,7 @@ fn make_net(alloc: Global, signals: &[Signal], sketch: &Sketch, links: &Links) -
         }
     }
     if cells > MAX_CELLS {
-        return Err(refusal::limit(alloc, 602));
+        return Err(past_limit(alloc, 602));
     }
     finish(alloc, sketch, lowering)
 }
@@ -129,6 +131,7 @@ fn roots_of(alloc: Global, sketch: &Sketch) -> Result<Vec<u32>, NoMemory> {
 }
 
 fn finish(alloc: Global, sketch: &Sketch, lowering: Lowering) -> Result<Net, Stop>
+    ensures numbered { IfErr result (HasNumberIn elaboration_numbers) }
     ensures registers { IfOk result (λ net. map (λ (r : NetRegister). r.sig) net.regs ≡ map (λ (r : RegisterDraft). r.sig) sketch.now.registers.items) }
     ensures outputs { IfOk result (λ net. length net.outputs ≡ vec_len sketch.now.outputs) }
 {

@@ -1,4 +1,7 @@
 //! The cells of a design, made from its drafts once no wire leads back to itself.
+ghost use Rattle.std.specs.Prelude.{IfErr};
+ghost use Rattle.refusals.specs.Numbers.{HasNumberIn, elaboration_numbers};
+
 use crate::draft::{Draft, Form};
 use crate::links::{first_piece, operands};
 use crate::sketch::{Piece, Sketch};
@@ -32,7 +35,9 @@ impl Lowering {
     }
 
     /// Makes the tree of a vertex from those that it leads to.
-    pub fn meet(&mut self, sketch: &Sketch, vertex: usize) -> Result<(), Stop> {
+    pub fn meet(&mut self, sketch: &Sketch, vertex: usize) -> Result<(), Stop>
+        ensures numbered { IfErr result (HasNumberIn elaboration_numbers) }
+    {
         let drafts = sketch.drafts.as_slice();
         let tree = match drafts.get(vertex) {
             Some(draft) => self.lower(sketch, *draft)?,
@@ -50,7 +55,9 @@ impl Lowering {
         Ok(())
     }
 
-    fn lower(&mut self, sketch: &Sketch, draft: Draft) -> Result<Tree, Stop> {
+    fn lower(&mut self, sketch: &Sketch, draft: Draft) -> Result<Tree, Stop>
+        ensures numbered { IfErr result (HasNumberIn elaboration_numbers) }
+    {
         match draft.form {
             Form::Made(cell) => self.made(cell),
             Form::Read { sig, at } => self.read(sketch, sig, at, draft.width),
@@ -58,7 +65,9 @@ impl Lowering {
     }
 
     /// Adds a cell over trees that were made before.
-    fn add(&mut self, cell: Cell, below: u32) -> Result<Tree, Stop> {
+    fn add(&mut self, cell: Cell, below: u32) -> Result<Tree, Stop>
+        ensures numbered { IfErr result (HasNumberIn elaboration_numbers) }
+    {
         let cell = self.graph.add(cell)?;
         Ok(Tree {
             cell,
@@ -67,7 +76,9 @@ impl Lowering {
     }
 
     /// The `width` bits of the tree from `at` on.
-    fn cut(&mut self, tree: Tree, at: u8, width: u8) -> Result<Tree, Stop> {
+    fn cut(&mut self, tree: Tree, at: u8, width: u8) -> Result<Tree, Stop>
+        ensures numbered { IfErr result (HasNumberIn elaboration_numbers) }
+    {
         if self.graph.width(tree.cell) == width {
             Ok(tree)
         } else {
@@ -82,12 +93,16 @@ impl Lowering {
         }
     }
 
-    fn zero(&mut self, width: u8) -> Result<Tree, Stop> {
+    fn zero(&mut self, width: u8) -> Result<Tree, Stop>
+        ensures numbered { IfErr result (HasNumberIn elaboration_numbers) }
+    {
         self.add(Cell::Const { width, value: 0 }, 0)
     }
 
     /// The tree `high` and, below it, what was joined so far.
-    fn above(&mut self, high: Tree, low: Option<Tree>) -> Result<Tree, Stop> {
+    fn above(&mut self, high: Tree, low: Option<Tree>) -> Result<Tree, Stop>
+        ensures numbered { IfErr result (HasNumberIn elaboration_numbers) }
+    {
         match low {
             Some(low) => self.add(
                 Cell::Concat {
@@ -101,7 +116,9 @@ impl Lowering {
     }
 
     /// What `width` bits of a signal from `at` on stand for: those of its variable, or those of its drivers.
-    fn read(&mut self, sketch: &Sketch, sig: u32, at: u8, width: u8) -> Result<Tree, Stop> {
+    fn read(&mut self, sketch: &Sketch, sig: u32, at: u8, width: u8) -> Result<Tree, Stop>
+        ensures numbered { IfErr result (HasNumberIn elaboration_numbers) }
+    {
         let kind = self
             .graph
             .signals()
@@ -118,7 +135,9 @@ impl Lowering {
 
     /// The parts of the signal's pieces that lie in the bits read, joined from the highest. Bits between them that
     /// nothing drives are zero.
-    fn driven(&mut self, sketch: &Sketch, sig: u32, at: u8, width: u8) -> Result<Tree, Stop> {
+    fn driven(&mut self, sketch: &Sketch, sig: u32, at: u8, width: u8) -> Result<Tree, Stop>
+        ensures numbered { IfErr result (HasNumberIn elaboration_numbers) }
+    {
         let pieces = sketch.pieces.as_slice();
         let first = first_piece(pieces, sig);
         let mut joined = None;
@@ -147,7 +166,9 @@ impl Lowering {
     }
 
     /// What was joined up to the bit `reached`, with zeros up to the bit `end`.
-    fn filled(&mut self, joined: Option<Tree>, reached: u8, end: u8) -> Result<Option<Tree>, Stop> {
+    fn filled(&mut self, joined: Option<Tree>, reached: u8, end: u8) -> Result<Option<Tree>, Stop>
+        ensures numbered { IfErr result (HasNumberIn elaboration_numbers) }
+    {
         if reached < end {
             let zero = self.zero(end.saturating_sub(reached))?;
             Ok(Some(self.above(zero, joined)?))
@@ -165,13 +186,17 @@ impl Lowering {
     }
 
     /// The bits of the piece from `low` up to `high`, counted in its signal.
-    fn part(&mut self, tree: Tree, piece: &Piece, low: u8, high: u8) -> Result<Tree, Stop> {
+    fn part(&mut self, tree: Tree, piece: &Piece, low: u8, high: u8) -> Result<Tree, Stop>
+        ensures numbered { IfErr result (HasNumberIn elaboration_numbers) }
+    {
         let at = piece.inside.saturating_add(low.saturating_sub(piece.at));
         self.cut(tree, at, high.saturating_sub(low))
     }
 
     /// The cell of a draft, over the trees of its operands.
-    fn made(&mut self, cell: Cell) -> Result<Tree, Stop> {
+    fn made(&mut self, cell: Cell) -> Result<Tree, Stop>
+        ensures numbered { IfErr result (HasNumberIn elaboration_numbers) }
+    {
         let mut below = 0u32;
         for operand in operands(cell) {
             if let Some(id) = operand {

@@ -7,7 +7,7 @@ use crate::present::{Changes, Present};
 use crate::target::{assign, puts};
 use cdc_base::NoMemory;
 use cell_graph::{Cell, CellId};
-use flat_design::{FCaseItem, FExpr, FStmt};
+use flat_form::{FCaseItem, FExpr, FStmt};
 use std::alloc::Global;
 use std::collections::BTreeMap;
 

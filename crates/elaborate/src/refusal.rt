@@ -1,25 +1,16 @@
 //! Refusals of elaboration, and the limit that is tried first.
 ghost use Rattle.std.specs.Prelude.{◌≡◌, ◌<◌, ◌↔◌, IsTrue};
+ghost use Rattle.refusals.specs.Numbers.{HasNumberIn, elaboration_numbers};
 ghost use Rattle.elaborate.specs.Limits.{state_bits, own_bits as bits_of};
 
 use cdc_base::limits::MAX_STATE_BITS;
-use cdc_base::{Fault, Name, NoMemory, SigKind, Signal, Stop};
+use cdc_base::{Fault, NoMemory, SigKind, Signal, Stop};
 use std::alloc::Global;
 
-/// A refusal without a place: too many cells, or too many bits.
-pub fn limit(alloc: Global, number: u16) -> Stop {
-    match Name::from_text(alloc, "") {
-        Ok(name) => Stop::Refused(Fault {
-            number,
-            place: None,
-            name,
-        }),
-        Err(NoMemory) => Stop::Memory,
-    }
-}
-
 /// The signal leads back to itself through logic alone.
-pub fn combinational_loop(alloc: Global, signal: &Signal) -> Stop {
+pub fn combinational_loop(alloc: Global, signal: &Signal) -> Stop
+    ensures numbered { HasNumberIn elaboration_numbers result }
+{
     match signal.name.copy(alloc) {
         Ok(name) => Stop::Refused(Fault {
             number: 312,

@@ -12,7 +12,7 @@ use crate::process::run;
 use crate::target::{Put, Spot, puts};
 use cdc_base::{NoMemory, SigKind, Signal};
 use cell_graph::CellId;
-use flat_design::{Flat, FlatAssign, FlatClocked, FlatComb};
+use flat_form::{Flat, FlatAssign, FlatClocked, FlatComb};
 use std::alloc::Global;
 use std::collections::BTreeMap;
 
@@ -141,7 +141,7 @@ fn add_comb(
 fn assigned_by(
     alloc: Global,
     present: &Present,
-    body: &flat_design::FStmt,
+    body: &flat_form::FStmt,
 ) -> Result<Assigned, NoMemory> {
     let mut assigned = BTreeMap::new(alloc);
     collect(present, body, &mut assigned)?;

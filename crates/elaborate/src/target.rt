@@ -6,7 +6,7 @@ use crate::memory::push;
 use crate::present::Present;
 use cdc_base::NoMemory;
 use cell_graph::{Cell, CellId};
-use flat_design::{FExpr, FTarget};
+use flat_form::{FExpr, FTarget};
 use std::alloc::Global;
 
 /// Where in its signal an assigned word goes.

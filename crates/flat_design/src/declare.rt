@@ -1,12 +1,15 @@
 //! Declarations of a module: its signals and memories, in textual order.
-use crate::design::{Design, Entry, Role};
-use crate::fault::{Faults, Order, refused};
-use crate::memory::push;
+ghost use Rattle.std.specs.Prelude.{IfErr};
+ghost use Rattle.refusals.specs.Numbers.{HasNumberIn, unfolding_numbers};
+
 use crate::parameter::{declared_bounds, declared_width, range_bounds};
-use crate::printed::{printed, word_name};
-use crate::scope::{Bounds, Look, Meaning, Memory, Names, define};
 use cdc_base::limits::MAX_SIGNALS;
 use cdc_base::{Name, NoMemory, Place, SigKind, Signal, Stop};
+use flat_form::memory::push;
+use flat_names::design::{Design, Entry, Role};
+use flat_names::fault::{Faults, Order, Rule, refused};
+use flat_names::printed::{printed, word_name};
+use flat_names::scope::{Bounds, Look, Meaning, Memory, Names, define};
 use indexmap::IndexSet;
 use std::alloc::Global;
 use verilog_ast::{Decl, DeclKind, ItemBody, Module, Range};
@@ -39,7 +42,9 @@ pub fn add_declarations(
     prefix: &str,
     names: &mut Names,
     design: &mut Design,
-) -> Result<(), Stop> {
+) -> Result<(), Stop>
+    ensures numbered { IfErr result (HasNumberIn unfolding_numbers) }
+{
     let header = header_names(alloc, module)?;
     let declaring = Declaring {
         alloc,
@@ -60,11 +65,18 @@ pub fn add_declarations(
 }
 
 /// The names of a header. A name that stands in the list of an old-style header twice is refused.
-fn header_names(alloc: Global, module: &Module) -> Result<IndexSet<Name>, Stop> {
+fn header_names(alloc: Global, module: &Module) -> Result<IndexSet<Name>, Stop>
+    ensures numbered { IfErr result (HasNumberIn unfolding_numbers) }
+{
     let mut header = IndexSet::new(alloc);
     for port in module.ports.as_slice() {
         if !module.ansi && header.contains(&port.name) {
-            return refused(alloc, 304, Some(module.place), port.name.as_str());
+            return refused(
+                alloc,
+                Rule::DeclaredTwice,
+                Some(module.place),
+                port.name.as_str(),
+            );
         }
         let name = port.name.copy(alloc)?;
         if header.insert(name).is_err() {
@@ -75,11 +87,18 @@ fn header_names(alloc: Global, module: &Module) -> Result<IndexSet<Name>, Stop> 
 }
 
 /// Each name of the header needs a direction.
-fn try_header(alloc: Global, module: &Module, names: &Names, design: &Design) -> Result<(), Stop> {
+fn try_header(alloc: Global, module: &Module, names: &Names, design: &Design) -> Result<(), Stop>
+    ensures numbered { IfErr result (HasNumberIn unfolding_numbers) }
+{
     let look = design.look(alloc, names);
     for port in module.ports.as_slice() {
         if !has_direction(&look, &port.name) {
-            return refused(alloc, 306, Some(module.place), port.name.as_str());
+            return refused(
+                alloc,
+                Rule::Mismatch,
+                Some(module.place),
+                port.name.as_str(),
+            );
         }
     }
     Ok(())
@@ -102,7 +121,9 @@ fn add_declaration(
     in_header: bool,
     names: &mut Names,
     design: &mut Design,
-) -> Result<(), Stop> {
+) -> Result<(), Stop>
+    ensures numbered { IfErr result (HasNumberIn unfolding_numbers) }
+{
     let mut faults = Faults::new(declaring.alloc, Order::Declaration);
     let declared = {
         let look = design.look(declaring.alloc, names);
@@ -133,16 +154,16 @@ fn judged(
 ) -> Result<Declared, NoMemory> {
     let again = declared_before(look, decl);
     if again.is_none() && look.names.contains_key(&decl.name) {
-        faults.note(304, decl.name.as_str())?;
+        faults.note(Rule::DeclaredTwice, decl.name.as_str())?;
     }
     if breaks_form(declaring, decl, in_header) {
-        faults.note(306, decl.name.as_str())?;
+        faults.note(Rule::Mismatch, decl.name.as_str())?;
     }
     let bounds = declared_bounds(look, &decl.range, &decl.name, faults)?;
     if let Some(sig) = again {
         let before = look.bounds(sig);
         if before != bounds || before.is_some() != decl.range.is_some() {
-            faults.note(306, decl.name.as_str())?;
+            faults.note(Rule::Mismatch, decl.name.as_str())?;
         }
         return Ok(Declared::Again(sig));
     }
@@ -198,10 +219,10 @@ fn judged_memory(
 ) -> Result<u32, NoMemory> {
     let mut inner = Faults::new(look.alloc, Order::Declaration);
     let bounds = range_bounds(look, array, &mut inner)?;
-    inner.pass_on(305, faults)?;
+    inner.pass_on(Rule::UnknownName, faults)?;
     match memory_words(decl.kind, bounds) {
         None => {
-            faults.note(319, decl.name.as_str())?;
+            faults.note(Rule::Memory, decl.name.as_str())?;
             Ok(0)
         }
         Some(words) => {
@@ -235,7 +256,7 @@ fn note_taken_words(
         let word = word_name(look.alloc, memory.as_str(), k)?;
         let name = Name::from_text(look.alloc, word.as_str())?;
         if look.names.contains_key(&name) {
-            faults.note(304, word.as_str())?;
+            faults.note(Rule::DeclaredTwice, word.as_str())?;
         }
     }
     Ok(())
@@ -256,7 +277,9 @@ fn add_named_signal(
     in_header: bool,
     names: &mut Names,
     design: &mut Design,
-) -> Result<(), Stop> {
+) -> Result<(), Stop>
+    ensures numbered { IfErr result (HasNumberIn unfolding_numbers) }
+{
     let is_open = decl.kind == DeclKind::Output && !in_header;
     let name = decl.name.as_str();
     let sig = add_signal(declaring, place, name, bounds, decl.kind, is_open, design)?;
@@ -272,11 +295,13 @@ fn add_memory(
     words: u32,
     names: &mut Names,
     design: &mut Design,
-) -> Result<(), Stop> {
+) -> Result<(), Stop>
+    ensures numbered { IfErr result (HasNumberIn unfolding_numbers) }
+{
     let alloc = declaring.alloc;
     let room = MAX_SIGNALS.saturating_sub(design.signals.len());
     if usize::try_from(words).unwrap_or(usize::MAX) > room {
-        return refused(alloc, 601, None, "");
+        return refused(alloc, Rule::TooManySignals, None, "");
     }
     let first = u32::try_from(design.signals.len()).unwrap_or(u32::MAX);
     for k in 0..words {
@@ -303,11 +328,13 @@ fn add_signal(
     kind: DeclKind,
     is_open: bool,
     design: &mut Design,
-) -> Result<u32, Stop> {
+) -> Result<u32, Stop>
+    ensures numbered { IfErr result (HasNumberIn unfolding_numbers) }
+{
     let alloc = declaring.alloc;
     let number = design.signals.len();
     if number >= MAX_SIGNALS {
-        return refused(alloc, 601, None, "");
+        return refused(alloc, Rule::TooManySignals, None, "");
     }
     let text = printed(alloc, declaring.prefix, own)?;
     let name = Name::from_text(alloc, text.as_str())?;

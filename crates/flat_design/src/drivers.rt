@@ -1,12 +1,15 @@
 //! Drivers: each bit has one at most, and each bit that is read has one.
-use crate::bits::{bits, lowest};
-use crate::design::Design;
-use crate::fault::refused;
-use crate::flat::{FTarget, FlatAssign, FlatClocked, FlatComb};
-use crate::masks::Masks;
-use crate::uses::{add_may_assign, add_reads, add_statement_reads, add_target_reads, all_bits};
+ghost use Rattle.std.specs.Prelude.{IfErr};
+ghost use Rattle.refusals.specs.Numbers.{HasNumberIn, unfolding_numbers};
+
 use cdc_base::signal::bit_name;
 use cdc_base::{NoMemory, SigKind, Signal, Stop};
+use flat_form::bits::{bits, lowest};
+use flat_form::flat::{FTarget, FlatAssign, FlatClocked, FlatComb};
+use flat_form::masks::Masks;
+use flat_form::uses::{add_may_assign, add_reads, add_statement_reads, add_target_reads, all_bits};
+use flat_names::design::Design;
+use flat_names::fault::{Rule, refused};
 use std::alloc::Global;
 
 /// The bits that have a driver, and those that have two. `by_process` are the signals that a process assigns.
@@ -46,30 +49,53 @@ impl Drivers {
 }
 
 /// Refuses a bit with two drivers, and after that a bit that is read and has none.
-pub fn try_drivers(alloc: Global, design: &Design) -> Result<(), Stop> {
-    let signals = design.signals.as_slice();
+pub fn try_drivers(alloc: Global, design: &Design) -> Result<(), Stop>
+    ensures numbered { IfErr result (HasNumberIn unfolding_numbers) }
+{
     let drivers = drivers_of(alloc, design)?;
+    refuse_doubles(alloc, design.signals.as_slice(), &drivers)?;
+    let reads = reads_of(alloc, design)?;
+    refuse_undriven(alloc, design.signals.as_slice(), &drivers, &reads)
+}
+
+fn refuse_doubles(alloc: Global, signals: &[Signal], drivers: &Drivers) -> Result<(), Stop>
+    ensures numbered { IfErr result (HasNumberIn unfolding_numbers) }
+{
     for (number, signal) in signals.iter().enumerate() {
         let sig = u32::try_from(number).unwrap_or(u32::MAX);
-        refuse_lowest(alloc, 309, signal, drivers.twice.of(sig))?;
+        refuse_lowest(alloc, Rule::TwoDrivers, signal, drivers.twice.of(sig))?;
     }
-    let reads = reads_of(alloc, design)?;
+    Ok(())
+}
+
+/// Refuses the first bit that is read and has no driver. The inputs of the top need none.
+fn refuse_undriven(
+    alloc: Global,
+    signals: &[Signal],
+    drivers: &Drivers,
+    reads: &Masks,
+) -> Result<(), Stop>
+    ensures numbered { IfErr result (HasNumberIn unfolding_numbers) }
+{
     for (number, signal) in signals.iter().enumerate() {
         let sig = u32::try_from(number).unwrap_or(u32::MAX);
         if signal.kind != SigKind::Input {
-            refuse_lowest(alloc, 310, signal, reads.of(sig) & !drivers.once.of(sig))?;
+            let undriven = reads.of(sig) & !drivers.once.of(sig);
+            refuse_lowest(alloc, Rule::Undriven, signal, undriven)?;
         }
     }
     Ok(())
 }
 
 /// Refuses the lowest bit of a mask.
-fn refuse_lowest(alloc: Global, number: u16, signal: &Signal, mask: u64) -> Result<(), Stop> {
+fn refuse_lowest(alloc: Global, rule: Rule, signal: &Signal, mask: u64) -> Result<(), Stop>
+    ensures numbered { IfErr result (HasNumberIn unfolding_numbers) }
+{
     if mask == 0 {
         return Ok(());
     }
     let name = bit_name(alloc, signal, lowest(mask))?;
-    refused(alloc, number, Some(signal.place), name.as_str())
+    refused(alloc, rule, Some(signal.place), name.as_str())
 }
 
 fn drivers_of(alloc: Global, design: &Design) -> Result<Drivers, NoMemory> {

@@ -1,10 +1,10 @@
 //! The end of the work: which signals are registers, and their start values.
-use crate::bits::low_bits;
-use crate::design::{Design, Entry};
-use crate::flat::{Flat, FlatClocked};
-use crate::masks::Masks;
-use crate::uses::add_may_assign;
 use cdc_base::{List, NoMemory, SigKind, Signal};
+use flat_form::bits::low_bits;
+use flat_form::flat::{Flat, FlatClocked};
+use flat_form::masks::Masks;
+use flat_form::uses::add_may_assign;
+use flat_names::design::{Design, Entry};
 use std::alloc::Global;
 
 /// The flat design.

@@ -1,13 +1,13 @@
 //! Instances: overrides of parameters and connections of ports.
-use crate::assign::driven_target;
-use crate::design::{Design, Reset};
-use crate::expr::{resolve, resolve_constant};
-use crate::fault::Faults;
-use crate::flat::{FExpr, FTarget, FlatAssign};
-use crate::memory::push;
 use crate::parameter::{Override, Overrides, overridable};
-use crate::scope::{Look, Meaning, Names};
 use cdc_base::{Name, NoMemory};
+use flat_form::flat::{FExpr, FTarget, FlatAssign};
+use flat_form::memory::push;
+use flat_names::design::{Design, Reset};
+use flat_names::expr::{resolve, resolve_constant};
+use flat_names::fault::{Faults, Rule};
+use flat_names::scope::{Look, Meaning, Names};
+use flat_process::assign::driven_target;
 use indexmap::{IndexMap, IndexSet};
 use std::alloc::Global;
 use verilog_ast::{Conns, Decl, DeclKind, Expr, ItemBody, Module};
@@ -87,7 +87,7 @@ pub fn overrides_of(
     match given {
         Conns::Ordered(values) => {
             if values.len() > names.len() {
-                faults.note(306, word)?;
+                faults.note(Rule::Mismatch, word)?;
             }
             for (k, value) in values.as_slice().iter().enumerate() {
                 add_override(look, names.get(k), value, &mut overrides, faults)?;
@@ -98,7 +98,7 @@ pub fn overrides_of(
             for conn in conns.as_slice() {
                 let is_left = left.swap_remove(&conn.name);
                 if !is_left {
-                    faults.note(306, word)?;
+                    faults.note(Rule::Mismatch, word)?;
                 }
                 add_override(look, Some(&conn.name), &conn.value, &mut overrides, faults)?;
             }
@@ -158,7 +158,7 @@ pub fn connections_of(
         Conns::Ordered(values) => {
             let header = module.ports.as_slice();
             if values.len() > header.len() {
-                faults.note(306, word)?;
+                faults.note(Rule::Mismatch, word)?;
             }
             for (k, value) in values.as_slice().iter().enumerate() {
                 let port = match header.get(k) {
@@ -173,7 +173,7 @@ pub fn connections_of(
             for conn in conns.as_slice() {
                 let port = ports.get_index_of(&conn.name);
                 if !is_new(look.alloc, &mut seen, &conn.name)? || port.is_none() {
-                    faults.note(306, word)?;
+                    faults.note(Rule::Mismatch, word)?;
                 }
                 connect(look, ports, port, &conn.value, &mut connections, faults)?;
             }
@@ -257,7 +257,7 @@ fn note_open_inputs(
     }
     for (port, is_input) in ports.values().enumerate() {
         if *is_input == Some(true) && !met.contains(&port) {
-            faults.note(306, word)?;
+            faults.note(Rule::Mismatch, word)?;
         }
     }
     Ok(())

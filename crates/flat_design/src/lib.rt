@@ -1,41 +1,21 @@
 //! Flat designs: a source with its instances unfolded, its names resolved and its constants computed.
 #![tactic(auto)]
 
-mod always;
-mod assign;
-mod bits;
-mod copy;
+ghost use Rattle.std.specs.Prelude.{IfErr};
+ghost use Rattle.refusals.specs.Numbers.{HasNumberIn, unfolding_numbers};
+
 mod declare;
-mod design;
 mod drivers;
-mod expr;
-mod fault;
 mod finish;
-pub mod flat;
 mod instance;
-mod latch;
-mod masks;
-mod memory;
 mod parameter;
-mod printed;
-mod process;
-mod reset;
-mod resolved;
-mod scope;
-mod select;
-mod size;
-mod start;
-mod target;
-mod uses;
-mod value;
 mod visit;
-mod whole;
 
 use cdc_base::{Name, ResetPin, Stop};
 use drivers::try_drivers;
-use fault::refused;
 use finish::finished;
-pub use flat::{FCaseItem, FExpr, FStmt, FTarget, Flat, FlatAssign, FlatClocked, FlatComb};
+pub use flat_form::{FCaseItem, FExpr, FStmt, FTarget, Flat, FlatAssign, FlatClocked, FlatComb};
+use flat_names::fault::{Rule, refused};
 use std::alloc::Global;
 use verilog_ast::Source;
 use visit::{Library, Visit, visit_top};
@@ -51,10 +31,12 @@ pub fn flatten(
     source: &Source,
     top: &Name,
     resets: &[ResetPin],
-) -> Result<Flat, Stop> {
+) -> Result<Flat, Stop>
+    ensures numbered { IfErr result (HasNumberIn unfolding_numbers) }
+{
     let library = Library::new(alloc, source)?;
     let Some(number) = library.number(top) else {
-        return refused(alloc, 301, None, top.as_str());
+        return refused(alloc, Rule::NoTop, None, top.as_str());
     };
     let mut visit = Visit::new(&library)?;
     visit_top(&library, number, resets, &mut visit)?;

@@ -1,15 +1,18 @@
 //! Parameters of a module.
-use crate::design::Design;
-use crate::expr::resolve_constant;
-use crate::fault::{Faults, Order};
-use crate::flat::FExpr;
-use crate::memory::push;
-use crate::scope::{Bounds, Look, Meaning, Names, Param, define};
-use crate::select::bounds_of;
-use crate::size::width_of;
-use crate::value::assigned_value;
+ghost use Rattle.std.specs.Prelude.{IfErr};
+ghost use Rattle.refusals.specs.Numbers.{HasNumberIn, unfolding_numbers};
+
 use cdc_base::limits::MAX_WIDTH;
 use cdc_base::{Name, NoMemory, Place, Stop};
+use flat_form::flat::FExpr;
+use flat_form::memory::push;
+use flat_form::size::width_of;
+use flat_form::value::assigned_value;
+use flat_names::design::Design;
+use flat_names::expr::resolve_constant;
+use flat_names::fault::{Faults, Order, Rule};
+use flat_names::scope::{Bounds, Look, Meaning, Names, Param, define};
+use flat_names::select::bounds_of;
 use indexmap::IndexMap;
 use std::alloc::Global;
 use verilog_ast::{ItemBody, Module, ParamDecl, Range};
@@ -37,7 +40,7 @@ pub fn declared_bounds(
     let bounds = range_bounds(look, range, faults)?;
     if let Some(bounds) = bounds {
         if bounds.width() > u64::from(MAX_WIDTH) {
-            faults.note(308, name.as_str())?;
+            faults.note(Rule::Width, name.as_str())?;
         }
     }
     Ok(bounds)
@@ -68,7 +71,9 @@ pub fn add_parameters(
     overrides: &Overrides,
     names: &mut Names,
     design: &Design,
-) -> Result<(), Stop> {
+) -> Result<(), Stop>
+    ensures numbered { IfErr result (HasNumberIn unfolding_numbers) }
+{
     for param in module.params.as_slice() {
         let outer = overrides.get(&param.name);
         add_parameter(alloc, module.place, param, outer, names, design)?;
@@ -89,7 +94,9 @@ fn add_parameter(
     outer: Option<&Override>,
     names: &mut Names,
     design: &Design,
-) -> Result<(), Stop> {
+) -> Result<(), Stop>
+    ensures numbered { IfErr result (HasNumberIn unfolding_numbers) }
+{
     let mut faults = Faults::new(alloc, Order::Parameter);
     let meaning = {
         let look = design.look(alloc, names);
@@ -108,7 +115,7 @@ fn parameter_meaning(
     faults: &mut Faults,
 ) -> Result<Param, NoMemory> {
     if look.names.contains_key(&param.name) {
-        faults.note(304, param.name.as_str())?;
+        faults.note(Rule::DeclaredTwice, param.name.as_str())?;
     }
     let bounds = declared_bounds(look, &param.range, &param.name, faults)?;
     match outer {

@@ -1,16 +1,19 @@
 //! The visit of modules, each instance in its place.
-use crate::always::add_process;
-use crate::assign::{add_assign, add_gate, add_wire_value};
+ghost use Rattle.std.specs.Prelude.{IfErr};
+ghost use Rattle.refusals.specs.Numbers.{HasNumberIn, unfolding_numbers};
+
 use crate::declare::add_declarations;
-use crate::design::{Design, Reset, Role};
-use crate::fault::{Faults, Order, refused};
-use crate::instance::{add_connections, connections_of, overrides_of, ports_of};
-use crate::memory::{append, push};
+use crate::instance::{Connection, Ports, add_connections, connections_of, overrides_of, ports_of};
 use crate::parameter::{Overrides, add_parameters};
-use crate::printed::append_part;
-use crate::scope::{Look, Meaning, Names, define};
-use crate::start::{add_declared_start, add_initial};
 use cdc_base::{Name, NoMemory, Place, ResetPin, SigKind, Stop};
+use flat_form::memory::{append, push};
+use flat_names::design::{Design, Reset, Role};
+use flat_names::fault::{Faults, Order, Rule, refused};
+use flat_names::printed::append_part;
+use flat_names::scope::{Look, Meaning, Names, define};
+use flat_process::always::add_process;
+use flat_process::assign::{add_assign, add_gate, add_wire_value};
+use flat_process::start::{add_declared_start, add_initial};
 use indexmap::IndexMap;
 use std::alloc::Global;
 use verilog_ast::{Conns, Decl, DeclKind, Item, ItemBody, Module, Source};
@@ -25,12 +28,19 @@ pub struct Library<'a> {
 
 impl<'a> Library<'a> {
     /// Two modules of one name are refused.
-    pub fn new(alloc: Global, source: &'a Source) -> Result<Library<'a>, Stop> {
+    pub fn new(alloc: Global, source: &'a Source) -> Result<Library<'a>, Stop>
+        ensures numbered { IfErr result (HasNumberIn unfolding_numbers) }
+    {
         let modules = source.modules.as_slice();
         let mut by_name = IndexMap::new(alloc);
         for (number, module) in modules.iter().enumerate() {
             if by_name.contains_key(&module.name) {
-                return refused(alloc, 304, Some(module.place), module.name.as_str());
+                return refused(
+                    alloc,
+                    Rule::DeclaredTwice,
+                    Some(module.place),
+                    module.name.as_str(),
+                );
             }
             if by_name.insert(module.name.copy(alloc)?, number).is_err() {
                 return Err(Stop::Memory);
@@ -123,7 +133,9 @@ pub fn visit_top(
     top: usize,
     resets: &[ResetPin],
     visit: &mut Visit,
-) -> Result<(), Stop> {
+) -> Result<(), Stop>
+    ensures numbered { IfErr result (HasNumberIn unfolding_numbers) }
+{
     let none = IndexMap::new(library.alloc);
     let names = begin(library, top, &none, visit)?;
     if let Some(module) = library.modules.get(top) {
@@ -145,7 +157,9 @@ fn begin(
     module: usize,
     overrides: &Overrides,
     visit: &mut Visit,
-) -> Result<Names, Stop> {
+) -> Result<Names, Stop>
+    ensures numbered { IfErr result (HasNumberIn unfolding_numbers) }
+{
     let alloc = library.alloc;
     let mut names = IndexMap::new(alloc);
     let Some(module) = library.modules.get(module) else {
@@ -171,7 +185,9 @@ fn open_module(
     module: usize,
     names: Names,
     visit: &mut Visit,
-) -> Result<(), Stop> {
+) -> Result<(), Stop>
+    ensures numbered { IfErr result (HasNumberIn unfolding_numbers) }
+{
     if let Some(found) = library.modules.get(module) {
         for port in found.ports.as_slice() {
             if let Some(decl) = &port.decl {
@@ -190,7 +206,9 @@ fn open_module(
 }
 
 /// One item of the innermost module, or its end. Answers whether there was a module left.
-fn step(library: &Library, visit: &mut Visit) -> Result<bool, Stop> {
+fn step(library: &Library, visit: &mut Visit) -> Result<bool, Stop>
+    ensures numbered { IfErr result (HasNumberIn unfolding_numbers) }
+{
     let Some(mut open) = visit.open.pop() else {
         return Ok(false);
     };
@@ -245,7 +263,9 @@ fn add_instance(
     instance: &Instance,
     outer: Open,
     visit: &mut Visit,
-) -> Result<(), Stop> {
+) -> Result<(), Stop>
+    ensures numbered { IfErr result (HasNumberIn unfolding_numbers) }
+{
     let alloc = library.alloc;
     let number = instance_module(library, instance, &outer.names, visit)?;
     let Some(module) = library.modules.get(number) else {
@@ -270,7 +290,21 @@ fn add_instance(
     )?;
     push(&mut visit.open, outer)?;
     let names = begin(library, number, &overrides, visit)?;
-    add_connections(&ports, connections, &names, &mut visit.design)?;
+    enter_module(library, number, names, (&ports, connections), visit)
+}
+
+/// Adds the connections of an instance whose module has begun, and goes into it.
+fn enter_module(
+    library: &Library,
+    number: usize,
+    names: Names,
+    ends: (&Ports, Vec<Connection>),
+    visit: &mut Visit,
+) -> Result<(), Stop>
+    ensures numbered { IfErr result (HasNumberIn unfolding_numbers) }
+{
+    let (ports, connections) = ends;
+    add_connections(ports, connections, &names, &mut visit.design)?;
     open_module(library, number, names, visit)
 }
 
@@ -280,16 +314,33 @@ fn instance_module(
     instance: &Instance,
     names: &Names,
     visit: &Visit,
-) -> Result<usize, Stop> {
+) -> Result<usize, Stop>
+    ensures numbered { IfErr result (HasNumberIn unfolding_numbers) }
+{
     let place = Some(instance.place);
     let Some(number) = library.number(instance.module) else {
-        return refused(library.alloc, 302, place, instance.module.as_str());
+        return refused(
+            library.alloc,
+            Rule::UnknownModule,
+            place,
+            instance.module.as_str(),
+        );
     };
     if visit.is_visited(number) {
-        return refused(library.alloc, 303, place, instance.module.as_str());
+        return refused(
+            library.alloc,
+            Rule::ModuleInsideItself,
+            place,
+            instance.module.as_str(),
+        );
     }
     if names.contains_key(instance.name) {
-        return refused(library.alloc, 304, place, instance.name.as_str());
+        return refused(
+            library.alloc,
+            Rule::DeclaredTwice,
+            place,
+            instance.name.as_str(),
+        );
     }
     Ok(number)
 }
@@ -301,7 +352,9 @@ fn add_item(
     body: &ItemBody,
     names: &Names,
     design: &mut Design,
-) -> Result<(), Stop> {
+) -> Result<(), Stop>
+    ensures numbered { IfErr result (HasNumberIn unfolding_numbers) }
+{
     match body {
         ItemBody::Param(_) | ItemBody::Instance { .. } => Ok(()),
         ItemBody::Decl(decl) => add_declared_value(alloc, place, decl, names, design),
@@ -323,7 +376,9 @@ fn add_declared_value(
     decl: &Decl,
     names: &Names,
     design: &mut Design,
-) -> Result<(), Stop> {
+) -> Result<(), Stop>
+    ensures numbered { IfErr result (HasNumberIn unfolding_numbers) }
+{
     match &decl.init {
         None => Ok(()),
         Some(value) if decl.kind == DeclKind::Wire => {

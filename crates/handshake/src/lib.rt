@@ -67,7 +67,7 @@ fn is_known(
     let Some(node) = next_node(net, next.bit) else {
         return Ok(false);
     };
-    let table = pair_table(alloc, net, one, another)?;
+    let table = pair_table(alloc, net, one, another, &[next.bit])?;
     Ok(known_value(&table, node) == Some(next.value))
 }
 

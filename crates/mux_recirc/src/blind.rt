@@ -154,8 +154,9 @@ impl<'a> Search<'a> {
         let Some(request) = ring.bits.as_slice().first().copied() else {
             return Ok(());
         };
+        let ends = self.asked_ends(alloc, questions)?;
         for gate in 2..ring.ack {
-            if let Some(mut shut) = Shut::open(alloc, self.net, ring, gate)? {
+            if let Some(mut shut) = Shut::open(alloc, self.net, ring, gate, ends.as_slice())? {
                 for question in questions {
                     let blind = Blind {
                         crossing: 0,
@@ -168,6 +169,17 @@ impl<'a> Search<'a> {
             }
         }
         Ok(())
+    }
+
+    /// The ends of the runs that are asked about.
+    fn asked_ends(&self, alloc: Global, questions: &[Question]) -> Result<Vec<Bit>, NoMemory> {
+        let mut ends = Vec::new(alloc);
+        for question in questions {
+            if let Some(run) = self.runs.get(question.run) {
+                ends.push(run.to).map_err(|_| NoMemory)?;
+            }
+        }
+        Ok(ends)
     }
 
     /// Adds the blindnesses of one run at one gate.
@@ -206,7 +218,7 @@ impl<'a> Search<'a> {
     }
 }
 
-/// The tables in which the two bits of a gate are equal.
+/// The tables in which the two bits of a gate are equal, for the next values of the ends of some crossings.
 #[derive(Drop)]
 struct Shut {
     low: Table,
@@ -214,15 +226,21 @@ struct Shut {
 }
 
 impl Shut {
-    fn open(alloc: Global, net: &Net, ring: &Ring, gate: u32) -> Result<Option<Shut>, NoMemory> {
+    fn open(
+        alloc: Global,
+        net: &Net,
+        ring: &Ring,
+        gate: u32,
+        ends: &[Bit],
+    ) -> Result<Option<Shut>, NoMemory> {
         let bits = ring.bits.as_slice();
         let place = gate as usize;
         let (Some(one), Some(another)) = (bits.get(place), bits.get(place.saturating_add(1))) else {
             return Ok(None);
         };
         Ok(Some(Shut {
-            low: equal(alloc, net, *one, *another, false)?,
-            high: equal(alloc, net, *one, *another, true)?,
+            low: equal(alloc, net, *one, *another, false, ends)?,
+            high: equal(alloc, net, *one, *another, true, ends)?,
         }))
     }
 
@@ -233,11 +251,18 @@ impl Shut {
     }
 }
 
-fn equal(alloc: Global, net: &Net, one: Bit, another: Bit, value: bool) -> Result<Table, NoMemory> {
+fn equal(
+    alloc: Global,
+    net: &Net,
+    one: Bit,
+    another: Bit,
+    value: bool,
+    ends: &[Bit],
+) -> Result<Table, NoMemory> {
     let one = Fixed { bit: one, value };
     let another = Fixed {
         bit: another,
         value,
     };
-    pair_table(alloc, net, one, another)
+    pair_table(alloc, net, one, another, ends)
 }

@@ -106,7 +106,7 @@ fn request_of(rings: &[Ring], ring: usize) -> Option<Bit> {
     rings.get(ring)?.bits.as_slice().first().copied()
 }
 
-/// The tables in which the two ends of a ring differ.
+/// The tables in which the two ends of a ring differ, for the next values of some bits.
 #[derive(Drop)]
 struct Busy {
     rising: Table,
@@ -114,14 +114,14 @@ struct Busy {
 }
 
 impl Busy {
-    fn open(alloc: Global, net: &Net, ring: &Ring) -> Result<Option<Busy>, NoMemory> {
-        let bits = ring.bits.as_slice();
-        let (Some(request), Some(last)) = (bits.first(), bits.last()) else {
+    fn open(alloc: Global, net: &Net, ring: &Ring, bits: &[Bit]) -> Result<Option<Busy>, NoMemory> {
+        let ends = ring.bits.as_slice();
+        let (Some(request), Some(last)) = (ends.first(), ends.last()) else {
             return Ok(None);
         };
         Ok(Some(Busy {
-            rising: differing(alloc, net, *request, *last, true)?,
-            falling: differing(alloc, net, *request, *last, false)?,
+            rising: differing(alloc, net, *request, *last, true, bits)?,
+            falling: differing(alloc, net, *request, *last, false, bits)?,
         }))
     }
 
@@ -138,6 +138,7 @@ fn differing(
     request: Bit,
     last: Bit,
     value: bool,
+    bits: &[Bit],
 ) -> Result<Table, NoMemory> {
     let request = Fixed {
         bit: request,
@@ -147,7 +148,7 @@ fn differing(
         bit: last,
         value: !value,
     };
-    pair_table(alloc, net, request, last)
+    pair_table(alloc, net, request, last, bits)
 }
 
 /// The questions that are answered with yes, by bit, then ring. The questions of one ring stand side by side.
@@ -183,7 +184,8 @@ fn answer(
     questions: &[Question],
     pairs: &mut Vec<Part>,
 ) -> Result<(), NoMemory> {
-    let Some(busy) = Busy::open(alloc, net, ring)? else {
+    let bits = asked_bits(alloc, questions)?;
+    let Some(busy) = Busy::open(alloc, net, ring, bits.as_slice())? else {
         return Ok(());
     };
     for question in questions {
@@ -197,4 +199,12 @@ fn answer(
         }
     }
     Ok(())
+}
+
+fn asked_bits(alloc: Global, questions: &[Question]) -> Result<Vec<Bit>, NoMemory> {
+    let mut bits = Vec::new(alloc);
+    for question in questions {
+        bits.push(question.bit).map_err(|_| NoMemory)?;
+    }
+    Ok(bits)
 }

@@ -1,6 +1,9 @@
 //! The verdict on a net.
 #![tactic(auto)]
 
+ghost use Rattle.std.specs.Prelude.{IfErr};
+ghost use Rattle.refusals.specs.Numbers.{HasNumberIn, crossing_numbers};
+
 pub mod arrivals;
 pub mod bare;
 pub mod covers;
@@ -83,7 +86,9 @@ pub fn audit_with<E: Extra>(
     net: &Net,
     domains: &Domains,
     extra: &E,
-) -> Result<Verdict, Stop> {
+) -> Result<Verdict, Stop>
+    ensures numbered { IfErr result (HasNumberIn crossing_numbers) }
+{
     let crossings = crossings::find(alloc, net, domains)?;
     let syncs = two_flop::syncs(alloc, net, domains, crossings.as_slice())?;
     let grays = gray_pointer::gray_regs(alloc, net, domains)?;
@@ -111,6 +116,8 @@ pub fn audit_with<E: Extra>(
 }
 
 /// The verdict on the net.
-pub fn audit(alloc: Global, net: &Net, domains: &Domains) -> Result<Verdict, Stop> {
+pub fn audit(alloc: Global, net: &Net, domains: &Domains) -> Result<Verdict, Stop>
+    ensures numbered { IfErr result (HasNumberIn crossing_numbers) }
+{
     audit_with(alloc, net, domains, &NoExtra)
 }

@@ -1,4 +1,7 @@
 //! Findings that are waived.
+ghost use Rattle.std.specs.Prelude.{IfErr};
+ghost use Rattle.refusals.specs.Numbers.{HasNumberIn, waiver_numbers};
+
 use crate::finding::{finding_lines, first_line};
 use crate::text::Text;
 use cdc_base::{Fault, List, Name, NoMemory, Stop};
@@ -94,7 +97,9 @@ pub fn set_aside(
     domains: &Domains,
     verdict: &Verdict,
     waivers: &[Waiver],
-) -> Result<List<Option<u32>>, Stop> {
+) -> Result<List<Option<u32>>, Stop>
+    ensures numbered { IfErr result (HasNumberIn waiver_numbers) }
+{
     let places = places_of(alloc, waivers)?;
     let aside = waived_by(alloc, net, domains, verdict.findings.as_slice(), &places)?;
     let met = met(alloc, waivers.len(), aside.as_slice())?;

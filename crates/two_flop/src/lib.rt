@@ -2,7 +2,9 @@
 #![tactic(auto)]
 
 use cdc_base::{Bit, List, NoMemory};
-use cdc_model::view::{copied_bit, plain_table, settle_of};
+use cdc_model::view::{
+    copied_bit, is_marked, mark, plain_table, register_bits, settle_of, unmarked,
+};
 use cdc_model::{Crossing, Reader, Readers, Sync};
 use cell_graph::Net;
 use cofactor::Table;
@@ -21,7 +23,8 @@ pub fn syncs(
     crossings: &[Crossing],
 ) -> Result<List<Sync>, NoMemory> {
     let mut table = plain_table(alloc, net)?;
-    let readers = Readers::find(alloc, net, &mut table)?;
+    let flops = flops(alloc, net, &table, crossings)?;
+    let readers = Readers::find(alloc, net, &mut table, flops.as_slice())?;
     let mut syncs = List::new(alloc);
     for crossing in crossings {
         if copied_bit(net, &table, crossing.to) == Some(crossing.from) {
@@ -33,6 +36,37 @@ pub fn syncs(
         }
     }
     Ok(syncs)
+}
+
+/// Marks the signals of first flops and of the copies behind them: the flops of synchronizers are among these.
+fn flops(
+    alloc: Global,
+    net: &Net,
+    table: &Table,
+    crossings: &[Crossing],
+) -> Result<Vec<Option<u32>>, NoMemory> {
+    let mut marks = unmarked(alloc, net)?;
+    for crossing in crossings {
+        if copied_bit(net, table, crossing.to) == Some(crossing.from) {
+            mark(&mut marks, crossing.to);
+        }
+    }
+    let bits = register_bits(alloc, net)?;
+    for _ in 1..MAX_FLOPS {
+        mark_copies(net, table, bits.as_slice(), &mut marks);
+    }
+    Ok(marks)
+}
+
+/// Marks the signals of the bits that copy a bit of a marked signal.
+fn mark_copies(net: &Net, table: &Table, bits: &[Bit], marks: &mut Vec<Option<u32>>) {
+    for bit in bits {
+        if let Some(from) = copied_bit(net, table, *bit) {
+            if is_marked(marks.as_slice(), from) {
+                mark(marks, *bit);
+            }
+        }
+    }
 }
 
 /// The first flop and those behind it, each read by the next alone, up to four.

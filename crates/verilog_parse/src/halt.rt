@@ -1,5 +1,6 @@
 //! Why a form was not read.
 ghost use Rattle.std.specs.Prelude.{◌≡◌, ◌≤◌, ◌<◌, ◌+◌, IfOk};
+ghost use Rattle.refusals.specs.Numbers.{HasNumberIn, grammar_numbers};
 
 use cdc_base::{Fault, Name, NoMemory, Place, Stop};
 use std::alloc::Global;
@@ -50,7 +51,9 @@ const NO_READING: u16 = 201;
 const TOO_DEEP: u16 = 202;
 
 /// The refusal at the place of the refused one of the tokens.
-pub fn stop_at(alloc: Global, tokens: &[Token], halt: Halt) -> Stop {
+pub fn stop_at(alloc: Global, tokens: &[Token], halt: Halt) -> Stop
+    ensures numbered { HasNumberIn grammar_numbers result }
+{
     let Halt::Refused { deep, left } = halt else {
         return Stop::Memory;
     };

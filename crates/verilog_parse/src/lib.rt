@@ -1,6 +1,9 @@
 //! The grammar of a netlist: from tokens to a source, and back to text.
 #![tactic(auto)]
 
+ghost use Rattle.std.specs.Prelude.{IfErr};
+ghost use Rattle.refusals.specs.Numbers.{HasNumberIn, grammar_numbers};
+
 pub mod copy;
 pub mod decl;
 pub mod expr;
@@ -24,7 +27,9 @@ use verilog_lex::Token;
 ///
 /// The refusal stands at the first token up to which, itself included, no source of at most 256 levels begins. It is
 /// E202 where a deeper source does begin so, and E201 where none does.
-pub fn parse(alloc: Global, tokens: &[Token]) -> Result<Source, Stop> {
+pub fn parse(alloc: Global, tokens: &[Token]) -> Result<Source, Stop>
+    ensures numbered { IfErr result (HasNumberIn grammar_numbers) }
+{
     match module::read_source(alloc, tokens) {
         Ok(source) => Ok(source),
         Err(halt) => Err(halt::stop_at(alloc, tokens, halt)),

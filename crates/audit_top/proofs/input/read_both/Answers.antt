@@ -1,5 +1,8 @@
-use Rattle.audit_top.proofs.ReadInTurn.{second_ends}
+use Rattle.audit_top.proofs.ReadInTurn.{first_ends, second_ends}
 use Rattle.audit_top.proofs.input.read_both.Goals as goal
+
+pub returns-in-Err-clause-files : goal.returns-in-Err-clause-files
+returns-in-Err-clause-files g c = first_ends _ _ _ _ _ c.in-Err.ensures
 
 pub returns-in-Err-read_text-clause-files : goal.returns-in-Err-read_text-clause-files
 returns-in-Err-read_text-clause-files g c = second_ends _ _ _ _ _ _ _ c.in-Ok.ensures c.in-Err-read_text.ensures

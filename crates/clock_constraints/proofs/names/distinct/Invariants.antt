@@ -1,4 +1,4 @@
-use Rattle.std.proofs.Common.{◌≡◌, map, drop, ◌++◌, take, []}
+use Rattle.std.proofs.Common.{◌≡◌, map, drop, take, []}
 use Rattle.clock_constraints.specs.Names.{first_again}
 use Rattle.clock_constraints.proofs.names.distinct.Given as goal
 

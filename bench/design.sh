@@ -1,0 +1,96 @@
+#!/usr/bin/env bash
+# Prints large designs, and their constraints.
+#   design.sh channels N     N handshake channels of 8 bits each, those of `selftest N`
+#   design.sh blocks N       N blocks, each with a pipeline of 32 bits, a decoder, a Gray-coded counter and a channel
+#   design.sh doublings      a wire that is the exclusive or of the one before with itself, 64 times over, in trees of 2^64 leaves
+#   design.sh spaces         8 MiB of spaces
+#   design.sh constraints    two clocks, and the inputs `send` and `d`
+set -eu
+
+channels() {
+    awk -v n="$1" 'BEGIN {
+        print "module m(input ca, cb, send, input [7:0] d);"
+        for (i = 0; i < n; i++) {
+            p = 2 + i % 3
+            printf "reg r%d = 0; reg t%d = 0; reg [7:0] a%d; reg [7:0] x%d;", i, i, i, i
+            for (j = 1; j <= p; j++) printf " reg s%d_%d = 0; reg k%d_%d = 0;", i, j, i, j
+            printf "\nalways @(posedge ca) begin k%d_1 <= t%d;", i, i
+            for (j = 2; j <= p; j++) printf " k%d_%d <= k%d_%d;", i, j, i, j - 1
+            printf "\n  if (send && r%d == k%d_%d) begin r%d <= ~r%d; a%d <= d; end\nend\n", i, i, p, i, i, i
+            printf "always @(posedge cb) begin s%d_1 <= r%d;", i, i
+            for (j = 2; j <= p; j++) printf " s%d_%d <= s%d_%d;", i, j, i, j - 1
+            printf " t%d <= s%d_%d;\n  if (s%d_%d != t%d) x%d <= a%d;\nend\n", i, i, p, i, p, i, i, i
+        }
+        print "endmodule"
+    }'
+}
+
+blocks() {
+    cat <<'V'
+module channel(input ca, cb, put, input [31:0] d, output ready, output reg [31:0] q, output take);
+  reg req = 0, k1 = 0, k2 = 0, s1 = 0, s2 = 0, ack = 0; reg [31:0] hold;
+  assign ready = req == k2;
+  assign take = s2 != ack;
+  always @(posedge ca) begin
+    k1 <= ack; k2 <= k1;
+    if (put && ready) begin req <= ~req; hold <= d; end
+  end
+  always @(posedge cb) begin s1 <= req; s2 <= s1; ack <= s2; if (take) q <= hold; end
+endmodule
+module position(input ca, cb, step, output [7:0] seen);
+  reg [7:0] count = 0, code = 0, m, s;
+  wire [7:0] next = count + step;
+  always @(posedge ca) begin count <= next; code <= next ^ (next >> 1); end
+  always @(posedge cb) begin m <= code; s <= m; end
+  assign seen = s;
+endmodule
+module pipeline(input c, step, input [1:0] mode, input [31:0] x, output [31:0] y);
+  reg [31:0] p0, p1, p2;
+  always @(posedge c) if (step) begin
+    p0 <= x;
+    case (mode)
+      2'd0: begin p1 <= p0 + p2; p2 <= p1 ^ x; end
+      2'd1: begin p1 <= {p0[15:0], p0[31:16]}; p2 <= p1 & ~p0; end
+      2'd2: begin p1 <= p0 < p2 ? p0 : p2; p2 <= p1 - p0; end
+      default: begin p1 <= p0 ^ {4{p0[7:0]}}; p2 <= p2 == p1 ? p0 : p2; end
+    endcase
+  end
+  assign y = p2;
+endmodule
+module decoder(input c, write, input [2:0] at, input [31:0] x, output reg [31:0] y);
+  reg [31:0] word [0:7];
+  always @(posedge c) begin if (write) word[at] <= x; y <= word[at]; end
+endmodule
+module block(input ca, cb, step, input [31:0] x, output [31:0] y);
+  wire [31:0] kept, sent; wire ready, take; wire [7:0] seen;
+  decoder u_decoder(ca, step, x[2:0], x, kept);
+  channel u_channel(ca, cb, step, kept, ready, sent, take);
+  position u_position(ca, cb, ready, seen);
+  pipeline u_pipeline(cb, take, sent[1:0], sent, y);
+endmodule
+V
+    awk -v n="$1" 'BEGIN {
+        print "module m(input ca, cb, send, input [7:0] d);"
+        for (i = 0; i < n; i++) printf "wire [31:0] y%d; block b%d(ca, cb, send, {4{d}}, y%d);\n", i, i, i
+        print "endmodule"
+    }'
+}
+
+doublings() {
+    awk 'BEGIN {
+        print "module m(input ca, cb, send, input [7:0] d);\nreg a, x;\nalways @(posedge ca) a <= send;\nwire w1 = a ^ a;"
+        for (i = 2; i <= 64; i++) printf "wire w%d = w%d ^ w%d;\n", i, i - 1, i - 1
+        print "always @(posedge cb) x <= w64;\nendmodule"
+    }'
+}
+
+case $1 in
+    channels | blocks) "$1" "$2" ;;
+    doublings) doublings ;;
+    spaces) head -c 8388608 /dev/zero | tr '\0' ' ' ;;
+    constraints)
+        printf 'top = "m"\n'
+        printf '[[clock]]\nname = "%s"\ngroup = "%s"\n' ca A cb B
+        printf '[[input]]\nname = "%s"\nclock = "ca"\n' send d
+        ;;
+esac

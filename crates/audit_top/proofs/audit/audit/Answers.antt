@@ -1,0 +1,5 @@
+use Rattle.audit_top.proofs.Answered.{answered_texts}
+use Rattle.audit_top.proofs.audit.audit.Goals as goal
+
+pub returns : goal.returns
+returns g c = answered_texts _ _ _ _ _ _ c.in_ok-net.ensures.files c.audit_texts.ensures

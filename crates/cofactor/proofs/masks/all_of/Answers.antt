@@ -1,0 +1,7 @@
+use Rattle.std.proofs.Common.{◌≡◌, ◌∙◌, sym, ap, ap₂, arith, rules, Bool, true, false, Option, Some, None, cond, ◌==◌, nat_lt, ◌%◌}
+use Rattle.cofactor.specs.Masks.{masks_of}
+use Rattle.cofactor.proofs.Shown.{all-is}
+use Rattle.cofactor.proofs.masks.all_of.Goals as goal
+
+pub returns : goal.returns
+returns c = λ k small e. c.judged.ensures ∙ ap (λ (o : Option Bool). masks_of (λ i. o) 1) (all-is k c.args.width c.args.a small e c.is_whole.result (c.is_whole.ensures k small e))

@@ -1,0 +1,6 @@
+use Rattle.std.proofs.Common.{◌≡◌, ◌∙◌, sym, ap, ap₂, arith, rules, Bool, true, false, Option, Some, None, cond, ◌==◌, nat_lt, ◌%◌}
+use Rattle.cofactor.proofs.Shown.{sum-shown}
+use Rattle.cofactor.proofs.masks.sum_of.Goals as goal
+
+pub returns : goal.returns
+returns c = λ k l small e f. sum-shown k l c.args.width c.args.a c.args.b c.front_of-known.result small e f (c.front_of-known.ensures small)

@@ -1,0 +1,4 @@
+pub mod Cubes
+pub mod Masks
+pub mod Order
+pub mod Shown

@@ -1,0 +1,91 @@
+//! The flat design as it grows, with what is known of each signal beyond its printed form.
+use crate::scope::{Bounds, Look, Names};
+use cdc_base::{Name, Signal};
+use flat_form::flat::{FlatAssign, FlatClocked, FlatComb};
+use std::alloc::Global;
+
+/// The direction of a signal in its module.
+#[derive(Clone, Copy, PartialEq, Eq, Debug, Drop)]
+pub enum Role {
+    Inner,
+    Input,
+    Output,
+}
+
+/// The reset that a signal resolves to: its place among the resets, and its active level.
+#[derive(Clone, Copy, PartialEq, Eq, Debug, Drop)]
+pub struct Reset {
+    pub pin: u32,
+    pub is_high: bool,
+}
+
+/// What a signal was declared as. `start` is a start value that
+/// a declaration or `initial` gives; `reset_known` masks the bits to which a reset gives one, and `reset_start` has these.
+#[derive(Drop)]
+pub struct Entry {
+    pub own: Name,
+    pub bounds: Option<Bounds>,
+    pub width: u8,
+    pub is_reg: bool,
+    pub role: Role,
+    /// A plain output of the old style, which may be declared once more.
+    pub is_open: bool,
+    pub reset: Option<Reset>,
+    pub start: Option<u64>,
+    pub reset_known: u64,
+    pub reset_start: u64,
+}
+
+impl Entry {
+    /// Whether `assign`, a gate or the output of an instance may assign it.
+    pub fn is_wire(&self) -> bool {
+        !self.is_reg && self.role != Role::Input
+    }
+}
+
+/// All that was unfolded so far. `entries` has one entry for each signal.
+#[derive(Drop)]
+pub struct Design {
+    pub signals: Vec<Signal>,
+    pub entries: Vec<Entry>,
+    pub assigns: Vec<FlatAssign>,
+    pub combs: Vec<FlatComb>,
+    pub clocked: Vec<FlatClocked>,
+    pub outputs: Vec<u32>,
+}
+
+impl Design {
+    pub fn new(alloc: Global) -> Design {
+        Design {
+            signals: Vec::new(alloc),
+            entries: Vec::new(alloc),
+            assigns: Vec::new(alloc),
+            combs: Vec::new(alloc),
+            clocked: Vec::new(alloc),
+            outputs: Vec::new(alloc),
+        }
+    }
+
+    /// The design so far, to read a module's expressions in.
+    pub fn look<'a>(&'a self, alloc: Global, names: &'a Names) -> Look<'a> {
+        Look {
+            alloc,
+            names,
+            signals: self.signals.as_slice(),
+            entries: self.entries.as_slice(),
+            active: false,
+        }
+    }
+
+    pub fn width(&self, sig: u32) -> u8 {
+        match self.entries.get(usize::try_from(sig).unwrap_or(usize::MAX)) {
+            Some(entry) => entry.width,
+            None => 1,
+        }
+    }
+
+    pub fn entry_mut(&mut self, sig: u32) -> Option<&mut Entry> {
+        self.entries
+            .get_mut(usize::try_from(sig).unwrap_or(usize::MAX))
+    }
+}

@@ -1,0 +1,129 @@
+//! Expressions: names resolved, sizes computed, constants judged.
+use crate::fault::{Faults, Rule};
+use crate::resolved::{
+    Parts, Resolved, binary, choose, counted_number, join, nothing, repeat, settled,
+    settled_constant, unary,
+};
+use crate::scope::{Look, Meaning, Param};
+use crate::select::{index_read, part_read};
+use cdc_base::{Name, NoMemory};
+use flat_form::flat::FExpr;
+use verilog_ast::Expr;
+
+/// The expression as a part of another one: if it is counted it has yet to be judged.
+#[cycle(resolve)]
+pub fn part_of(look: &Look, expr: &Expr, faults: &mut Faults) -> Result<Resolved, NoMemory> {
+    match expr {
+        Expr::Number {
+            value,
+            width,
+            plain,
+        } => Ok(number(*value, *width, *plain)),
+        Expr::Ident(name) => named(look, name, faults),
+        Expr::At { name, index } => {
+            note_unknown(look, name, faults)?;
+            let index = settled(part_of(look, index, faults)?, faults)?;
+            index_read(look, name, index, faults)
+        }
+        Expr::Part { name, left, right } => {
+            note_unknown(look, name, faults)?;
+            let left = settled_constant(part_of(look, left, faults)?, faults)?;
+            let right = settled_constant(part_of(look, right, faults)?, faults)?;
+            part_read(look, name, &left, &right, faults)
+        }
+        Expr::Unary { op, a } => {
+            let a = part_of(look, a, faults)?;
+            unary(look.alloc, *op, a, faults)
+        }
+        Expr::Binary { op, a, b } => {
+            let a = part_of(look, a, faults)?;
+            let b = part_of(look, b, faults)?;
+            binary(look.alloc, *op, a, b, faults)
+        }
+        Expr::Choose { cond, yes, other } => {
+            let cond = part_of(look, cond, faults)?;
+            let yes = part_of(look, yes, faults)?;
+            let other = part_of(look, other, faults)?;
+            choose(look.alloc, cond, yes, other, faults)
+        }
+        Expr::Join(parts) => {
+            let parts = parts_of(look, parts.as_slice(), faults)?;
+            join(parts, faults)
+        }
+        Expr::Repeat { count, parts } => {
+            let count = settled_constant(part_of(look, count, faults)?, faults)?;
+            let parts = parts_of(look, parts.as_slice(), faults)?;
+            repeat(count, parts, faults)
+        }
+        Expr::Paren(inner) => part_of(look, inner, faults),
+    }
+}
+
+#[cycle(resolve)]
+fn parts_of(look: &Look, exprs: &[Expr], faults: &mut Faults) -> Result<Parts, NoMemory> {
+    let mut parts = Parts::new(look.alloc);
+    for expr in exprs {
+        let part = settled(part_of(look, expr, faults)?, faults)?;
+        parts.add(part)?;
+    }
+    Ok(parts)
+}
+
+/// The expression by itself.
+pub fn resolve(look: &Look, expr: &Expr, faults: &mut Faults) -> Result<Resolved, NoMemory> {
+    let resolved = part_of(look, expr, faults)?;
+    settled(resolved, faults)
+}
+
+/// The expression by itself, which has to be a constant.
+pub fn resolve_constant(
+    look: &Look,
+    expr: &Expr,
+    faults: &mut Faults,
+) -> Result<Resolved, NoMemory> {
+    let resolved = part_of(look, expr, faults)?;
+    settled_constant(resolved, faults)
+}
+
+fn number(value: u64, width: u8, plain: bool) -> Resolved {
+    if plain {
+        counted_number(value, width)
+    } else {
+        Resolved::constant(FExpr::Number { value, width })
+    }
+}
+
+/// Notes a name that stands for nothing.
+pub fn note_unknown(look: &Look, name: &Name, faults: &mut Faults) -> Result<(), NoMemory> {
+    if look.meaning(name).is_none() {
+        faults.note(Rule::UnknownName, name.as_str())?;
+    }
+    Ok(())
+}
+
+/// A name alone.
+fn named(look: &Look, name: &Name, faults: &mut Faults) -> Result<Resolved, NoMemory> {
+    match look.meaning(name) {
+        Some(Meaning::Param(param)) => Ok(parameter(param)),
+        Some(Meaning::Signal(sig)) => { Ok(Resolved::variable(look.read(sig, 0, look.width(sig)))) }
+        Some(Meaning::Memory(_)) => {
+            faults.note(Rule::Memory, name.as_str())?;
+            Ok(Resolved::broken(nothing(), false))
+        }
+        Some(Meaning::Instance) | None => {
+            faults.note(Rule::UnknownName, name.as_str())?;
+            Ok(Resolved::broken(nothing(), false))
+        }
+    }
+}
+
+fn parameter(param: Param) -> Resolved {
+    if param.counted {
+        counted_number(param.value, param.width)
+    } else {
+        Resolved::constant(FExpr::Number {
+            value: param.value,
+            width: param.width,
+        })
+    }
+}

@@ -1,0 +1,162 @@
+//! What the names of a module stand for.
+use crate::design::{Entry, Reset};
+use cdc_base::{Name, NoMemory, Signal};
+use flat_form::bits::low_bits;
+use flat_form::flat::FExpr;
+use indexmap::IndexMap;
+use std::alloc::Global;
+
+/// Declared bounds of a range.
+#[derive(Clone, Copy, PartialEq, Eq, Debug, Drop)]
+pub struct Bounds {
+    pub left: u32,
+    pub right: u32,
+}
+
+impl Bounds {
+    /// The number of indices.
+    pub fn width(self) -> u64 {
+        u64::from(self.left.abs_diff(self.right)) + 1
+    }
+
+    /// How far an index lies from the right bound; `None` outside the range.
+    pub fn offset(self, index: u64) -> Option<u8> {
+        let (left, right) = (u64::from(self.left), u64::from(self.right));
+        let offset = if left < right {
+            if index < left {
+                return None;
+            }
+            right.checked_sub(index)?
+        } else {
+            if index > left {
+                return None;
+            }
+            index.checked_sub(right)?
+        };
+        u8::try_from(offset).ok()
+    }
+}
+
+/// A parameter of a module: its value, its size, and whether it counts as a plain number.
+#[derive(Clone, Copy, PartialEq, Eq, Debug, Drop)]
+pub struct Param {
+    pub value: u64,
+    pub width: u8,
+    pub counted: bool,
+    pub bounds: Option<Bounds>,
+}
+
+/// A memory: the number of its first word's signal, the number of its words, and the size of an index.
+#[derive(Clone, Copy, PartialEq, Eq, Debug, Drop)]
+pub struct Memory {
+    pub first: u32,
+    pub words: u32,
+    pub index_width: u8,
+}
+
+impl Memory {
+    /// The signal of the word with this index.
+    pub fn word(self, index: u64) -> Option<u32> {
+        let index = u32::try_from(index).ok()?;
+        if index < self.words {
+            self.first.checked_add(index)
+        } else {
+            None
+        }
+    }
+}
+
+/// What a name stands for. A signal is given by its number.
+#[derive(Clone, Copy, PartialEq, Eq, Debug, Drop)]
+pub enum Meaning {
+    Param(Param),
+    Signal(u32),
+    Memory(Memory),
+    Instance,
+}
+
+/// The names of one module.
+pub type Names = IndexMap<Name, Meaning>;
+
+/// Gives a name its meaning.
+pub fn define(
+    alloc: Global,
+    names: &mut Names,
+    name: &str,
+    meaning: Meaning,
+) -> Result<(), NoMemory> {
+    let name = Name::from_text(alloc, name)?;
+    match names.insert(name, meaning) {
+        Ok(_) => Ok(()),
+        Err(_) => Err(NoMemory),
+    }
+}
+
+/// What an expression of a module is read in. Resets read as their inactive level, or, where `active` says so, as
+/// their active one.
+#[derive(Drop)]
+pub struct Look<'a> {
+    pub alloc: Global,
+    pub names: &'a Names,
+    pub signals: &'a [Signal],
+    pub entries: &'a [Entry],
+    pub active: bool,
+}
+
+impl<'a> Look<'a> {
+    /// What a name stands for in an expression or as a target. The name of an instance stands for nothing there.
+    pub fn meaning(&self, name: &Name) -> Option<Meaning> {
+        match self.names.get(name) {
+            Some(Meaning::Instance) | None => None,
+            Some(meaning) => Some(*meaning),
+        }
+    }
+
+    pub fn entry(&self, sig: u32) -> Option<&Entry> {
+        self.entries.get(usize::try_from(sig).unwrap_or(usize::MAX))
+    }
+
+    /// The own name of a signal.
+    pub fn own_name(&self, sig: u32) -> &str {
+        match self.entry(sig) {
+            Some(entry) => entry.own.as_str(),
+            None => "",
+        }
+    }
+
+    pub fn width(&self, sig: u32) -> u8 {
+        match self.entry(sig) {
+            Some(entry) => entry.width,
+            None => 1,
+        }
+    }
+
+    pub fn bounds(&self, sig: u32) -> Option<Bounds> {
+        match self.entry(sig) {
+            Some(entry) => entry.bounds,
+            None => None,
+        }
+    }
+
+    /// The reset that a signal resolves to.
+    pub fn reset(&self, sig: u32) -> Option<Reset> {
+        match self.entry(sig) {
+            Some(entry) => entry.reset,
+            None => None,
+        }
+    }
+
+    /// The bits of a signal from offset `at` on.
+    pub fn read(&self, sig: u32, at: u8, width: u8) -> FExpr {
+        match self.reset(sig) {
+            None => FExpr::Read { sig, at, width },
+            Some(reset) => {
+                let is_set = at == 0 && reset.is_high == self.active;
+                FExpr::Number {
+                    value: u64::from(is_set) & low_bits(width),
+                    width,
+                }
+            }
+        }
+    }
+}

@@ -1,0 +1,9 @@
+//! Assignments, gates, processes and start values of a module, added to its flat design.
+#![tactic(auto)]
+
+pub mod always;
+pub mod assign;
+mod latch;
+mod process;
+mod reset;
+pub mod start;

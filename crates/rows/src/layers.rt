@@ -1,0 +1,137 @@
+//! Single layers, each on a design that says most about it.
+use crate::program::{CHIP, HANDSHAKE, constraints};
+use cdc_base::{Name, ResetPin, Signal};
+use cell_graph::{Net, Values};
+use cofactor::Plain;
+use domains::Domains;
+use flat_design::{Flat, flatten};
+use std::alloc::Global;
+use std::test::Fail;
+use verilog_ast::{ItemBody, Source, Stmt};
+
+fn read_source(alloc: Global, text: &str) -> Result<Source, Fail> {
+    let tokens = verilog_lex::lex(alloc, text.as_bytes())?;
+    Ok(verilog_parse::parse(alloc, tokens.as_slice())?)
+}
+
+fn flattened(alloc: Global, text: &str, top: &str, resets: &[ResetPin]) -> Result<Flat, Fail> {
+    let source = read_source(alloc, text)?;
+    let top = Name::from_text(alloc, top)?;
+    Ok(flatten(alloc, &source, &top, resets)?)
+}
+
+fn net_of(alloc: Global, text: &str) -> Result<Net, Fail> {
+    let flat = flattened(alloc, text, "m", &[])?;
+    Ok(elaborate::elaborate(alloc, &flat)?)
+}
+
+fn domains_of(alloc: Global, net: &Net, inputs: &str) -> Result<Domains, Fail> {
+    let con = constraints(alloc, inputs)?;
+    let constraints = clock_constraints::read(alloc, con.as_bytes())?;
+    Ok(domains::assign(alloc, net, &constraints, &Plain)?)
+}
+
+/// Whether the statement is an `if` with an `else`.
+fn has_else(stmt: &Stmt) -> bool {
+    match stmt {
+        Stmt::If { other, .. } => other.is_some(),
+        _ => false,
+    }
+}
+
+/// The `else` of two nested `if`s belongs to the inner one.
+#[test]
+fn an_else_belongs_to_the_nearest_if(rt: HostRuntime) -> Result<(), Fail> {
+    let text = "module m; always @(posedge c) if (a) if (b) q <= a; else q <= b; endmodule";
+    let source = read_source(rt.alloc(), text)?;
+    let mut seen = false;
+    for parsed in source.modules.as_slice() {
+        for item in parsed.items.as_slice() {
+            if let ItemBody::Always {
+                body: Stmt::If { yes, other, .. },
+                ..
+            } = &item.body
+            {
+                assert_eq!(&rt; other.is_some(), false);
+                assert_eq!(&rt; has_else(&**yes), true);
+                seen = true;
+            }
+        }
+    }
+    assert_eq!(&rt; seen, true);
+    Ok(())
+}
+
+fn start_of<'a>(signals: &'a [Signal], name: &str) -> Option<(u64, u64)> {
+    for signal in signals {
+        if signal.name.as_str() == name {
+            return Some((signal.known, signal.start));
+        }
+    }
+    None
+}
+
+#[test]
+fn resets_give_start_values(rt: HostRuntime) -> Result<(), Fail> {
+    let alloc = rt.alloc();
+    let reset = ResetPin {
+        name: Name::from_text(alloc, "rst_n")?,
+        high: false,
+    };
+    let flat = flattened(alloc, CHIP, "chip", &[reset])?;
+    let signals = flat.signals.as_slice();
+    for (name, known) in [
+        ("bin", 15),
+        ("ptr", 15),
+        ("u1.m", 15),
+        ("u1.s", 15),
+        ("\\u.2 .m", 1),
+        ("\\u.2 .s", 1),
+    ] {
+        assert_eq!(&rt; start_of(signals, name), Some((known, 0)), "{name}");
+    }
+    assert_eq!(&rt; start_of(signals, "lvl"), Some((0, 0)));
+    Ok(())
+}
+
+/// The later of two assignments to one bit wins.
+#[test]
+fn the_later_assignment_wins(rt: HostRuntime) -> Result<(), Fail> {
+    let alloc = rt.alloc();
+    let net = net_of(
+        alloc,
+        "module m(input ca, cb, d); reg r; always @(posedge ca) begin r <= d; r <= ~d; end endmodule",
+    )?;
+    let mut values = Values::open(alloc, &net.graph)?;
+    for (d, next) in [(0, 1), (1, 0)] {
+        values.fill(&net.graph, &[0, 0, d, 0]);
+        for reg in net.regs.as_slice() {
+            assert_eq!(&rt; values.value(reg.next), next);
+        }
+    }
+    assert_eq!(&rt; net.regs.len(), 1);
+    Ok(())
+}
+
+/// How many rings the netlist has.
+fn ring_count(alloc: Global, text: &str) -> Result<usize, Fail> {
+    let net = net_of(alloc, text)?;
+    let domains = domains_of(alloc, &net, "send d")?;
+    let crossings = crossings::find(alloc, &net, &domains)?;
+    let syncs = two_flop::syncs(alloc, &net, &domains, crossings.as_slice())?;
+    Ok(handshake::rings(alloc, &net, &domains, syncs.as_slice())?.len())
+}
+
+#[test]
+fn rings_need_their_own_acknowledgement(rt: HostRuntime) -> Result<(), Fail> {
+    let alloc = rt.alloc();
+    for (part, by, count) in [
+        ("", "", 1),
+        ("k1 <= s3", "k1 <= s2", 0),
+        ("s3 = 0", "s3 = 1", 0),
+    ] {
+        let text = HANDSHAKE.replacen(alloc, part, by, 1)?;
+        assert_eq!(&rt; ring_count(alloc, text.as_str())?, count, "{by}");
+    }
+    Ok(())
+}

@@ -1,0 +1,171 @@
+//! Texts that are refused, and texts close by that aren't.
+use crate::program::{TWO_FLOPS, audited, constraints};
+use std::alloc::Global;
+use std::process::Abort;
+use std::test::Fail;
+
+/// Audits each netlist under both clocks without an input, and compares the answer.
+fn refuse_all(rt: &impl Abort, alloc: Global, rows: &[(&str, &str)]) -> Result<(), Fail> {
+    let con = constraints(alloc, "")?;
+    for (net, line) in rows {
+        let answer = audited(alloc, net.as_bytes(), con.as_str())?;
+        let wanted = format!(in alloc; "{line}\n3")?;
+        assert_eq!(rt; answer.as_str(), wanted.as_str(), "{net}");
+    }
+    Ok(())
+}
+
+#[test]
+fn tokens_and_grammar(rt: HostRuntime) -> Result<(), Fail> {
+    refuse_all(
+        &rt,
+        rt.alloc(),
+        &[
+            (
+                "`include \"x\"",
+                "error E104: directive left out at 1:1: include",
+            ),
+            (
+                "module m; initial forever ; endmodule",
+                "error E105: reserved word left out at 1:19: forever",
+            ),
+            ("module m(input ca", "error E201: no reading at 1:18"),
+            ("module m(input ca)) ;", "error E201: no reading at 1:19"),
+            (
+                "module m; wire [65'h0:0] a; endmodule",
+                "error E103: bad number at 1:17",
+            ),
+            (
+                "module m; wire a = 4'b2; endmodule",
+                "error E103: bad number at 1:20",
+            ),
+            (
+                "module m; /* endmodule",
+                "error E102: unfinished comment or attribute at 1:11",
+            ),
+            (
+                "module m; $x endmodule",
+                "error E101: no token begins here at 1:11",
+            ),
+            (
+                "module m; initial a = 1; else endmodule",
+                "error E201: no reading at 1:26",
+            ),
+        ],
+    )
+}
+
+#[test]
+fn flattening(rt: HostRuntime) -> Result<(), Fail> {
+    refuse_all(
+        &rt,
+        rt.alloc(),
+        &[
+            ("", "error E301: no top module: m"),
+            (
+                "module m(input ca); n u(ca); endmodule",
+                "error E302: unknown module at 1:21: n",
+            ),
+            (
+                "module m(input ca); m u(ca); endmodule",
+                "error E303: module inside itself at 1:21: m",
+            ),
+            (
+                "module m(input ca); reg ca; endmodule",
+                "error E304: name declared twice at 1:21: ca",
+            ),
+            (
+                "module m(input ca); wire w = x; endmodule",
+                "error E305: unknown name at 1:21: x",
+            ),
+            (
+                "module m(input ca); wire [2-3:0] a; endmodule",
+                "error E307: constant out of range at 1:21",
+            ),
+            (
+                "module m(input ca); reg [64:0] a; endmodule",
+                "error E308: width not 1 to 64 at 1:21: a",
+            ),
+            (
+                "module m(input ca); wire w; assign w = ca; assign w = ca; endmodule",
+                "error E309: two drivers at 1:21: w",
+            ),
+            (
+                "module m(input ca, output q); wire w; assign q = w; endmodule",
+                "error E310: undriven bit is read at 1:31: w",
+            ),
+            (
+                "module m(input ca, d, output reg q); always @* if (d) q = 1'b1; endmodule",
+                "error E311: latch at 1:38: q",
+            ),
+            (
+                "module m(input ca, output q); wire w = ~w; assign q = w; endmodule",
+                "error E312: combinational loop at 1:31: w",
+            ),
+        ],
+    )
+}
+
+#[test]
+fn constraint_files(rt: HostRuntime) -> Result<(), Fail> {
+    let alloc = rt.alloc();
+    let net =
+        "module m(input ca, cb, d, output q); reg r; always @(posedge ca) r <= d; assign q = r; endmodule";
+    let declared = constraints(alloc, "d")?;
+    for (more, wanted) in [
+        (
+            "[[static]]\nname = \"z\"\n",
+            "error E403: no such top input: z\n4",
+        ),
+        (
+            "[[static]]\nname = \"ca\"\n",
+            "error E404: name declared twice: ca\n4",
+        ),
+        ("[[colour]]\n", "error E402: wrong key: colour\n4"),
+        ("[[static\n", "error E401: not TOML\n4"),
+        ("", "clean crossings=0\n0"),
+    ] {
+        let con = format!(in alloc; "{declared}{more}")?;
+        let answer = audited(alloc, net.as_bytes(), con.as_str())?;
+        assert_eq!(&rt; answer.as_str(), wanted, "{more}");
+    }
+    for (con, wanted) in [
+        ("top = 3", "error E402: wrong key: top\n4"),
+        (
+            "top = \"m\"\n[[clock]]\nname = \"ca\"\ngroup = \"A\"\n[[input]]\nname = \"d\"\nclock = \"cc\"\n",
+            "error E409: no such clock: cc\n4",
+        ),
+        (
+            "top = \"m\"\n[[input]]\nname = \"d\"\nclock = \"ca\"\n",
+            "error E409: no such clock: ca\n4",
+        ),
+    ] {
+        let answer = audited(alloc, net.as_bytes(), con)?;
+        assert_eq!(&rt; answer.as_str(), wanted, "{con}");
+    }
+    Ok(())
+}
+
+#[test]
+fn accepted_texts(rt: HostRuntime) -> Result<(), Fail> {
+    let alloc = rt.alloc();
+    let con = constraints(alloc, "")?;
+    for net in [
+        "module m(input ca, cb); reg [63:0] a; always @(posedge ca) a <= a; endmodule",
+        "module m(input ca, cb, output [3:0] q); assign q = 4'd31; endmodule",
+        "module m(input ca, cb, output [2:0] q); parameter W = 8, E = W > 4; assign q = {E, 2'd1}; endmodule",
+    ] {
+        let answer = audited(alloc, net.as_bytes(), con.as_str())?;
+        assert_eq!(&rt; answer.as_str(), "clean crossings=0\n0", "{net}");
+    }
+    let joined = TWO_FLOPS
+        .replace(alloc, "\n", " ")?
+        .replacen(alloc, "endmodule", "/* x */ endmodule", 1)?;
+    let con = constraints(alloc, "d")?;
+    let answer = audited(alloc, joined.as_bytes(), con.as_str())?;
+    assert_eq!(&rt;
+        answer.as_str(),
+        "cover a -> s1 two-flop 2\nclean crossings=1\n0"
+    );
+    Ok(())
+}
