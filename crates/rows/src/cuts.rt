@@ -57,14 +57,14 @@ const SPANS: [(usize, &str); 45] = [
 
 /// The line of a text without a reading at its end.
 fn unread_at_end(alloc: Global, text: &[u8]) -> Result<String, Fail> {
-    let mut line = 1;
-    let mut column = 1;
+    let mut line: u32 = 1;
+    let mut column: u32 = 1;
     for byte in text {
         if *byte == b'\n' {
-            line += 1;
+            line = line.saturating_add(1);
             column = 1;
         } else {
-            column += 1;
+            column = column.saturating_add(1);
         }
     }
     Ok(format!(in alloc; "error E201: no reading at {line}:{column}\n3")?)
