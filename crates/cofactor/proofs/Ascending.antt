@@ -1,5 +1,5 @@
 -- The order that a sort gives state bits.
-use Rattle.std.proofs.Common.{◌≡◌, ◌∙◌, ◌⊎◌, inl, inr, sym, ap, subst, refl, rules, arith, ℕ, zero, suc, ◌<◌, ◌≤◌, ◌==◌, List, [], ◌∷◌, Some, slice_get, Bool, true, false, cond, nat_lt, ltb-true, eqb-true, Ordering, Less, Equal, Greater, nat_cmp}
+use Rattle.std.proofs.Common.{◌≡◌, inl, inr, subst, refl, rules, arith, ℕ, zero, suc, ◌==◌, List, [], ◌∷◌, Some, slice_get, Bool, true, false, cond, nat_lt, ltb-true, eqb-true, Less, Equal, Greater}
 use Rattle.std.specs.Cmp.{IsTotalOrder, IsEquivalence}
 use Rattle.std.specs.Cmp.Rules.{comparing}
 use Rattle.std.specs.List.{AllByRecursion}

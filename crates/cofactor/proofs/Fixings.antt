@@ -1,5 +1,5 @@
 -- What a cube fixes of the bits of a signal.
-use Rattle.std.proofs.Common.{◌≡◌, ◌∙◌, sym, ap, ap₂, subst, refl, arith, ℕ, zero, suc, ◌+◌, ◌-◌, ◌*◌, ◌%◌, ◌^◌, ◌<◌, ◌≤◌, ◌==◌, ◌≢◌, Bool, true, false, cond, ◌&&◌, ◌||◌, Option, Some, None, is_some, List, [], ◌∷◌, ◌++◌, map, length, take, get_or, eqb-true, eq-eqb}
+use Rattle.std.proofs.Common.{◌≡◌, ◌∙◌, sym, ap, subst, refl, arith, ℕ, ◌+◌, ◌*◌, ◌%◌, ◌^◌, ◌<◌, ◌==◌, ◌≢◌, Bool, true, false, cond, ◌&&◌, ◌||◌, Option, Some, None, is_some, List, [], ◌∷◌, ◌++◌, length, take, get_or, eqb-true, eq-eqb}
 use Rattle.std.proofs.lemmas.List.{take_more}
 use Rattle.std.specs.Prelude.{bit_or}
 use Rattle.std.proofs.lemmas.Bool.{eqb-false}
@@ -8,7 +8,7 @@ use Rattle.cdc_base.specs.declared.bit.Bit.{Bit}
 use Rattle.cell_graph.specs.Reading.{bit_eq}
 use Rattle.cell_graph.specs.Tree.{bit_at}
 use Rattle.cell_graph.specs.Cofactor.{fixed}
-use Rattle.cell_graph.proofs.Words.{HasBits, has-same, has-bit, bit_or-bit, bit-low, or-has, low-has}
+use Rattle.cell_graph.proofs.Words.{HasBits, has-same, or-has, low-has}
 use Rattle.cofactor.specs.declared.cube.Fixed.{Fixed}
 use Rattle.cofactor.specs.declared.masks.Masks.{Masks}
 use Rattle.cofactor.specs.Masks.{is_one, masks_of}

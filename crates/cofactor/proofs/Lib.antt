@@ -1,7 +1,15 @@
+pub mod Arms
 pub mod Ascending
+pub mod Beside
 pub mod Fixings
+pub mod Makers
+pub mod MarkLists
 pub mod Places
+pub mod ReadBits
+pub mod Rounds
 pub mod Rows
 pub mod SamePush
 pub mod SameRows
 pub mod Shown
+pub mod Walks
+pub mod WantedLists

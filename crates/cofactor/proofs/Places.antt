@@ -1,6 +1,5 @@
 -- The places of cells in a table.
-use Rattle.std.proofs.Common.{◌≡◌, ◌∙◌, sym, ap, subst, refl, arith, rules, ℕ, zero, suc, ◌+◌, ◌-◌, ◌<◌, ◌≤◌, ◌==◌, Bool, true, false, cond, List, [], ◌∷◌, length, get_or, Option, Some, None, option_map, slice_get, eqb-true, eq-eqb, nat_lt, ltb-true, ltb-false, Ordering, Less, Equal, Greater, nat_cmp, ◌++◌, unwrap_or, Result, Ok, Err}
-use Rattle.std.specs.Cmp.Rules.{comparing}
+use Rattle.std.proofs.Common.{◌≡◌, ◌∙◌, sym, ap, subst, refl, arith, ℕ, zero, suc, ◌+◌, ◌<◌, ◌≤◌, ◌==◌, Bool, true, false, cond, List, [], ◌∷◌, length, get_or, Option, Some, None, option_map, slice_get, eqb-true, eq-eqb, nat_lt, ltb-true, ltb-false, Ordering, Less, Equal, Greater, nat_cmp, ◌++◌, unwrap_or, Result, Ok, Err}
 use Rattle.std.specs.Ordering.{is_lt, ordering_index}
 use Rattle.std.specs.List.Sorted.{IsSortedBy, IsNonDecreasingBy}
 use Rattle.std.proofs.lemmas.List.Sorted.{searchable_from_sorted}
@@ -104,6 +103,10 @@ found-nowhere cs x i up h = go (place_among cs x) refl
 pub if_ok : {T E : Type 0} {P Q : T → Type 0} (r : Result T E) → ((t : T) → P t → Q t) → IfOk r P → IfOk r Q
 if_ok (Ok t) f h = f t h
 if_ok (Err e) f h = tt
+
+pub three_if : {T E : Type 0} {P Q R S : T → Type 0} (r : Result T E) → ((t : T) → P t → Q t → R t → S t) → IfOk r P → IfOk r Q → IfOk r R → IfOk r S
+three_if (Ok t) f p q r = f t p q r
+three_if (Err e) f p q r = tt
 
 some-is : (m n : ℕ) → Some m ≡ Some n → m ≡ n
 some-is m n e = cc

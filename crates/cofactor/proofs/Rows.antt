@@ -1,6 +1,5 @@
 -- What is known of a cell's bits, by what is known of those of its operands: one row of the rules for each kind of cell.
-use Rattle.std.proofs.Common.{◌≡◌, ◌∙◌, sym, ap, ap₂, subst, refl, arith, ℕ, zero, suc, ◌+◌, ◌-◌, ◌^◌, ◌<◌, ◌≤◌, min, Bool, true, false, cond, not, nat_lt, inl, inr, length, Option, Some, None, option_map}
-use Rattle.cdc_base.specs.declared.bit.Bit.{Bit}
+use Rattle.std.proofs.Common.{◌≡◌, ◌∙◌, sym, ap, ap₂, subst, refl, arith, ℕ, zero, suc, ◌+◌, ◌-◌, ◌^◌, ◌<◌, ◌≤◌, min, Bool, false, cond, not, nat_lt, inl, inr, length, Option, Some, None, option_map}
 use Rattle.cell_graph.specs.declared.cell.Cell.{Cell}
 use Rattle.cell_graph.specs.declared.cell.Cell.TheVariants.{Var, Const, Not, And, Or, Xor, Add, Sub, Eq, Lt, Shl, Shr, Mux, Concat, Slice, Extend, Reduce}
 use Rattle.cell_graph.specs.declared.cell.CellId.{CellId}

@@ -1,11 +1,11 @@
 -- State bits that are added to a table.
-use Rattle.std.proofs.Common.{◌≡◌, ◌∙◌, sym, ap, ap₂, subst, refl, arith, ℕ, zero, suc, ◌+◌, ◌<◌, ◌≤◌, Bool, true, false, cond, nat_lt, List, [], ◌∷◌, ◌++◌, length, Option, Some, None, is_some, slice_get, unwrap_or, ltb-true, ltb-false}
+use Rattle.std.proofs.Common.{◌≡◌, ◌∙◌, sym, ap, ap₂, subst, refl, arith, ℕ, zero, suc, ◌+◌, ◌<◌, Bool, true, false, nat_lt, List, [], ◌∷◌, ◌++◌, length, Option, Some, None, is_some, slice_get, unwrap_or, ltb-true, ltb-false}
 use Rattle.std.specs.Option.{option_and_then}
 use Rattle.std.specs.Prelude.{OnOk}
 use Rattle.std.proofs.Common.{Result, Ok, Err}
 use Rattle.cdc_base.specs.declared.bit.Bit.{Bit}
 use Rattle.cell_graph.specs.declared.cell.CellId.{CellId}
-use Rattle.cell_graph.specs.Cells.{Cells, cell_at, cell_width}
+use Rattle.cell_graph.specs.Cells.{Cells}
 use Rattle.cell_graph.specs.Reading.{Cube}
 use Rattle.cell_graph.specs.Tree.{bit_at, number}
 use Rattle.cell_graph.specs.Unfolded.{tree_of}
@@ -13,7 +13,7 @@ use Rattle.cell_graph.specs.Cofactor.{same}
 use Rattle.cell_graph.proofs.Words.{bit-number, bit-zero}
 use Rattle.cofactor.specs.declared.table.Row.{Row}
 use Rattle.cofactor.specs.Cubes.{bit}
-use Rattle.cofactor.specs.Shown.{Shown, place_in, no_row, row_at, masks_at, IsSame, ShowsMasks, ShowsSames, KeepBits}
+use Rattle.cofactor.specs.Shown.{Shown, place_in, no_row, row_at, IsSame, ShowsMasks, ShowsSames, KeepBits}
 
 -- what was told stays told where bits are added
 pub told-more : (set : Bool) (there here o : Option Bit) → ((b : Bit) → there ≡ Some b → here ≡ Some b) → IsSame set there o → IsSame set here o

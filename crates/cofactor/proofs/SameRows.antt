@@ -1,5 +1,6 @@
 -- The state bits that a cell's bits equal, by those of its operands: one row of the rules for each kind of cell.
-use Rattle.std.proofs.Common.{◌≡◌, ◌∙◌, sym, ap, ap₂, subst, refl, arith, ℕ, zero, suc, ◌+◌, ◌-◌, ◌^◌, ◌<◌, ◌≤◌, min, Bool, true, false, cond, not, nat_lt, inl, inr, length, Option, Some, None, option_map, is_some, slice_get, ◌==◌, ◌≢◌, ltb-true, ltb-false, lt-ltb, eqb-true}
+use Rattle.std.specs.Prelude.{bit_and}
+use Rattle.std.proofs.Common.{◌≡◌, ◌∙◌, is_some, ◌&&◌, sym, ap, ap₂, subst, refl, arith, ℕ, ◌+◌, ◌-◌, ◌<◌, ◌≤◌, Bool, true, false, cond, nat_lt, inl, inr, length, Option, Some, None, slice_get, ◌==◌, ◌≢◌, ltb-true, ltb-false, lt-ltb, eqb-true}
 use Rattle.cdc_base.specs.declared.bit.Bit.{Bit}
 use Rattle.cell_graph.specs.declared.cell.Cell.{Cell}
 use Rattle.cell_graph.specs.declared.cell.Cell.TheVariants.{Var, Const, Not, And, Or, Xor, Add, Sub, Eq, Lt, Shl, Shr, Mux, Concat, Slice, Extend, Reduce}
@@ -9,10 +10,10 @@ use Rattle.cell_graph.specs.declared.cell.ReduceKind.TheVariants as kind
 use Rattle.cell_graph.specs.Cells.{Cells, cell_at, cell_width}
 use Rattle.cell_graph.specs.Below.{IsOperand}
 use Rattle.cell_graph.specs.Reading.{Cube}
-use Rattle.cell_graph.specs.Tree.{Tree, width, bit_at, number}
+use Rattle.cell_graph.specs.Tree.{Tree, width, bit_at}
 use Rattle.cell_graph.specs.Unfolded.{unfolded, reduced, trees, tree_of, IsCellOf, IsWellFormed}
-use Rattle.cell_graph.specs.Cofactor.{fixed, known, known_and, known_or, known_xor, agreed, chosen, known_number, on_number, on_numbers, known_all, is_known, same, if_known_to_be, agreed_bit}
-use Rattle.cell_graph.proofs.Words.{bit-zero}
+use Rattle.cell_graph.specs.Cofactor.{known, chosen, known_number, on_number, is_known, same, if_known_to_be, agreed_bit}
+use Rattle.cell_graph.proofs.Words.{bit-zero, bit_and-bit}
 use Rattle.std.specs.Bool.{beq}
 use Rattle.cell_graph.specs.Feeds.{node, bit_or_zero, moved_up, moved_down, passed_by}
 use Rattle.cell_graph.specs.declared.feeds.Passed.{Passed}
@@ -21,9 +22,9 @@ use Rattle.cell_graph.proofs.Trees.{width-tree_of, tree_of-cell}
 use Rattle.cell_graph.proofs.CellValues.{width-64}
 use Rattle.cell_graph.proofs.Cones.{cell-there}
 use Rattle.cofactor.specs.declared.masks.Masks.{Masks}
-use Rattle.cofactor.specs.Masks.{masks_of, known_reduced}
+use Rattle.cofactor.specs.Masks.{masks_of}
 use Rattle.cofactor.specs.Cubes.{bit}
-use Rattle.cofactor.specs.Shown.{Shown, row_at, masks_at, same_at, same_passed, IsSame, HasNoSames, ShowsMasks, ShowsSames}
+use Rattle.cofactor.specs.Shown.{Shown, row_at, masks_at, same_at, same_passed, IsSame, HasNoneBeside, HasNoSames, ShowsMasks, ShowsSames}
 use Rattle.cofactor.proofs.Shown.{some, known-of}
 
 pub neq-eqb : (m n : ℕ) → m ≢ n → (m == n) ≡ false
@@ -67,6 +68,41 @@ none-if o p v = go o
         either : (b : Bool) → cond b None (if_known_to_be p v None None) ≡ None
         either true = refl
         either false = inner p
+
+-- a bit that isn't marked tells of none
+unmarked : (set : Bool) (there o : Option Bit) → IsSame set there o → set ≡ false → o ≡ None
+unmarked set there None h z = refl
+unmarked set there (Some b) h z = let y = h.0 in absurd (cc)
+
+none-unless : (v : Bool) (o : Option Bool) (x y : Option Bit) → (o ≡ Some v → x ≡ None) → y ≡ None → if_known_to_be o v x y ≡ None
+none-unless v None x y f e = e
+none-unless true (Some true) x y f e = f refl
+none-unless true (Some false) x y f e = e
+none-unless false (Some true) x y f e = e
+none-unless false (Some false) x y f e = f refl
+
+unknown-condition : (m : Masks) (k : ℕ → Option Bool) (w : ℕ) → 0 < w → m ≡ masks_of k w → m.known ≡ 0 → k 0 ≡ None
+unknown-condition m k w l is none = go (k 0) refl
+  where
+    go : (o : Option Bool) → k 0 ≡ o → k 0 ≡ None
+    go None e = e
+    go (Some v) e =
+        let s = (known-of m k w is).each 0 l ∙ ap is_some e in
+        let z = ap (λ n. bit_at n 0) none ∙ bit-zero 0 in
+        absurd (cc)
+
+-- two branches that have no state bit at one place
+none-agreed : (p q i : ℕ) (x y : Option Bit) → bit_and p q ≡ 0 → (bit_at p i ≡ false → x ≡ None) → (bit_at q i ≡ false → y ≡ None) → agreed_bit x y ≡ None
+none-agreed p q i x y z f h = go (bit_at p i) refl (bit_at q i) refl
+  where
+    right : (o : Option Bit) → agreed_bit o None ≡ None
+    right None = refl
+    right (Some a) = refl
+
+    go : (b : Bool) → bit_at p i ≡ b → (d : Bool) → bit_at q i ≡ d → agreed_bit x y ≡ None
+    go false e d k = ap (λ o. agreed_bit o y) (f e)
+    go true e false k = ap (agreed_bit x) (h k) ∙ right x
+    go true e true k = let s = bit_and-bit p q i in let u = ap (λ n. bit_at n i) z ∙ bit-zero i in let v = ap₂ (λ m n. m && n) e k in absurd (cc)
 
 none-known : (b : Bool) (o : Option Bit) → o ≡ None → cond b None o ≡ None
 none-known true o e = refl
@@ -259,10 +295,16 @@ module _ (g : Cells) (well : IsWellFormed g) (cube : Cube) (t : Shown) (id : Cel
   none-at : (c : Cell) → cell_at g id ≡ c → (a : CellId) → IsOperand c a → (row_at t a).same ≡ 0 → (j : ℕ) → j < W a → S a j ≡ None
   none-at c e a op z j l = no-same g cube t a (tells c e a op) z j (let w = width-tree_of g a in omega arith)
 
-  none-both : (c : Cell) → cell_at g id ≡ c → (a b : CellId) → IsOperand c a → IsOperand c b → cell_width g a ≡ cell_width g b → i < W a → (row_at t a).same ≡ 0 → (row_at t b).same ≡ 0 → (v : Bool)
+  none-marked : (c : Cell) → cell_at g id ≡ c → (a : CellId) → IsOperand c a → (j : ℕ) → j < W a → bit_at (row_at t a).same j ≡ false → S a j ≡ None
+  none-marked c e a op j l z = unmarked (bit_at (row_at t a).same j) (slice_get t.sames ((row_at t a).start + j)) (S a j) (tells c e a op j (let w = width-tree_of g a in omega arith)) z
+
+  none-both : (c : Cell) → cell_at g id ≡ c → (a b : CellId) → IsOperand c a → IsOperand c b → cell_width g a ≡ cell_width g b → i < W a → (v : Bool) → HasNoneBeside (row_at t a) (row_at t b) v
       → if_known_to_be (K a i) v (S b i) (if_known_to_be (K b i) v (S a i) None) ≡ None
-  none-both c e a b p q like l z y v = let w = width-tree_of g a in let u = width-tree_of g b in
-      ap₂ (λ m n. if_known_to_be (K a i) v m (if_known_to_be (K b i) v n None)) (none-at c e b q y i (omega arith)) (none-at c e a p z i l) ∙ none-if (K a i) (K b i) v
+  none-both c e a b p q like l v h =
+      let w = width-tree_of g a in let u = width-tree_of g b in
+      let none = h (K a) (K b) (W a) i (width-64 g well a) (operand c e a p) (alike a b like (operand c e b q)) l in
+      none-unless v (K a i) (S b i) (if_known_to_be (K b i) v (S a i) None) (λ s. none-marked c e b q i (omega arith) (none.1 s))
+      (none-unless v (K b i) (S a i) None (λ s. none-marked c e a p i l (none.0 s)) refl)
 
   none-part : (c : Cell) → cell_at g id ≡ c → (a : CellId) → IsOperand c a → (row_at t a).same ≡ 0 → (j : ℕ) → cond (nat_lt j (W a)) (S a j) None ≡ None
   none-part c e a op z j = none-either (nat_lt j (W a)) (S a j) None (λ s. none-at c e a op z j (ltb-true j (W a) s)) (λ s. refl)
@@ -271,9 +313,9 @@ module _ (g : Cells) (well : IsWellFormed g) (cube : Cube) (t : Shown) (id : Cel
   none-row (Var sig) e h = absurd h
   none-row (Const w value) e h = refl
   none-row (Not a) e h = refl
-  none-row (And a b) e h = none-known (is_known cube (T (And a b)) i) (if_known_to_be (K a i) true (S b i) (if_known_to_be (K b i) true (S a i) None)) (none-both (And a b) e a b (inl refl) (inr refl) (is-cell (And a b) e).2 (own (And a b) e) h.0 h.1 true)
-  none-row (Or a b) e h = none-known (is_known cube (T (Or a b)) i) (if_known_to_be (K a i) false (S b i) (if_known_to_be (K b i) false (S a i) None)) (none-both (Or a b) e a b (inl refl) (inr refl) (is-cell (Or a b) e).2 (own (Or a b) e) h.0 h.1 false)
-  none-row (Xor a b) e h = none-known (is_known cube (T (Xor a b)) i) (if_known_to_be (K a i) false (S b i) (if_known_to_be (K b i) false (S a i) None)) (none-both (Xor a b) e a b (inl refl) (inr refl) (is-cell (Xor a b) e).2 (own (Xor a b) e) h.0 h.1 false)
+  none-row (And a b) e h = none-known (is_known cube (T (And a b)) i) (if_known_to_be (K a i) true (S b i) (if_known_to_be (K b i) true (S a i) None)) (none-both (And a b) e a b (inl refl) (inr refl) (is-cell (And a b) e).2 (own (And a b) e) true h)
+  none-row (Or a b) e h = none-known (is_known cube (T (Or a b)) i) (if_known_to_be (K a i) false (S b i) (if_known_to_be (K b i) false (S a i) None)) (none-both (Or a b) e a b (inl refl) (inr refl) (is-cell (Or a b) e).2 (own (Or a b) e) false h)
+  none-row (Xor a b) e h = none-known (is_known cube (T (Xor a b)) i) (if_known_to_be (K a i) false (S b i) (if_known_to_be (K b i) false (S a i) None)) (none-both (Xor a b) e a b (inl refl) (inr refl) (is-cell (Xor a b) e).2 (own (Xor a b) e) false h)
   none-row (Add a b) e h = refl
   none-row (Sub a b) e h = refl
   none-row (Eq a b) e h = refl
@@ -281,10 +323,16 @@ module _ (g : Cells) (well : IsWellFormed g) (cube : Cube) (t : Shown) (id : Cel
   none-row (Shl a by) e h = none-number (known_number (K by) (W by)) (λ n. cond (nat_lt i n) None (cond (nat_lt (i - n) (W a)) (S a (i - n)) None))
       (λ n. none-known (nat_lt i n) (cond (nat_lt (i - n) (W a)) (S a (i - n)) None) (none-part (Shl a by) e a (inl refl) h (i - n)))
   none-row (Shr a by) e h = none-number (known_number (K by) (W by)) (λ n. cond (nat_lt (i + n) (W a)) (S a (i + n)) None) (λ n. none-part (Shr a by) e a (inl refl) h (i + n))
-  none-row (Mux c x y) e h =
+  none-row (Mux c x y) e (inr h) =
       let cell = is-cell (Mux c x y) e in let l = own (Mux c x y) e in let like = cell.2.2 in let p = width-tree_of g x in let q = width-tree_of g y in
       none-known (is_known cube (T (Mux c x y)) i) (chosen (K c 0) (S x i) (S y i) (agreed_bit (S x i) (S y i)))
       (ap₂ (λ a b. chosen (K c 0) a b (agreed_bit a b)) (none-at (Mux c x y) e x (inr (inl refl)) h.0 i l) (none-at (Mux c x y) e y (inr (inr refl)) h.1 i (omega arith)) ∙ none-chosen (K c 0))
+  none-row (Mux c x y) e (inl h) =
+      let cell = is-cell (Mux c x y) e in let l = own (Mux c x y) e in let like = cell.2.2 in let one = cell.1 in
+      let p = width-tree_of g x in let q = width-tree_of g y in let u = width-tree_of g c in
+      none-known (is_known cube (T (Mux c x y)) i) (chosen (K c 0) (S x i) (S y i) (agreed_bit (S x i) (S y i)))
+      (ap (λ o. chosen o (S x i) (S y i) (agreed_bit (S x i) (S y i))) (unknown-condition (masks_at t c) (K c) (W c) (omega arith) (operand (Mux c x y) e c (inl refl)) h.0)
+      ∙ none-agreed (row_at t x).same (row_at t y).same i (S x i) (S y i) h.1 (none-marked (Mux c x y) e x (inr (inl refl)) i l) (none-marked (Mux c x y) e y (inr (inr refl)) i (omega arith)))
   none-row (Concat high low) e h = none-either (nat_lt i (W low)) (S low i) (S high (i - W low)) (λ s. none-at (Concat high low) e low (inr refl) h.1 i (ltb-true i (W low) s))
       (λ s. none-at (Concat high low) e high (inl refl) h.0 (i - W low) (let l = ltb-false i (W low) s in let o = own (Concat high low) e in omega arith))
   none-row (Slice a from v) e h = let fits = (is-cell (Slice a from v) e).2 in let l = own (Slice a from v) e in let p = width-tree_of g a in

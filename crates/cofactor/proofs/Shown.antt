@@ -1,13 +1,12 @@
 -- What the masks of words show of their bits, rule by rule.
-use Rattle.std.proofs.Common.{◌≡◌, ◌∙◌, sym, ap, ap₂, subst, refl, arith, ℕ, zero, suc, ◌+◌, ◌-◌, ◌*◌, ◌/◌, ◌%◌, ◌^◌, ◌<◌, ◌≤◌, ◌==◌, min, Bool, true, false, cond, not, ◌&&◌, ◌||◌, nat_lt, Option, Some, None, is_some, option_map, ltb-true, ltb-false, lt-ltb}
+use Rattle.std.proofs.Common.{◌≡◌, ◌∙◌, sym, ap, ap₂, subst, refl, arith, ℕ, zero, suc, ◌+◌, ◌-◌, ◌*◌, ◌/◌, ◌%◌, ◌^◌, ◌<◌, ◌≤◌, ◌==◌, min, Bool, true, false, cond, not, ◌&&◌, ◌||◌, nat_lt, Option, Some, None, is_some, option_map, lt-ltb}
 use Rattle.std.specs.Prelude.{bit_and, bit_or, bit_xor, count_ones}
-use Rattle.std.specs.Bool.{beq}
-use Rattle.std.proofs.lemmas.Nat.{pow_pos, and_le_l, and_le_r, or_lt, xor_lt, and_mask, or_comm, or_shifted}
+use Rattle.std.proofs.lemmas.Nat.{pow_pos, and_le_l, and_le_r, and_mask, or_comm, or_shifted}
 use Rattle.std.proofs.Math.Nat.{mod-eq_of_lt, mod-lt, pow-suc}
 use Rattle.std.proofs.Math.Pow.{pow_mono}
 use Rattle.cell_graph.specs.Tree.{bit_at, number, all_below, any_below, odd_below}
-use Rattle.cell_graph.specs.Cofactor.{known_and, known_or, known_xor, agreed, chosen, known_plus, known_number, on_number, on_numbers, known_all, known_any, known_odd}
-use Rattle.cell_graph.proofs.Words.{HasBits, number-has, has-number, has-same, has-bit, has-64, bit_and-bit, bit_or-bit, bit_xor-bit, bit-not, bit-low, bit-up, bit-down, bit-ones, and-has, or-has, xor-has, add-has, sub-has, down-has, slice-has, wider-has, joined-has, any-bit, all-bits, odd-bits, number-lt, number-bits}
+use Rattle.cell_graph.specs.Cofactor.{known_and, known_or, known_xor, agreed, known_plus, known_number, on_number, on_numbers, known_all, known_any, known_odd}
+use Rattle.cell_graph.proofs.Words.{HasBits, number-has, has-number, has-same, has-64, bit_and-bit, bit_or-bit, bit-not, bit-low, bit-up, bit-ones, and-has, or-has, xor-has, add-has, sub-has, down-has, slice-has, wider-has, joined-has, any-bit, all-bits, odd-bits, number-lt}
 use Rattle.cofactor.specs.declared.masks.Masks.{Masks}
 use Rattle.cofactor.specs.Masks.{is_one, masks_of}
 

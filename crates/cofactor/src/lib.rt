@@ -2,6 +2,7 @@
 #![tactic(auto)]
 
 pub mod cube;
+mod marks;
 pub mod masks;
 pub mod nodes;
 pub mod table;

@@ -89,6 +89,17 @@ pub(crate) fn has_bit(word: u64, at: u8) -> bool
     shifted_right(word, u64::from(at)) & 1 == 1
 }
 
+/// The bits that are known to have the value.
+pub(crate) fn bits_known_to_be(masks: Masks, value: bool) -> u64
+    ensures { (k : ℕ → Option Bool) (w i : ℕ) → w ≤ 64 → masks ≡ masks_of k w → i < w → k i ≡ Some value → bit_at result i ≡ true }
+{
+    if value {
+        masks.value
+    } else {
+        masks.known & !masks.value
+    }
+}
+
 pub(crate) fn not_of(a: Masks) -> Masks
     ensures { (k : ℕ → Option Bool) (w : ℕ) → w ≤ 64 → a ≡ masks_of k w → result ≡ masks_of (λ i. option_map not (k i)) w }
 {

@@ -1,5 +1,7 @@
 //! The cofactors of one node.
-ghost use Rattle.std.specs.Prelude.{◌≡◌, option_map, IfOk};
+ghost use Rattle.std.specs.Prelude.{◌≡◌, ◌↔◌, true, option_map, IfOk};
+ghost use Rattle.std.specs.List.{Contains};
+ghost use Rattle.cdc_base.specs.declared.bit.Bit.{Bit};
 ghost use Rattle.cell_graph.specs.Cofactor as rules;
 ghost use Rattle.cell_graph.specs.Origin.{origin as tree_origin};
 ghost use Rattle.cell_graph.specs.Unfolded.{IsWellFormed, IsNodeOf, bit_of, tree_of};
@@ -34,9 +36,12 @@ pub fn same(alloc: Global, net: &Net, node: Node, cube: &Cube) -> Result<Option<
 
 /// The state bits that the node reads under the cube, ascending.
 pub fn reads(alloc: Global, net: &Net, node: Node, cube: &Cube) -> Result<List<Bit>, NoMemory>
+    ensures exact { IfOk result (λ bits. IsWellFormed net.now.graph → IsNodeOf net.now.graph node →
+        (b : Bit) → (Contains bits b) ↔ (rules.reads (cube_of cube.now) (tree_of net.now.graph node.cell) node.at b ≡ true)) }
     ensures ascending { IfOk result (λ bits. AreAscending bits) }
 {
-    let mut table = Table::open_below(alloc, net, cube, &[node.cell])?;
+    let roots = [node.cell];
+    let mut table = Table::open_below(alloc, net, cube, &roots)?;
     table.reads(alloc, net, node)
 }
 
@@ -66,7 +71,13 @@ pub fn origin(net: &Net, node: Node) -> Option<Node>
 pub struct Plain;
 
 impl Cofactors for Plain {
-    ghost reads = { λ g n b answer. Unit {0} };
+    ghost use Rattle.std.specs.Prelude.{◌≡◌, []};
+    ghost use Rattle.std.proofs.Common.{sym};
+    ghost use Rattle.cell_graph.specs.Cofactor as rules;
+    ghost use Rattle.cell_graph.specs.Unfolded.{IsWellFormed, IsNodeOf, tree_of};
+    ghost use Rattle.cell_graph.proofs.Unread.{reads-unread};
+
+    ghost reads = { λ g n b answer. IsWellFormed g → IsNodeOf g n → answer ≡ rules.reads [] (tree_of g n.cell) n.at b };
 
     fn origin_of(&self, net: &Net, node: Node) -> Option<Node> {
         origin(net, node)
@@ -80,5 +91,5 @@ impl Cofactors for Plain {
         Ok(bits.as_slice().contains(&bit))
     }
 
-    ghost unread = { λ g n b h. tt };
+    ghost unread = { λ g n b h well is. sym (reads-unread [] (tree_of g n.cell) n.at b h) };
 }

@@ -10,12 +10,14 @@ ghost use Rattle.cell_graph.specs.Unfolded.{IsWellFormed, IsNodeOf, tree_of};
 ghost use Rattle.cofactor.specs.Cubes.{bit, cube_of};
 ghost use Rattle.cofactor.specs.Masks.{masks_of};
 ghost use Rattle.cofactor.specs.declared.table.Row.{Row};
-ghost use Rattle.cofactor.specs.Shown.{place_among, place_in, row_at, masks_at, same_at, same_passed, IsSame, HasNoSames, ShowsMasks, ShowsSames, KeepBits, IsComplete};
+ghost use Rattle.cofactor.specs.Shown.{place_among, place_in, no_row, row_at, masks_at, same_in, same_at, same_passed, IsSame, HasNoneBeside, HasNoChoice, HasNoSames, ShowsMasks, ShowsSames, Shows, KeepBits, IsComplete};
 
 use crate::cube::{Cube, fixed_bits};
+use crate::marks::Marks;
 use crate::masks::{
-    Masks, UNKNOWN, and_of, choice_of, difference_of, equal_of, extended, has_bit, joined, less_of,
-    moved_down, moved_up, not_of, or_of, reduced, sliced, sum_of, with_bit, xor_of,
+    Masks, UNKNOWN, and_of, bits_known_to_be, choice_of, difference_of, equal_of, extended,
+    has_bit, joined, less_of, moved_down, moved_up, not_of, or_of, reduced, sliced, sum_of,
+    with_bit, xor_of,
 };
 use cdc_base::{Bit, NoMemory};
 use cell_graph::{Cell, CellId, Graph, Net, Node, Passed};
@@ -31,13 +33,6 @@ pub(crate) struct Row {
     start: usize,
 }
 
-/// The bits of a cell that a walk has met, in the walk with this number.
-#[derive(Clone, Copy, Debug, Drop)]
-pub(crate) struct Met {
-    pub(crate) walk: u64,
-    pub(crate) bits: u64,
-}
-
 /// The cofactors of cells of a net under one cube.
 #[derive(Drop)]
 pub struct Table {
@@ -45,8 +40,7 @@ pub struct Table {
     cells: Option<Vec<CellId>>,
     rows: Vec<Row>,
     sames: Vec<Bit>,
-    pub(crate) met: Vec<Met>,
-    pub(crate) walk: u64,
+    pub(crate) marks: Marks,
 }
 
 impl Model for Table {
@@ -68,6 +62,8 @@ impl Table {
             ShowsMasks net.now.graph (cube_of cube.now) t id) }
         ensures same { IfOk result (λ t. IsWellFormed net.now.graph → (id : CellId) → id.0 < length net.now.graph.cells →
             (i : ℕ) → i < cell_width net.now.graph id → same_at t id i ≡ same (cube_of cube.now) (tree_of net.now.graph id) i) }
+        ensures shown { IfOk result (λ t. IsWellFormed net.now.graph → (id : CellId) → id.0 < length net.now.graph.cells →
+            Shows net.now.graph (cube_of cube.now) t id) }
     {
         let count = net.graph.cell_count() as usize;
         Table::of_cells(alloc, &net.graph, cube, None, count)
@@ -85,6 +81,8 @@ impl Table {
         ensures same { IfOk result (λ t. IsWellFormed net.now.graph → AreIn net.now.graph roots.now → (id : CellId) →
             IsBelow net.now.graph roots.now id → (i : ℕ) → i < cell_width net.now.graph id →
             same_at t id i ≡ same (cube_of cube.now) (tree_of net.now.graph id) i) }
+        ensures shown { IfOk result (λ t. IsWellFormed net.now.graph → AreIn net.now.graph roots.now → (id : CellId) →
+            IsBelow net.now.graph roots.now id → Shows net.now.graph (cube_of cube.now) t id) }
     {
         let cells = net.graph.cells_below(alloc, roots)?;
         let count = cells.len();
@@ -111,8 +109,7 @@ impl Table {
             cells,
             rows: Vec::new(alloc),
             sames: Vec::new(alloc),
-            met: Vec::new(alloc),
-            walk: 0,
+            marks: Marks::new(alloc),
         };
         for place in 0..count {
             let cell = table.cell_at(graph, place);
@@ -122,7 +119,7 @@ impl Table {
     }
 
     /// The cell of the graph whose row stands at this place.
-    fn cell_at(&self, graph: &Graph, place: usize) -> CellId
+    pub(crate) fn cell_at(&self, graph: &Graph, place: usize) -> CellId
         ensures { (id : CellId) → id.0 < length graph.now.cells → place_in self.now.cells id ≡ Some place → result ≡ id }
     {
         match &self.cells {
@@ -152,10 +149,16 @@ impl Table {
     pub fn same(&self, node: Node) -> Option<Bit>
         ensures { result ≡ same_at self.now node.cell node.at }
     {
-        let row = self.row(node.cell);
-        if has_bit(row.same, node.at) {
+        self.same_in(self.row(node.cell), node.at)
+    }
+
+    /// The state bit that a bit of a row's cell equals.
+    pub(crate) fn same_in(&self, row: Row, at: u8) -> Option<Bit>
+        ensures { result ≡ same_in self.now row at }
+    {
+        if has_bit(row.same, at) {
             self.sames
-                .get(row.start.saturating_add(usize::from(node.at)))
+                .get(row.start.saturating_add(usize::from(at)))
                 .copied()
         } else {
             None
@@ -163,14 +166,21 @@ impl Table {
     }
 
     /// The row of a cell; nothing is shown of a cell that the table doesn't have.
-    pub(crate) fn row(&self, cell: CellId) -> Row
+    fn row(&self, cell: CellId) -> Row
         ensures { result ≡ row_at self.now cell }
     {
         match self.place_of(cell) {
-            Some(place) => match self.rows.get(place) {
-                Some(row) => *row,
-                None => NO_ROW,
-            },
+            Some(place) => self.row_there(place),
+            None => NO_ROW,
+        }
+    }
+
+    /// The row at a place.
+    pub(crate) fn row_there(&self, place: usize) -> Row
+        ensures { result ≡ unwrap_or (slice_get self.now.rows place) no_row }
+    {
+        match self.rows.get(place) {
+            Some(row) => *row,
             None => NO_ROW,
         }
     }
@@ -283,7 +293,7 @@ impl Table {
         }
     }
 
-    /// Whether the rules may show a state bit that a bit of the cell equals: none do where no operand has one.
+    /// Whether the rules may show a state bit that a bit of the cell equals, by the rows of its operands.
     fn may_have_same(&self, cell: Cell) -> bool
         ensures { result ≡ false → HasNoSames self.now cell }
     {
@@ -291,20 +301,31 @@ impl Table {
             Cell::Var { .. } => true,
             Cell::Const { .. } => false,
             Cell::Not { .. } => false,
-            Cell::And { a, b } => self.either_has_sames(a, b),
-            Cell::Or { a, b } => self.either_has_sames(a, b),
-            Cell::Xor { a, b } => self.either_has_sames(a, b),
+            Cell::And { a, b } => passes_beside(self.row(a), self.row(b), true),
+            Cell::Or { a, b } => passes_beside(self.row(a), self.row(b), false),
+            Cell::Xor { a, b } => passes_beside(self.row(a), self.row(b), false),
             Cell::Add { .. } => false,
             Cell::Sub { .. } => false,
             Cell::Eq { .. } => false,
             Cell::Lt { .. } => false,
             Cell::Shl { a, .. } => self.has_sames(a),
             Cell::Shr { a, .. } => self.has_sames(a),
-            Cell::Mux { yes, other, .. } => self.either_has_sames(yes, other),
+            Cell::Mux { cond, yes, other } => self.may_choose_same(cond, yes, other),
             Cell::Concat { high, low } => self.either_has_sames(high, low),
             Cell::Slice { a, .. } => self.has_sames(a),
             Cell::Extend { a, .. } => self.has_sames(a),
             Cell::Reduce { a, .. } => self.has_sames(a),
+        }
+    }
+
+    /// Where the condition is unknown, both branches have to have the state bit.
+    fn may_choose_same(&self, cond: CellId, yes: CellId, other: CellId) -> bool
+        ensures { result ≡ false → HasNoChoice self.now cond yes other }
+    {
+        if self.masks(cond).known == 0 {
+            self.row(yes).same & self.row(other).same != 0
+        } else {
+            self.either_has_sames(yes, other)
         }
     }
 
@@ -438,6 +459,17 @@ impl Table {
             self.same(Node { cell: yes, at }),
             self.same(Node { cell: other, at }),
         )
+    }
+}
+
+/// Whether one row has a state bit where the other is known to have the neutral value.
+fn passes_beside(a: Row, b: Row, neutral: bool) -> bool
+    ensures { result ≡ false → HasNoneBeside a b neutral }
+{
+    if bits_known_to_be(b.masks, neutral) & a.same != 0 {
+        true
+    } else {
+        bits_known_to_be(a.masks, neutral) & b.same != 0
     }
 }
 

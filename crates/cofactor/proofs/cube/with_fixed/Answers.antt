@@ -1,4 +1,4 @@
-use Rattle.std.proofs.Common.{◌≡◌, ◌∙◌, sym, true, false}
+use Rattle.std.proofs.Common.{◌∙◌, sym, true, false}
 use Rattle.cofactor.proofs.Fixings.{other-signal, fixed-before, newly-fixed}
 use Rattle.cofactor.proofs.cube.with_fixed.Goals as goal
 

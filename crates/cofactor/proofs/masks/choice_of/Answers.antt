@@ -1,4 +1,4 @@
-use Rattle.std.proofs.Common.{◌≡◌, ◌∙◌, sym, ap, Bool, true, false, Option, Some, None}
+use Rattle.std.proofs.Common.{◌∙◌, sym, ap, Some}
 use Rattle.cell_graph.specs.Cofactor.{agreed, chosen}
 use Rattle.cofactor.specs.Masks.{masks_of}
 use Rattle.cofactor.proofs.Shown.{agreed-shown}

@@ -1,4 +1,4 @@
-use Rattle.std.proofs.Common.{◌≡◌, ◌∙◌, sym, ap, ap₂, arith, rules, Bool, true, false, Option, Some, None, cond, ◌==◌, nat_lt, ◌%◌}
+use Rattle.std.proofs.Common.{◌∙◌, ap, Bool, Option}
 use Rattle.cofactor.specs.Masks.{masks_of}
 use Rattle.cofactor.proofs.Shown.{equal-is}
 use Rattle.cofactor.proofs.masks.equal_of.Goals as goal

@@ -1,4 +1,4 @@
-use Rattle.std.proofs.Common.{◌≡◌, ℕ, suc, ◌≤◌}
+use Rattle.std.proofs.Common.{◌≡◌, suc, ◌≤◌}
 use Rattle.cell_graph.specs.Tree.{bit_at, number, all_below}
 use Rattle.cofactor.proofs.masks.front_of.Given as goal
 

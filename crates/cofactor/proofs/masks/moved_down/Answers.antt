@@ -1,4 +1,3 @@
-use Rattle.std.proofs.Common.{◌≡◌, ◌∙◌, sym, ap, ap₂, arith, rules, Bool, true, false, Option, Some, None, cond, ◌==◌, nat_lt, ◌%◌}
 use Rattle.cofactor.proofs.Shown.{down-shown}
 use Rattle.cofactor.proofs.masks.moved_down.Goals as goal
 

@@ -1,4 +1,4 @@
-use Rattle.std.proofs.Common.{◌≡◌, ◌∙◌, sym, ap, ap₂, arith, rules, Bool, true, false, Option, Some, None, cond, ◌==◌, nat_lt, ◌%◌}
+use Rattle.std.proofs.Common.{◌∙◌, ap, Bool, Option, Some, None, ◌==◌, ◌%◌}
 use Rattle.cofactor.specs.Masks.{masks_of}
 use Rattle.std.specs.Prelude.{count_ones}
 use Rattle.cell_graph.specs.Cofactor.{on_number}

@@ -1,4 +1,4 @@
-use Rattle.std.proofs.Common.{◌≡◌, ◌∙◌, sym, ap, ap₂, arith, rules, Bool, true, false, Option, Some, None, cond, ◌==◌, nat_lt, ◌%◌}
+use Rattle.std.proofs.Common.{◌∙◌, sym}
 use Rattle.cofactor.proofs.Shown.{front-more, front-same}
 use Rattle.cofactor.proofs.masks.with_bit.Goals as goal
 

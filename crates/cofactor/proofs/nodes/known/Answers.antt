@@ -1,4 +1,4 @@
-use Rattle.std.proofs.Common.{◌≡◌, ◌∙◌}
+use Rattle.std.proofs.Common.{◌∙◌}
 use Rattle.cell_graph.specs.Below.{root}
 use Rattle.cell_graph.specs.Cells.{cell_width}
 use Rattle.cell_graph.specs.Unfolded.{tree_of}

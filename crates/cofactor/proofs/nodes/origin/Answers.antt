@@ -1,4 +1,4 @@
-use Rattle.std.proofs.Common.{◌≡◌, ◌∙◌, ◌<◌, arith}
+use Rattle.std.proofs.Common.{◌∙◌, arith}
 use Rattle.cell_graph.proofs.Leads.{goes_on, is_zero, is_own}
 use Rattle.cofactor.proofs.nodes.origin.Goals as goal
 

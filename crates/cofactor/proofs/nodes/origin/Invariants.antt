@@ -1,4 +1,4 @@
-use Rattle.std.proofs.Common.{◌≡◌, ℕ}
+use Rattle.std.proofs.Common.{◌≡◌}
 use Rattle.cell_graph.specs.Origin.{origin}
 use Rattle.cell_graph.specs.Unfolded.{IsWellFormed, IsNodeOf, tree_of}
 use Rattle.cofactor.proofs.nodes.origin.Given as goal

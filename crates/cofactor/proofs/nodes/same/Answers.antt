@@ -1,4 +1,4 @@
-use Rattle.std.proofs.Common.{◌≡◌, ◌∙◌}
+use Rattle.std.proofs.Common.{◌∙◌}
 use Rattle.cell_graph.specs.Below.{root}
 use Rattle.cofactor.proofs.Places.{own-root, root-within}
 use Rattle.cofactor.proofs.nodes.same.Goals as goal

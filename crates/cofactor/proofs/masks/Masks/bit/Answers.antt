@@ -1,4 +1,4 @@
-use Rattle.std.proofs.Common.{◌≡◌, ◌∙◌, sym, ap, ap₂, arith, rules, Bool, true, false, Option, Some, None, cond, ◌==◌, nat_lt, ◌%◌}
+use Rattle.std.proofs.Common.{◌≡◌, ◌∙◌, sym, ap, true, false, Some}
 use Rattle.cell_graph.specs.Tree.{bit_at}
 use Rattle.cofactor.proofs.Shown.{bit-is}
 use Rattle.cofactor.proofs.masks.Masks.bit.Goals as goal

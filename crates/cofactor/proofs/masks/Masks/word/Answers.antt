@@ -1,4 +1,4 @@
-use Rattle.std.proofs.Common.{◌≡◌, ◌∙◌, sym, ap, ap₂, arith, rules, Bool, true, false, Option, Some, None, cond, ◌==◌, nat_lt, ◌%◌}
+use Rattle.std.proofs.Common.{◌∙◌, sym, true, false}
 use Rattle.cofactor.proofs.Shown.{word-is}
 use Rattle.cofactor.proofs.masks.Masks.word.Goals as goal
 

@@ -1,4 +1,4 @@
-use Rattle.std.proofs.Common.{◌≡◌, ◌∙◌, ◌<◌, sym, ap, subst, arith, Option, Some, None, option_map, List}
+use Rattle.std.proofs.Common.{◌≡◌, ◌∙◌, sym, ap, subst, arith, Option, Some, None, option_map, List}
 use Rattle.cell_graph.specs.declared.cell.CellId.{CellId}
 use Rattle.cofactor.specs.Shown.{Shown, place_in}
 use Rattle.cofactor.proofs.Places.{same-cell}

@@ -1,4 +1,4 @@
-use Rattle.std.proofs.Common.{◌≡◌, ◌∙◌, ◌+◌, ◌≤◌, sym, arith}
+use Rattle.std.proofs.Common.{◌∙◌, sym, arith}
 use Rattle.cell_graph.specs.Cofactor.{fixed}
 use Rattle.cofactor.specs.Cubes.{bit, cube_of}
 use Rattle.cofactor.proofs.Rows.{own-64, var-row, const-row, not-row, and-row, or-row, xor-row, add-row, sub-row, eq-row, lt-row, shl-row, shl-none, shr-row, shr-none, mux-row, concat-row, slice-row, extend-row, reduce-row}

@@ -1,4 +1,4 @@
-use Rattle.std.proofs.Common.{◌≡◌, ◌∙◌, ◌+◌, ap, arith, length, length-append, option_map, Option, List, [], ◌∷◌, Vec, Global}
+use Rattle.std.proofs.Common.{◌∙◌, ap, arith, length, length-append, option_map, Option, List, [], ◌∷◌, Vec, Global}
 use Rattle.cell_graph.specs.declared.cell.CellId.{CellId}
 use Rattle.cofactor.specs.Cubes.{cube_of}
 use Rattle.cofactor.proofs.Places.{masks-more, sames-more}

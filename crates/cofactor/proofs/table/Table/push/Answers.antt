@@ -1,4 +1,4 @@
-use Rattle.std.proofs.Common.{◌≡◌, ◌∙◌, ◌+◌, ◌<◌, sym, ap, ap₂, subst, arith, ◌++◌, ◌∷◌, [], length, slice_get}
+use Rattle.std.proofs.Common.{◌≡◌, ◌∙◌, ◌+◌, sym, ap, ap₂, subst, arith, ◌++◌, ◌∷◌, [], length, slice_get}
 use Rattle.cell_graph.specs.Tree.{bit_at}
 use Rattle.cell_graph.specs.Unfolded.{tree_of}
 use Rattle.cell_graph.specs.Cofactor.{same}

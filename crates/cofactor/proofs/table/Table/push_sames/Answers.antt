@@ -1,4 +1,4 @@
-use Rattle.std.proofs.Common.{◌≡◌, ◌∙◌, ◌+◌, ◌<◌, ◌≤◌, arith, sym, ap, ℕ, length, Option, is_some, unwrap_or, ◌++◌, ◌∷◌, []}
+use Rattle.std.proofs.Common.{◌≡◌, ◌∙◌, ◌<◌, arith, ap, length, Option, is_some, unwrap_or, ◌++◌, ◌∷◌, []}
 use Rattle.cdc_base.specs.declared.bit.Bit.{Bit}
 use Rattle.cell_graph.specs.declared.cell.CellId.{CellId}
 use Rattle.cell_graph.specs.Cells.{cell_width}
@@ -7,7 +7,7 @@ use Rattle.cell_graph.specs.Cofactor.{same}
 use Rattle.cell_graph.proofs.CellValues.{width-64}
 use Rattle.cell_graph.proofs.Trees.{width-tree_of}
 use Rattle.cofactor.specs.Cubes.{bit}
-use Rattle.cofactor.proofs.SamePush.{keep-refl, keep-more, length-more, there-more, found-more, all-told, same-row, masks-stay, sames-stay}
+use Rattle.cofactor.proofs.SamePush.{keep-more, length-more, there-more, found-more, all-told, same-row, masks-stay, sames-stay}
 use Rattle.cofactor.proofs.table.Table.push_sames.Goals as goal
 
 pub loop-at-preserved : goal.loop-at-preserved

@@ -1,4 +1,4 @@
-use Rattle.std.proofs.Common.{◌≡◌, ◌∙◌, ◌+◌, ◌≤◌, sym, ap, refl, arith, true, false, None, eq-eqb}
+use Rattle.std.proofs.Common.{◌∙◌, sym, ap, refl, true, false, None, eq-eqb}
 use Rattle.cell_graph.specs.Feeds.{passed_by}
 use Rattle.cofactor.specs.Shown.{same_passed}
 use Rattle.cofactor.proofs.SameRows.{neq-eqb, var-same, const-same, not-same, and-same, or-same, xor-same, add-same, sub-same, eq-same, lt-same, shl-same, shl-not, shr-same, shr-not, mux-same, concat-same, slice-same, extend-same, reduce-same}

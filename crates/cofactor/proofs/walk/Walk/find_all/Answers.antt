@@ -1,0 +1,18 @@
+use Rattle.std.proofs.Common.{◌∙◌, arith}
+use Rattle.cofactor.proofs.Walks.{found-more, only-more}
+use Rattle.cofactor.proofs.walk.Walk.find_all.Goals as goal
+
+pub loop-at-preserved : goal.loop-at-preserved
+loop-at-preserved c =
+    let inv = c.loop-at.invariant in
+    let step = c.in_ok-find.ensures in
+    let at = c.loop-at.at in
+    record {
+      there = λ i b lt. found-more c.args.table.now c.args.row c.args.bits at c.loop-at.self.found c.find.new.self.found b (step.kept b) (step.there b) (λ j l. inv.there j b l) i lt;
+      only = λ b h. only-more c.args.table.now c.args.row c.args.bits at b (inv.only b) (step.only b h);
+      kept = λ b h. step.kept b (inv.kept b h);
+      wanted = step.wanted ∙ inv.wanted;
+    }
+
+pub returns-clause-there : goal.returns-clause-there
+returns-clause-there c = λ i b l set. c.loop-at.invariant.there i b (let f = c.loop-at-test.false in omega arith) set
