@@ -26,7 +26,7 @@ use Rattle.cdc_model.proofs.Codes.{word_has}
 use Rattle.cdc_model.proofs.Justify.{in_slice}
 use Rattle.cdc_model.proofs.NetDesign.{in_bits}
 
-abbrev by_bit : Bit → List ℕ
+abbrev pub by_bit : Bit → List ℕ
 by_bit b = bit_key b []
 
 -- ---- bits of a signal
@@ -55,12 +55,12 @@ from_signals sig (s ∷ ss) b h = elim (Contains-append_cases (bits_from sig 0 s
   | inr j ↦ let k = from_signals (suc sig) ss b j in omega (arith, k)
 ]
 
-signals_ascend : (sig : ℕ) (ss : List Signal) → Ascends by_bit (bits_of_signals sig ss)
+pub signals_ascend : (sig : ℕ) (ss : List Signal) → Ascends by_bit (bits_of_signals sig ss)
 signals_ascend sig [] = tt
 signals_ascend sig (s ∷ ss) = joined_ascend by_bit (bits_from sig 0 s.width) (bits_of_signals (suc sig) ss) (word_ascends sig 0 s.width) (signals_ascend (suc sig) ss)
     (λ x y i j. let k = from_word sig 0 s.width x i in let l = from_signals (suc sig) ss y j in less_before x.sig y.sig (x.at ∷ []) (y.at ∷ []) (omega (arith, k.0, l)))
 
-in_signals : (b : Bit) (sig k : ℕ) (ss : List Signal) (s : Signal) → slice_get ss k ≡ Some s → b.sig ≡ sig + k → b.at < s.width → Contains (bits_of_signals sig ss) b
+pub in_signals : (b : Bit) (sig k : ℕ) (ss : List Signal) (s : Signal) → slice_get ss k ≡ Some s → b.sig ≡ sig + k → b.at < s.width → Contains (bits_of_signals sig ss) b
 in_signals b sig k [] s e f l = cc
 in_signals b sig zero (r ∷ ss) s e f l =
     let same : r ≡ s = cc in
@@ -69,7 +69,7 @@ in_signals b sig zero (r ∷ ss) s e f l =
     (word_has b 0 r.width (omega arith) (subst (λ (q : Signal). b.at < 0 + q.width) (sym same) (omega arith))))
 in_signals b sig (suc k) (r ∷ ss) s e f l = Contains-append_right (bits_from sig 0 r.width) (bits_of_signals (suc sig) ss) b (in_signals b (suc sig) k ss s e (omega arith) l)
 
-counted : (signals : List Signal) (sig n : ℕ) → n < bit_count signals sig → (s : Signal) × (slice_get signals sig ≡ Some s) × (n < s.width)
+pub counted : (signals : List Signal) (sig n : ℕ) → n < bit_count signals sig → (s : Signal) × (slice_get signals sig ≡ Some s) × (n < s.width)
 counted signals sig n l = go (slice_get signals sig) refl
   where
     go : (o : Option Signal) → slice_get signals sig ≡ o → (s : Signal) × (slice_get signals sig ≡ Some s) × (n < s.width)
@@ -78,7 +78,7 @@ counted signals sig n l = go (slice_get signals sig) refl
 
 -- ---- bits of registers
 
-from_registers : (signals : List Signal) (rs : List Reg) (b : Bit) → Contains (bits_of_registers signals rs) b → (r : Reg) × Contains rs r × (b.sig ≡ r.sig) × (b.at < bit_count signals b.sig)
+pub from_registers : (signals : List Signal) (rs : List Reg) (b : Bit) → Contains (bits_of_registers signals rs) b → (r : Reg) × Contains rs r × (b.sig ≡ r.sig) × (b.at < bit_count signals b.sig)
 from_registers signals [] b h = absurd (nothing_in b h)
 from_registers signals (r ∷ rs) b h = elim (Contains-append_cases (bits_from r.sig 0 (bit_count signals r.sig)) (bits_of_registers signals rs) b h) [
   | inl j ↦ let k = from_word r.sig 0 (bit_count signals r.sig) b j in
@@ -96,7 +96,7 @@ registers_ascend signals (r ∷ rs) h = joined_ascend by_bit (bits_from r.sig 0 
     let m = h 0 (suc l.1.0) r l.0 (omega arith) refl (in_slice rs l.0 l.1) in
     less_before x.sig y.sig (x.at ∷ []) (y.at ∷ []) (omega (arith, k.0, l.2, m)))
 
-has_next : (rs : List Reg) (r : Reg) → Contains rs r → is_some (next_cell rs r.sig) ≡ true
+pub has_next : (rs : List Reg) (r : Reg) → Contains rs r → is_some (next_cell rs r.sig) ≡ true
 has_next [] r i = absurd (nothing_in r i)
 has_next (q ∷ rs) r i = go (q.sig == r.sig) refl (parts q rs r i) (has_next rs r)
   where

@@ -28,3 +28,6 @@ pub mod RingExample
 pub mod Ascending
 pub mod Found
 pub mod Listing
+pub mod Marked
+pub mod Within
+pub mod ReadBits

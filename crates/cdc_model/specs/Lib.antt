@@ -17,3 +17,5 @@ pub mod Nets
 pub mod Path
 pub mod Listed
 pub mod Found
+pub mod Marked
+pub mod Tables

@@ -8,7 +8,7 @@ use Rattle.cell_graph.specs.declared.cell.CellId.{CellId}
 use Rattle.cell_graph.specs.declared.cell.Node.{Node}
 use Rattle.cell_graph.specs.declared.net.Net.{Net}
 use Rattle.cell_graph.specs.declared.net.Reg.{Reg}
-use Rattle.cell_graph.specs.Cells.{Cells}
+use Rattle.cell_graph.specs.Cells.{Cells, cell_width}
 use Rattle.cell_graph.specs.Cofactor.{known, same, reads}
 use Rattle.cell_graph.specs.Tree.{Tree, Const, width, bit_at, bit, any_below}
 use Rattle.cell_graph.specs.Unfolded.{tree_of}
@@ -44,13 +44,17 @@ tree_or_zero graph (Some id) = tree_of graph id
 abbrev pub next_tree : Net → ℕ → Tree
 next_tree net sig = tree_or_zero net.graph (next_cell net.regs sig)
 
--- the node of a register bit's next value
-abbrev pub next_node_of : Net → Bit → Option Node
-next_node_of net b = option_map (λ (c : CellId). record { cell = c; at = b.at }) (next_cell net.regs b.sig)
-
 -- the bits of a signal; none where there is no such signal
 abbrev pub bit_count : List Signal → ℕ → ℕ
 bit_count signals sig = option_map_or (λ (s : Signal). s.width) (slice_get signals sig) 0
+
+-- each register's next value is a cell of the net that is as wide as the register
+abbrev pub HasNextCells : Net → Type 0
+HasNextCells net = (sig : ℕ) (c : CellId) → next_cell net.regs sig ≡ Some c → (c.0 < length net.graph.cells) × (cell_width net.graph c ≡ bit_count net.graph.signals sig)
+
+-- the node of a register bit's next value
+abbrev pub next_node_of : Net → Bit → Option Node
+next_node_of net b = option_map (λ (c : CellId). record { cell = c; at = b.at }) (next_cell net.regs b.sig)
 
 -- the bits of all registers, in their order
 abbrev pub bits_of_registers : List Signal → List Reg → List Bit

@@ -1,10 +1,16 @@
 //! Register bits: their next values, start values and groups.
-ghost use Rattle.std.specs.Prelude.{◌≡◌, ◌++◌, List, IfOk};
+ghost use Rattle.std.specs.Prelude.{◌≡◌, [], ◌++◌, ◌<◌, List, IfOk};
 ghost use Rattle.cdc_base.specs.declared.bit.Bit.{Bit};
+ghost use Rattle.cell_graph.specs.Cofactor.{same};
+ghost use Rattle.cell_graph.specs.Reading as reading;
 ghost use Rattle.cell_graph.specs.Tree.{bit_at};
+ghost use Rattle.cell_graph.specs.Unfolded.{IsWellFormed};
 ghost use Rattle.domains.specs.Assignment.{clock_of, group_of};
+ghost use Rattle.domains.specs.Nets.{IsNet};
 ghost use Rattle.cdc_model.specs.Design.{bits_from, differ, are_equal};
-ghost use Rattle.cdc_model.specs.Nets.{next_cell, next_node_of, AreAscending, bit_count, bits_of_registers, start_of, settle_at};
+ghost use Rattle.cdc_model.specs.Found.{bits_read_by};
+ghost use Rattle.cdc_model.specs.Nets.{next_cell, next_node_of, next_tree, AreAscending, HasNextCells, bit_count, bits_of_registers, start_of, settle_at};
+ghost use Rattle.cdc_model.specs.Tables.{ShowsNet};
 
 use crate::below::{Below, Marks};
 use cdc_base::{Bit, List, NoMemory};
@@ -86,7 +92,10 @@ pub fn has_bit(word: u64, at: u8) -> bool
 }
 
 /// The bit that a register bit plainly copies. The table is one without a cube.
-pub fn copied_bit(net: &Net, table: &Table, bit: Bit) -> Option<Bit> {
+pub fn copied_bit(net: &Net, table: &Table, bit: Bit) -> Option<Bit>
+    ensures { IsNet net.now → HasNextCells net.now → ShowsNet net.now [] table.now → bit.at < bit_count net.now.graph.signals bit.sig →
+        result ≡ same [] (next_tree net.now bit.sig) bit.at }
+{
     match next_node(net, bit) {
         Some(node) => table.same(node),
         None => None,
@@ -99,7 +108,11 @@ pub fn bits_read(
     net: &Net,
     table: &mut Table,
     bit: Bit,
-) -> Result<List<Bit>, NoMemory> {
+) -> Result<List<Bit>, NoMemory>
+    ensures exact { IfOk result (λ bits. (cube : reading.Cube) → IsNet net.now → HasNextCells net.now → ShowsNet net.now cube table.old →
+        bit.at < bit_count net.now.graph.signals bit.sig → bits ≡ bits_read_by net.now cube bit) }
+    ensures unchanged { table.new ≡ table.old }
+{
     match next_node(net, bit) {
         Some(node) => table.reads(alloc, net, node),
         None => Ok(List::new(alloc)),
@@ -137,7 +150,9 @@ pub fn is_marked(marks: &[Option<u32>], bit: Bit) -> bool {
 }
 
 /// A table in which no bit is fixed.
-pub fn plain_table(alloc: Global, net: &Net) -> Result<Table, NoMemory> {
+pub fn plain_table(alloc: Global, net: &Net) -> Result<Table, NoMemory>
+    ensures { IfOk result (λ table. IsWellFormed net.now.graph → ShowsNet net.now [] table) }
+{
     Table::open(
         alloc,
         net,

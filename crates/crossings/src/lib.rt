@@ -1,9 +1,15 @@
 //! Crossings between groups of clocks, and their paths.
 #![tactic(auto)]
 
-ghost use Rattle.std.specs.Prelude.{◌≡◌, ◌++◌, ◌<◌, ◌≤◌, List, length, IfOk, IfErr};
+ghost use Rattle.std.specs.Prelude.{◌≡◌, false, Some, [], ◌++◌, ◌<◌, ◌≤◌, List, length, map, option_and_then, slice_get, IfOk, IfErr};
 ghost use Rattle.cell_graph.specs.Cells.{HasCause};
-ghost use Rattle.cdc_model.specs.Found.{crossings_from};
+ghost use Rattle.cell_graph.specs.Unfolded.{IsWellFormed};
+ghost use Rattle.domains.specs.Fit.{Fit};
+ghost use Rattle.domains.specs.Nets.{IsNet};
+ghost use Rattle.cdc_model.specs.Found.{crossings_from, crossings_into, crossings_of};
+ghost use Rattle.cdc_model.specs.Nets.{HasNextCells, bit_count};
+ghost use Rattle.cdc_model.specs.Tables.{ShowsNet};
+ghost use Rattle.crossings.specs.Groups.{ShowsGroups};
 ghost use Rattle.refusals.specs.Numbers.{HasNumberIn, crossing_numbers};
 
 pub mod paths;
@@ -13,6 +19,7 @@ use cdc_base::{Bit, Fault, List, Name, NoMemory, Stop};
 use cdc_model::view::{are_apart, bits_read, next_node, plain_table, register_bits};
 use cdc_model::{Below, Crossing, Marks};
 use cell_graph::{Net, Node};
+use cofactor::Table;
 use domains::Domains;
 pub use paths::Paths;
 use std::alloc::Global;
@@ -21,40 +28,122 @@ use std::alloc::Global;
 pub fn find(alloc: Global, net: &Net, domains: &Domains) -> Result<List<Crossing>, Stop>
     ensures numbered { IfErr result (HasNumberIn crossing_numbers) }
     ensures within { IfOk result (λ crossings. length crossings ≤ MAX_CROSSINGS) }
-    ensures full { IfErr result (HasCause 603 (Unit {0})) }
+    ensures exact { IfOk result (λ crossings. IsNet net.now → HasNextCells net.now → Fit net.now domains.now →
+        crossings ≡ crossings_of net.now domains.now) }
+    ensures full { IfErr result (HasCause 603 (IsNet net.now → HasNextCells net.now → Fit net.now domains.now →
+        MAX_CROSSINGS < length (crossings_of net.now domains.now))) }
 {
-    let mut table = plain_table(alloc, net)?;
+    let mut plain = plain_table(alloc, net)?;
+    find_with(alloc, net, domains, &mut plain)
+}
+
+/// `find` by the net's table without a cube.
+pub fn find_with(
+    alloc: Global,
+    net: &Net,
+    domains: &Domains,
+    plain: &mut Table,
+) -> Result<List<Crossing>, Stop>
+    ensures numbered { IfErr result (HasNumberIn crossing_numbers) }
+    ensures within { IfOk result (λ crossings. length crossings ≤ MAX_CROSSINGS) }
+    ensures exact { IfOk result (λ crossings. IsNet net.now → HasNextCells net.now → Fit net.now domains.now → ShowsNet net.now [] plain.old →
+        crossings ≡ crossings_of net.now domains.now) }
+    ensures full { IfErr result (HasCause 603 (IsNet net.now → HasNextCells net.now → Fit net.now domains.now → ShowsNet net.now [] plain.old →
+        MAX_CROSSINGS < length (crossings_of net.now domains.now))) }
+    ensures unchanged { plain.new ≡ plain.old }
+{
     let below = groups_below(alloc, net, domains)?;
+    let bits = register_bits(alloc, net)?;
     let mut crossings = List::new(alloc);
-    for to in register_bits(alloc, net)?.as_slice() {
-        if may_cross(net, domains, &below, *to) {
-            let reads = bits_read(alloc, net, &mut table, *to)?;
-            add_crossings(alloc, domains, reads.as_slice(), *to, &mut crossings)?;
-        }
+    for to in bits.as_slice() {
+        add_crossings_into(alloc, net, domains, &below, plain, *to, &mut crossings)?;
     }
     Ok(crossings)
 }
 
-/// The groups of the signals below each cell.
-fn groups_below(alloc: Global, net: &Net, domains: &Domains) -> Result<Below, NoMemory> {
-    let mut groups = Vec::new(alloc);
-    for sig in 0..net.graph.signals().len() {
-        let sig = u32::try_from(sig).unwrap_or(u32::MAX);
-        let group = domains.group_of(Bit { sig, at: 0 });
-        groups.push(group).map_err(|_| NoMemory)?;
+/// Adds the crossings into one register bit.
+fn add_crossings_into(
+    alloc: Global,
+    net: &Net,
+    domains: &Domains,
+    below: &Below,
+    plain: &mut Table,
+    to: Bit,
+    crossings: &mut List<Crossing>,
+) -> Result<(), Stop>
+    ensures numbered { IfErr result (HasNumberIn crossing_numbers) }
+    ensures added { IfOk result (λ _. IsNet net.now → HasNextCells net.now → Fit net.now domains.now → ShowsNet net.now [] plain.old →
+        ShowsGroups net.now domains.now below.now → to.at < bit_count net.now.graph.signals to.sig →
+        crossings.new ≡ crossings.old ++ crossings_into net.now domains.now to) }
+    ensures within { length crossings.old ≤ MAX_CROSSINGS → IfOk result (λ _. length crossings.new ≤ MAX_CROSSINGS) }
+    ensures full { IfErr result (HasCause 603 (IsNet net.now → HasNextCells net.now → Fit net.now domains.now → ShowsNet net.now [] plain.old →
+        to.at < bit_count net.now.graph.signals to.sig → MAX_CROSSINGS < length (crossings.old ++ crossings_into net.now domains.now to))) }
+    ensures unchanged { plain.new ≡ plain.old }
+{
+    if !may_cross(net, domains, below, to) {
+        return Ok(());
     }
+    let reads = bits_read(alloc, net, plain, to)?;
+    add_crossings(alloc, domains, reads.as_slice(), to, crossings)
+}
+
+/// The groups of the signals below each cell.
+fn groups_below(alloc: Global, net: &Net, domains: &Domains) -> Result<Below, NoMemory>
+    ensures { IfOk result (λ below. IsWellFormed net.now.graph → ShowsGroups net.now domains.now below) }
+{
+    let groups = groups_of_signals(alloc, domains)?;
     Below::find(alloc, &net.graph, groups.as_slice())
 }
 
+/// The group of each signal that has a clock.
+fn groups_of_signals(alloc: Global, domains: &Domains) -> Result<Vec<Option<u32>>, NoMemory>
+    ensures { IfOk result (λ groups. groups.items ≡ map (λ clock. option_and_then (slice_get domains.now.group_by_clock) clock) domains.now.clock_by_sig) }
+{
+    let mut groups = Vec::new(alloc);
+    for clock in domains.clock_by_sig.as_slice() {
+        if groups.push(group_on(domains, *clock)).is_err() {
+            return Err(NoMemory);
+        }
+    }
+    Ok(groups)
+}
+
+/// The group of a clock.
+fn group_on(domains: &Domains, clock: Option<u32>) -> Option<u32>
+    ensures { result ≡ option_and_then (slice_get domains.now.group_by_clock) clock }
+{
+    match clock {
+        Some(clock) => domains
+            .group_by_clock
+            .as_slice()
+            .get(clock as usize)
+            .copied(),
+        None => None,
+    }
+}
+
 /// Whether a signal of another group stands below the bit's next value.
-fn may_cross(net: &Net, domains: &Domains, below: &Below, to: Bit) -> bool {
+fn may_cross(net: &Net, domains: &Domains, below: &Below, to: Bit) -> bool
+    ensures { result ≡ false → IsNet net.now → HasNextCells net.now → Fit net.now domains.now → ShowsGroups net.now domains.now below.now →
+        to.at < bit_count net.now.graph.signals to.sig → crossings_into net.now domains.now to ≡ [] }
+{
     match next_node(net, to) {
         Some(node) => match below.of(node.cell) {
             Marks::Nothing => false,
-            Marks::One(group) => domains.group_of(to) != Some(group),
+            Marks::One(group) => is_other(domains.group_of(to), group),
             Marks::Several => true,
         },
         None => false,
+    }
+}
+
+/// Whether the group may be another one than that of a bit.
+fn is_other(own: Option<u32>, group: u32) -> bool
+    ensures { result ≡ false → own ≡ Some group }
+{
+    match own {
+        Some(own) => own != group,
+        None => true,
     }
 }
 
@@ -104,5 +193,6 @@ pub fn path(
     _domains: &Domains,
     crossing: &Crossing,
 ) -> Result<List<Node>, NoMemory> {
-    Paths::open(alloc, net)?.path(alloc, net, crossing)
+    let plain = plain_table(alloc, net)?;
+    Paths::open(alloc, net)?.path(alloc, net, &plain, crossing)
 }

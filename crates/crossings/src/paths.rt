@@ -1,7 +1,7 @@
 //! Paths of crossings: from the next value down to the bit that it reads.
 use cdc_base::{Bit, List, NoMemory};
 use cdc_model::Crossing;
-use cdc_model::view::{has_bit, next_node, plain_table};
+use cdc_model::view::{has_bit, next_node};
 use cell_graph::word::{mask, shifted_left, shifted_right};
 use cell_graph::{Cell, CellId, Net, Node};
 use cofactor::Table;
@@ -10,10 +10,10 @@ use std::alloc::Global;
 /// The most feeds that a bit has: all bits of two words.
 const MAX_FEEDS: u32 = 128;
 
-/// The paths of a net, asked for one after another. Each one costs the cells below its end.
+/// The paths of a net, asked for one after another. Each one costs the cells below its end. `plain` is always the net's
+/// table without a cube.
 #[derive(Drop)]
 pub struct Paths {
-    table: Table,
     /// Of each cell below the end of the path in hand, the bits that read its source; 0 for all other cells.
     reading: Vec<u64>,
     /// The cells below the end of the path in hand.
@@ -24,7 +24,6 @@ impl Paths {
     pub fn open(alloc: Global, net: &Net) -> Result<Paths, NoMemory> {
         let count = cell_count(net);
         Ok(Paths {
-            table: plain_table(alloc, net)?,
             reading: vec![in alloc; 0u64; count].map_err(|_| NoMemory)?,
             is_below: vec![in alloc; false; count].map_err(|_| NoMemory)?,
         })
@@ -35,6 +34,7 @@ impl Paths {
         &mut self,
         alloc: Global,
         net: &Net,
+        plain: &Table,
         crossing: &Crossing,
     ) -> Result<List<Node>, NoMemory> {
         let Some(start) = next_node(net, crossing.to) else {
@@ -43,7 +43,7 @@ impl Paths {
         let mut cone = self.cells_below(alloc, net, start.cell)?;
         cone.sort_unstable();
         for cell in cone.as_slice() {
-            let reading = self.reading_bits(net, *cell, crossing.from);
+            let reading = self.reading_bits(net, plain, *cell, crossing.from);
             self.set_reading(*cell, reading);
         }
         let path = self.walk(alloc, net, start);
@@ -104,12 +104,12 @@ impl Paths {
 
     /// The bits of the cell that read the source, once those of its operands are known: none where the bit is known,
     /// the source alone where the bit equals a state bit, and else what its feeds say.
-    fn reading_bits(&self, net: &Net, cell: CellId, source: Bit) -> u64 {
-        let fed = self.fed_bits(net, cell, source);
-        let known = self.table.masks(cell).known;
+    fn reading_bits(&self, net: &Net, plain: &Table, cell: CellId, source: Bit) -> u64 {
+        let fed = self.fed_bits(net, plain, cell, source);
+        let known = plain.masks(cell).known;
         let mut bits = 0;
         for at in 0..net.graph.width(cell).min(64) {
-            let reads = match self.table.same(Node { cell, at }) {
+            let reads = match plain.same(Node { cell, at }) {
                 Some(bit) => bit == source,
                 None => has_bit(fed, at),
             };
@@ -122,7 +122,7 @@ impl Paths {
 
     /// The bits of the cell that have a feed which reads the source. Where a condition or a shift's amount is known,
     /// what isn't passed counts as no feed.
-    fn fed_bits(&self, net: &Net, id: CellId, source: Bit) -> u64 {
+    fn fed_bits(&self, net: &Net, plain: &Table, id: CellId, source: Bit) -> u64 {
         match net.graph.cell(id) {
             Cell::Var { sig } => {
                 if sig == source.sig {
@@ -140,15 +140,15 @@ impl Paths {
                 from_lowest(self.reading(a) | self.reading(b))
             }
             Cell::Eq { a, b } | Cell::Lt { a, b } => all_if_any(self.reading(a) | self.reading(b)),
-            Cell::Shl { a, by } => match self.known_value(net, by) {
+            Cell::Shl { a, by } => match known_value(net, plain, by) {
                 Some(amount) => shifted_left(self.reading(a), amount),
                 None => all_if_any(self.reading(a) | self.reading(by)),
             },
-            Cell::Shr { a, by } => match self.known_value(net, by) {
+            Cell::Shr { a, by } => match known_value(net, plain, by) {
                 Some(amount) => shifted_right(self.reading(a), amount),
                 None => all_if_any(self.reading(a) | self.reading(by)),
             },
-            Cell::Mux { cond, yes, other } => match self.known_value(net, cond) {
+            Cell::Mux { cond, yes, other } => match known_value(net, plain, cond) {
                 Some(0) => self.reading(other),
                 Some(_) => self.reading(yes),
                 None => { all_if_any(self.reading(cond)) | self.reading(yes) | self.reading(other) }
@@ -159,16 +159,6 @@ impl Paths {
             }
             Cell::Slice { a, at, .. } => shifted_right(self.reading(a), u64::from(at)),
             Cell::Reduce { a, .. } => all_if_any(self.reading(a)),
-        }
-    }
-
-    /// The value of a cell all of whose bits are known.
-    fn known_value(&self, net: &Net, cell: CellId) -> Option<u64> {
-        let masks = self.table.masks(cell);
-        if masks.known == mask(net.graph.width(cell)) {
-            Some(masks.value)
-        } else {
-            None
         }
     }
 
@@ -193,6 +183,16 @@ impl Paths {
                 return Some(feed);
             }
         }
+        None
+    }
+}
+
+/// The value of a cell all of whose bits are known.
+fn known_value(net: &Net, plain: &Table, cell: CellId) -> Option<u64> {
+    let masks = plain.masks(cell);
+    if masks.known == mask(net.graph.width(cell)) {
+        Some(masks.value)
+    } else {
         None
     }
 }
