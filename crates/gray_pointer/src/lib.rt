@@ -20,13 +20,23 @@ use std::alloc::Global;
 
 /// All Gray registers of the net, by the register, then the counter.
 pub fn gray_regs(alloc: Global, net: &Net, domains: &Domains) -> Result<List<GrayReg>, NoMemory> {
-    let table = plain_table(alloc, net)?;
+    let plain = plain_table(alloc, net)?;
+    gray_regs_with(alloc, net, domains, &plain)
+}
+
+/// `gray_regs` by the net's table without a cube.
+pub fn gray_regs_with(
+    alloc: Global,
+    net: &Net,
+    domains: &Domains,
+    plain: &Table,
+) -> Result<List<GrayReg>, NoMemory> {
     let registers = registers(alloc, net, domains)?;
     let candidates = Candidates::find(alloc, net, registers.as_slice())?;
     let mut grays = List::new(alloc);
     for gray in registers.as_slice() {
         let counters = candidates.counters_of(alloc, net, registers.as_slice(), gray)?;
-        add_grays(alloc, net, &table, counters.as_slice(), gray, &mut grays)?;
+        add_grays(alloc, net, plain, counters.as_slice(), gray, &mut grays)?;
     }
     Ok(grays)
 }

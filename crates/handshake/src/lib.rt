@@ -8,7 +8,7 @@ use cdc_base::{Bit, List, NoMemory};
 use cdc_model::view::{known_value, next_node, pair_table, plain_table};
 use cdc_model::{Ring, Sync};
 use cell_graph::Net;
-use cofactor::Fixed;
+use cofactor::{Fixed, Table};
 use domains::Domains;
 use std::alloc::Global;
 
@@ -20,8 +20,19 @@ pub fn rings(
     domains: &Domains,
     syncs: &[Sync],
 ) -> Result<List<Ring>, NoMemory> {
-    let mut table = plain_table(alloc, net)?;
-    let mut candidates = pairs(alloc, net, domains, &mut table, syncs)?;
+    let mut plain = plain_table(alloc, net)?;
+    rings_with(alloc, net, domains, syncs, &mut plain)
+}
+
+/// `rings` by the net's table without a cube.
+pub fn rings_with(
+    alloc: Global,
+    net: &Net,
+    domains: &Domains,
+    syncs: &[Sync],
+    plain: &mut Table,
+) -> Result<List<Ring>, NoMemory> {
+    let mut candidates = pairs(alloc, net, domains, plain, syncs)?;
     candidates.sort_unstable();
     let mut rings = List::new(alloc);
     for pair in candidates.as_slice() {

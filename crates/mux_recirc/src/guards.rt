@@ -2,9 +2,9 @@
 use crate::blind::{Blind, blindnesses};
 use crate::held::Held;
 use cdc_base::{List, NoMemory};
-use cdc_model::view::plain_table;
 use cdc_model::{Crossing, Load, Ring};
 use cell_graph::Net;
+use cofactor::Table;
 use domains::Domains;
 use std::alloc::Global;
 
@@ -36,20 +36,21 @@ pub struct Guards {
 }
 
 impl Guards {
-    /// What these rings say of these crossings, both being all of the net, in order.
+    /// What these rings say of these crossings, both being all of the net, in order. `plain` is the net's table without
+    /// a cube.
     pub fn find(
         alloc: Global,
         net: &Net,
         domains: &Domains,
         crossings: &[Crossing],
         rings: &[Ring],
+        plain: &mut Table,
     ) -> Result<Guards, NoMemory> {
-        let mut table = plain_table(alloc, net)?;
         let sides = sides_of(alloc, domains, rings)?;
         let joints = joints_of(alloc, sides.as_slice())?;
         Ok(Guards {
-            blind: blindnesses(alloc, net, domains, &mut table, crossings, rings)?,
-            held: Held::find(alloc, net, domains, &mut table, crossings, rings)?,
+            blind: blindnesses(alloc, net, domains, plain, crossings, rings)?,
+            held: Held::find(alloc, net, domains, plain, crossings, rings)?,
             sides,
             joints,
         })

@@ -7,6 +7,7 @@ pub mod held;
 pub mod parts;
 
 use cdc_base::{List, NoMemory};
+use cdc_model::view::plain_table;
 use cdc_model::{Crossing, Load, Ring};
 use cell_graph::Net;
 use domains::Domains;
@@ -21,5 +22,6 @@ pub fn loads(
     crossings: &[Crossing],
     rings: &[Ring],
 ) -> Result<List<Load>, NoMemory> {
-    Guards::find(alloc, net, domains, crossings, rings)?.loads(alloc, crossings)
+    let mut plain = plain_table(alloc, net)?;
+    Guards::find(alloc, net, domains, crossings, rings, &mut plain)?.loads(alloc, crossings)
 }

@@ -2,9 +2,7 @@
 use crate::Found;
 use crate::covers::{first_flop, is_code};
 use cdc_base::{Bit, List, NoMemory};
-use cdc_model::view::{
-    bits_read, copied_bit, mark, plain_table, reads_marked, register_bits, unmarked,
-};
+use cdc_model::view::{bits_read, copied_bit, mark, reads_marked, register_bits, unmarked};
 use cdc_model::{Arrival, Below, Finding};
 use cofactor::Table;
 use std::alloc::Global;
@@ -203,11 +201,11 @@ fn add_lots(
 pub fn add_v6(
     alloc: Global,
     found: &Found<'_>,
+    plain: &mut Table,
     findings: &mut List<Finding>,
 ) -> Result<(), NoMemory> {
-    let mut table = plain_table(alloc, found.net)?;
     let bits = register_bits(alloc, found.net)?;
-    let arrivals = arrivals(alloc, found, &table, bits.as_slice())?;
+    let arrivals = arrivals(alloc, found, plain, bits.as_slice())?;
     let mut marks = unmarked(alloc, found.net)?;
     for arrival in arrivals.as_slice() {
         mark(&mut marks, arrival.bit);
@@ -215,8 +213,8 @@ pub fn add_v6(
     let below = Below::find(alloc, &found.net.graph, marks.as_slice())?;
     for to in bits.as_slice() {
         let may_read = reads_marked(found.net, &below, *to);
-        if may_read && copied_bit(found.net, &table, *to).is_none() {
-            let bits = bits_read(alloc, found.net, &mut table, *to)?;
+        if may_read && copied_bit(found.net, plain, *to).is_none() {
+            let bits = bits_read(alloc, found.net, plain, *to)?;
             let reads = arrivals_among(alloc, found, arrivals.as_slice(), bits.as_slice())?;
             add_lots(alloc, *to, reads.as_slice(), findings)?;
         }

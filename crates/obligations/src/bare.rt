@@ -2,7 +2,7 @@
 use crate::Found;
 use crate::covers::first_flop;
 use cdc_base::{List, NoMemory};
-use cdc_model::view::{copied_bit, plain_table};
+use cdc_model::view::copied_bit;
 use cdc_model::{Cover, Crossing, Finding, Sync};
 use cofactor::Table;
 use crossings::Paths;
@@ -97,11 +97,11 @@ pub fn find_uncovered(
     found: &Found<'_>,
     covers: &[Cover],
     extra: &[Crossing],
+    plain: &Table,
 ) -> Result<Vec<Uncovered>, NoMemory> {
-    let table = plain_table(alloc, found.net)?;
     let mut uncovered = Vec::new(alloc);
     for (place, crossing) in found.crossings.iter().enumerate() {
-        if let Some(lack) = find_lack(found, &table, covers, extra, place, crossing) {
+        if let Some(lack) = find_lack(found, plain, covers, extra, place, crossing) {
             uncovered
                 .push(Uncovered {
                     crossing: *crossing,
@@ -118,6 +118,7 @@ pub fn add_v1(
     alloc: Global,
     found: &Found<'_>,
     paths: &mut Paths,
+    plain: &Table,
     uncovered: &[Uncovered],
     findings: &mut List<Finding>,
 ) -> Result<(), NoMemory> {
@@ -126,7 +127,7 @@ pub fn add_v1(
             findings.push(Finding::V1 {
                 from: crossing.from,
                 to: crossing.to,
-                path: paths.path(alloc, found.net, crossing)?,
+                path: paths.path(alloc, found.net, plain, crossing)?,
             })?;
         }
     }
@@ -138,6 +139,7 @@ pub fn add_v2(
     alloc: Global,
     found: &Found<'_>,
     paths: &mut Paths,
+    plain: &Table,
     uncovered: &[Uncovered],
     findings: &mut List<Finding>,
 ) -> Result<(), NoMemory> {
@@ -146,7 +148,7 @@ pub fn add_v2(
             findings.push(Finding::V2 {
                 from: crossing.from,
                 to: crossing.to,
-                path: paths.path(alloc, found.net, crossing)?,
+                path: paths.path(alloc, found.net, plain, crossing)?,
             })?;
         }
     }
@@ -158,6 +160,7 @@ pub fn add_v7(
     alloc: Global,
     found: &Found<'_>,
     paths: &mut Paths,
+    plain: &Table,
     uncovered: &[Uncovered],
     findings: &mut List<Finding>,
 ) -> Result<(), NoMemory> {
@@ -167,7 +170,7 @@ pub fn add_v7(
                 from: crossing.from,
                 to: crossing.to,
                 ring: *ring,
-                path: paths.path(alloc, found.net, crossing)?,
+                path: paths.path(alloc, found.net, plain, crossing)?,
             })?;
         }
     }
@@ -179,6 +182,7 @@ pub fn add_v8(
     alloc: Global,
     found: &Found<'_>,
     paths: &mut Paths,
+    plain: &Table,
     uncovered: &[Uncovered],
     findings: &mut List<Finding>,
 ) -> Result<(), NoMemory> {
@@ -188,7 +192,7 @@ pub fn add_v8(
                 from: crossing.from,
                 to: crossing.to,
                 ring: *ring,
-                path: paths.path(alloc, found.net, crossing)?,
+                path: paths.path(alloc, found.net, plain, crossing)?,
             })?;
         }
     }

@@ -12,8 +12,10 @@ pub mod words;
 use arrivals::add_v6;
 use bare::{add_v1, add_v2, add_v7, add_v8, find_uncovered};
 use cdc_base::{List, NoMemory, Stop};
+use cdc_model::view::plain_table;
 use cdc_model::{Cover, Crossing, Extra, Finding, GrayReg, Load, NoExtra, Sync, Verdict};
 use cell_graph::Net;
+use cofactor::Table;
 use covers::covers;
 use crossings::Paths;
 use domains::Domains;
@@ -39,8 +41,9 @@ fn findings(
     found: &Found<'_>,
     covers: &[Cover],
     extra: &[Crossing],
+    plain: &mut Table,
 ) -> Result<List<Finding>, NoMemory> {
-    let uncovered = find_uncovered(alloc, found, covers, extra)?;
+    let uncovered = find_uncovered(alloc, found, covers, extra, plain)?;
     let entries = entries(alloc, found)?;
     let mut paths = Paths::open(alloc, found.net)?;
     let mut findings = List::new(alloc);
@@ -48,6 +51,7 @@ fn findings(
         alloc,
         found,
         &mut paths,
+        plain,
         uncovered.as_slice(),
         &mut findings,
     )?;
@@ -55,17 +59,19 @@ fn findings(
         alloc,
         found,
         &mut paths,
+        plain,
         uncovered.as_slice(),
         &mut findings,
     )?;
     add_v3(alloc, found, entries.as_slice(), &mut findings)?;
     add_v4(alloc, entries.as_slice(), &mut findings)?;
     add_v5(alloc, entries.as_slice(), &mut findings)?;
-    add_v6(alloc, found, &mut findings)?;
+    add_v6(alloc, found, plain, &mut findings)?;
     add_v7(
         alloc,
         found,
         &mut paths,
+        plain,
         uncovered.as_slice(),
         &mut findings,
     )?;
@@ -73,6 +79,7 @@ fn findings(
         alloc,
         found,
         &mut paths,
+        plain,
         uncovered.as_slice(),
         &mut findings,
     )?;
@@ -89,11 +96,19 @@ pub fn audit_with<E: Extra>(
 ) -> Result<Verdict, Stop>
     ensures numbered { IfErr result (HasNumberIn crossing_numbers) }
 {
-    let crossings = crossings::find(alloc, net, domains)?;
-    let syncs = two_flop::syncs(alloc, net, domains, crossings.as_slice())?;
-    let grays = gray_pointer::gray_regs(alloc, net, domains)?;
-    let rings = handshake::rings(alloc, net, domains, syncs.as_slice())?;
-    let guards = Guards::find(alloc, net, domains, crossings.as_slice(), rings.as_slice())?;
+    let mut plain = plain_table(alloc, net)?;
+    let crossings = crossings::find_with(alloc, net, domains, &mut plain)?;
+    let syncs = two_flop::syncs_with(alloc, net, domains, crossings.as_slice(), &mut plain)?;
+    let grays = gray_pointer::gray_regs_with(alloc, net, domains, &plain)?;
+    let rings = handshake::rings_with(alloc, net, domains, syncs.as_slice(), &mut plain)?;
+    let guards = Guards::find(
+        alloc,
+        net,
+        domains,
+        crossings.as_slice(),
+        rings.as_slice(),
+        &mut plain,
+    )?;
     let loads = guards.loads(alloc, crossings.as_slice())?;
     let found = Found {
         net,
@@ -105,7 +120,7 @@ pub fn audit_with<E: Extra>(
         loads: loads.as_slice(),
     };
     let covers = covers(alloc, &found)?;
-    let findings = findings(alloc, &found, covers.as_slice(), extra.covers())?;
+    let findings = findings(alloc, &found, covers.as_slice(), extra.covers(), &mut plain)?;
     Ok(Verdict {
         crossings,
         grays,

@@ -22,13 +22,24 @@ pub fn syncs(
     domains: &Domains,
     crossings: &[Crossing],
 ) -> Result<List<Sync>, NoMemory> {
-    let mut table = plain_table(alloc, net)?;
-    let flops = flops(alloc, net, &table, crossings)?;
-    let readers = Readers::find(alloc, net, &mut table, flops.as_slice())?;
+    let mut plain = plain_table(alloc, net)?;
+    syncs_with(alloc, net, domains, crossings, &mut plain)
+}
+
+/// `syncs` by the net's table without a cube.
+pub fn syncs_with(
+    alloc: Global,
+    net: &Net,
+    domains: &Domains,
+    crossings: &[Crossing],
+    plain: &mut Table,
+) -> Result<List<Sync>, NoMemory> {
+    let flops = flops(alloc, net, plain, crossings)?;
+    let readers = Readers::find(alloc, net, plain, flops.as_slice())?;
     let mut syncs = List::new(alloc);
     for crossing in crossings {
-        if copied_bit(net, &table, crossing.to) == Some(crossing.from) {
-            let flops = chain(alloc, net, domains, &table, &readers, crossing.to)?;
+        if copied_bit(net, plain, crossing.to) == Some(crossing.from) {
+            let flops = chain(alloc, net, domains, plain, &readers, crossing.to)?;
             if flops.len() > usize::from(settle_of(domains, crossing.to)) {
                 let from = crossing.from;
                 syncs.push(Sync { from, flops })?;
