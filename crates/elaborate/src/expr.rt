@@ -51,7 +51,16 @@ pub fn operand_widths(op: BinaryOp, width: u8, left: u8, right: u8) -> (u8, u8) 
     }
 }
 
-/// The tree of the expression at `width` bits, which are no fewer than its own.
+/// What stands around an expression: an operator with its right operand, or a choice with the word that is taken where
+/// it holds.
+#[derive(Clone, Copy, Drop)]
+enum Around {
+    Operator(BinaryOp, CellId),
+    Choice { cond: CellId, yes: CellId },
+}
+
+/// The tree of the expression at `width` bits, which are no fewer than its own. A gate of many inputs is a long chain to
+/// the left, and a read of a large memory one of choices: both are walked without a recursion.
 #[cycle(trees)]
 pub fn tree(
     alloc: Global,
@@ -60,71 +69,70 @@ pub fn tree(
     e: &FExpr,
     width: u8,
 ) -> Result<CellId, NoMemory> {
-    // A gate of many inputs is a long chain to the left, which is too long for a recursion.
-    let mut rights = Vec::new(alloc);
-    let mut low = e;
+    let mut around = Vec::new(alloc);
+    let mut inner = e;
     loop {
-        match low {
+        let word = match inner {
             FExpr::Binary { op, a, b, .. } if is_folded(*op) => {
-                push(&mut rights, (*op, tree(alloc, drafts, present, b, width)?))?;
-                low = a;
+                let right = tree(alloc, drafts, present, b, width)?;
+                push(&mut around, Around::Operator(*op, right))?;
+                inner = a;
+                continue;
             }
-            _ => break,
-        }
+            FExpr::Choose {
+                cond,
+                yes,
+                other,
+                ..
+            } => {
+                let word = tree(alloc, drafts, present, cond, own_width(cond))?;
+                let cond = drafts.truth(word)?;
+                let yes = tree(alloc, drafts, present, yes, width)?;
+                push(&mut around, Around::Choice { cond, yes })?;
+                inner = other;
+                continue;
+            }
+            FExpr::Number { value, width: own } => {
+                let number = drafts.constant(*own, *value)?;
+                drafts.fitted(number, width)?
+            }
+            FExpr::Read {
+                sig,
+                at,
+                width: own,
+            } => {
+                let word = present.read(drafts, *sig, *at, *own)?;
+                drafts.fitted(word, width)?
+            }
+            FExpr::At { sig, index, .. } => {
+                let whole = present.whole(drafts, *sig)?;
+                let by = tree(alloc, drafts, present, index, own_width(index))?;
+                let bit = chosen_bit(drafts, whole, by)?;
+                drafts.fitted(bit, width)?
+            }
+            FExpr::Unary { op, a, .. } => {
+                let size = operand_width(*op, width, own_width(a));
+                let operand = tree(alloc, drafts, present, a, size)?;
+                unary(drafts, *op, operand, width)?
+            }
+            FExpr::Binary { op, a, b, .. } => {
+                let (left, right) = operand_widths(*op, width, own_width(a), own_width(b));
+                let x = tree(alloc, drafts, present, a, left)?;
+                let y = tree(alloc, drafts, present, b, right)?;
+                binary(drafts, *op, x, y, width)?
+            }
+            FExpr::Join { parts, .. } => {
+                let word = join(alloc, drafts, present, parts.as_slice())?;
+                drafts.fitted(word, width)?
+            }
+            FExpr::Repeat { count, parts, .. } => {
+                let word = join(alloc, drafts, present, parts.as_slice())?;
+                let copies = repeated(drafts, word, *count)?;
+                drafts.fitted(copies, width)?
+            }
+        };
+        return wrapped(drafts, word, around.as_slice(), width);
     }
-    let lowest = match low {
-        FExpr::Number { value, width: own } => {
-            let number = drafts.constant(*own, *value)?;
-            drafts.fitted(number, width)
-        }
-        FExpr::Read {
-            sig,
-            at,
-            width: own,
-        } => {
-            let word = present.read(drafts, *sig, *at, *own)?;
-            drafts.fitted(word, width)
-        }
-        FExpr::At { sig, index, .. } => {
-            let whole = present.whole(drafts, *sig)?;
-            let by = tree(alloc, drafts, present, index, own_width(index))?;
-            let bit = chosen_bit(drafts, whole, by)?;
-            drafts.fitted(bit, width)
-        }
-        FExpr::Unary { op, a, .. } => {
-            let size = operand_width(*op, width, own_width(a));
-            let operand = tree(alloc, drafts, present, a, size)?;
-            unary(drafts, *op, operand, width)
-        }
-        FExpr::Binary { op, a, b, .. } => {
-            let (left, right) = operand_widths(*op, width, own_width(a), own_width(b));
-            let x = tree(alloc, drafts, present, a, left)?;
-            let y = tree(alloc, drafts, present, b, right)?;
-            binary(drafts, *op, x, y, width)
-        }
-        FExpr::Choose {
-            cond,
-            yes,
-            other,
-            ..
-        } => {
-            let word = tree(alloc, drafts, present, cond, own_width(cond))?;
-            let cond = drafts.truth(word)?;
-            let yes = tree(alloc, drafts, present, yes, width)?;
-            let other = tree(alloc, drafts, present, other, width)?;
-            drafts.add(Cell::Mux { cond, yes, other })
-        }
-        FExpr::Join { parts, .. } => {
-            let word = join(alloc, drafts, present, parts.as_slice())?;
-            drafts.fitted(word, width)
-        }
-        FExpr::Repeat { count, parts, .. } => {
-            let word = join(alloc, drafts, present, parts.as_slice())?;
-            let copies = repeated(drafts, word, *count)?;
-            drafts.fitted(copies, width)
-        }
-    };
-    folded(drafts, lowest?, rights.as_slice(), width)
 }
 
 /// The operators of gates, whose operands are both evaluated at the size of the whole.
@@ -132,16 +140,23 @@ fn is_folded(op: BinaryOp) -> bool {
     matches!(op, BinaryOp::And | BinaryOp::Or | BinaryOp::Xor)
 }
 
-/// The words joined to the first one by their operators, the last one of the list first.
-fn folded(
+/// The word with what stands around it, the last one of the list first.
+fn wrapped(
     drafts: &mut Drafts,
-    first: CellId,
-    rights: &[(BinaryOp, CellId)],
+    innermost: CellId,
+    around: &[Around],
     width: u8,
 ) -> Result<CellId, NoMemory> {
-    let mut word = first;
-    for (op, right) in rights.iter().rev() {
-        word = binary(drafts, *op, word, *right, width)?;
+    let mut word = innermost;
+    for each in around.iter().rev() {
+        word = match each {
+            Around::Operator(op, right) => binary(drafts, *op, word, *right, width)?,
+            Around::Choice { cond, yes } => drafts.add(Cell::Mux {
+                cond: *cond,
+                yes: *yes,
+                other: word,
+            })?,
+        };
     }
     Ok(word)
 }

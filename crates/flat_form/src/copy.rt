@@ -4,74 +4,106 @@ use crate::memory::{boxed, push};
 use cdc_base::{List, NoMemory};
 use std::alloc::Global;
 
+/// A choice whose last part is still to be copied.
+#[derive(Drop)]
+struct Choice {
+    cond: FExpr,
+    yes: FExpr,
+    width: u8,
+}
+
+/// A copy of an expression. A read of a large memory is a long chain of choices, which is walked without a recursion.
 #[cycle(copy)]
 pub fn copy(alloc: Global, expr: &FExpr) -> Result<FExpr, NoMemory> {
-    match expr {
-        FExpr::Number { value, width } => Ok(FExpr::Number {
-            value: *value,
-            width: *width,
-        }),
-        FExpr::Read { sig, at, width } => Ok(FExpr::Read {
-            sig: *sig,
-            at: *at,
-            width: *width,
-        }),
-        FExpr::At { sig, index, width } => {
-            let index = copy(alloc, index)?;
-            Ok(FExpr::At {
+    let mut around = Vec::new(alloc);
+    let mut inner = expr;
+    loop {
+        let whole = match inner {
+            FExpr::Choose {
+                cond,
+                yes,
+                other,
+                width,
+            } => {
+                let cond = copy(alloc, cond)?;
+                let yes = copy(alloc, yes)?;
+                push(
+                    &mut around,
+                    Choice {
+                        cond,
+                        yes,
+                        width: *width,
+                    },
+                )?;
+                inner = other;
+                continue;
+            }
+            FExpr::Number { value, width } => FExpr::Number {
+                value: *value,
+                width: *width,
+            },
+            FExpr::Read { sig, at, width } => FExpr::Read {
                 sig: *sig,
-                index: boxed(alloc, index)?,
+                at: *at,
                 width: *width,
-            })
-        }
-        FExpr::Unary { op, a, width } => {
-            let a = copy(alloc, a)?;
-            Ok(FExpr::Unary {
-                op: *op,
-                a: boxed(alloc, a)?,
+            },
+            FExpr::At { sig, index, width } => {
+                let index = copy(alloc, index)?;
+                FExpr::At {
+                    sig: *sig,
+                    index: boxed(alloc, index)?,
+                    width: *width,
+                }
+            }
+            FExpr::Unary { op, a, width } => {
+                let a = copy(alloc, a)?;
+                FExpr::Unary {
+                    op: *op,
+                    a: boxed(alloc, a)?,
+                    width: *width,
+                }
+            }
+            FExpr::Binary { op, a, b, width } => {
+                let a = copy(alloc, a)?;
+                let b = copy(alloc, b)?;
+                FExpr::Binary {
+                    op: *op,
+                    a: boxed(alloc, a)?,
+                    b: boxed(alloc, b)?,
+                    width: *width,
+                }
+            }
+            FExpr::Join { parts, width } => FExpr::Join {
+                parts: copy_all(alloc, parts.as_slice())?,
                 width: *width,
-            })
-        }
-        FExpr::Binary { op, a, b, width } => {
-            let a = copy(alloc, a)?;
-            let b = copy(alloc, b)?;
-            Ok(FExpr::Binary {
-                op: *op,
-                a: boxed(alloc, a)?,
-                b: boxed(alloc, b)?,
+            },
+            FExpr::Repeat {
+                count,
+                parts,
+                width,
+            } => FExpr::Repeat {
+                count: *count,
+                parts: copy_all(alloc, parts.as_slice())?,
                 width: *width,
-            })
-        }
-        FExpr::Choose {
-            cond,
-            yes,
-            other,
-            width,
-        } => {
-            let cond = copy(alloc, cond)?;
-            let yes = copy(alloc, yes)?;
-            let other = copy(alloc, other)?;
-            Ok(FExpr::Choose {
-                cond: boxed(alloc, cond)?,
-                yes: boxed(alloc, yes)?,
-                other: boxed(alloc, other)?,
-                width: *width,
-            })
-        }
-        FExpr::Join { parts, width } => Ok(FExpr::Join {
-            parts: copy_all(alloc, parts.as_slice())?,
-            width: *width,
-        }),
-        FExpr::Repeat {
-            count,
-            parts,
-            width,
-        } => Ok(FExpr::Repeat {
-            count: *count,
-            parts: copy_all(alloc, parts.as_slice())?,
-            width: *width,
-        }),
+            },
+        };
+        return chosen(alloc, around, whole);
     }
+}
+
+/// The choices around an expression, the last one of the list innermost.
+fn chosen(alloc: Global, around: Vec<Choice>, innermost: FExpr) -> Result<FExpr, NoMemory> {
+    let mut around = around;
+    let mut whole = innermost;
+    while let Some(Choice { cond, yes, width }) = around.pop() {
+        whole = FExpr::Choose {
+            cond: boxed(alloc, cond)?,
+            yes: boxed(alloc, yes)?,
+            other: boxed(alloc, whole)?,
+            width,
+        };
+    }
+    Ok(whole)
 }
 
 #[cycle(copy)]

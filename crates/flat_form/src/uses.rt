@@ -12,33 +12,37 @@ pub fn all_bits(signals: &[Signal], sig: u32) -> u64 {
     }
 }
 
-/// Adds the bits that an expression reads. A variable index reads its whole signal.
+/// Adds the bits that an expression reads. A variable index reads its whole signal. Gates of many inputs and reads of
+/// large memories are long chains, which are walked without a recursion.
 #[cycle(add_reads)]
 pub fn add_reads(signals: &[Signal], expr: &FExpr, reads: &mut Masks) -> Result<(), NoMemory> {
-    match expr {
-        FExpr::Number { .. } => Ok(()),
-        FExpr::Read { sig, at, width } => reads.add(*sig, bits(*at, *width)),
-        FExpr::At { sig, index, .. } => {
-            reads.add(*sig, all_bits(signals, *sig))?;
-            add_reads(signals, index, reads)
-        }
-        FExpr::Unary { a, .. } => add_reads(signals, a, reads),
-        FExpr::Binary { a, b, .. } => {
-            add_reads(signals, a, reads)?;
-            add_reads(signals, b, reads)
-        }
-        FExpr::Choose {
-            cond,
-            yes,
-            other,
-            ..
-        } => {
-            add_reads(signals, cond, reads)?;
-            add_reads(signals, yes, reads)?;
-            add_reads(signals, other, reads)
-        }
-        FExpr::Join { parts, .. } | FExpr::Repeat { parts, .. } => {
-            add_reads_of(signals, parts.as_slice(), reads)
+    let mut inner = expr;
+    loop {
+        match inner {
+            FExpr::Number { .. } => return Ok(()),
+            FExpr::Read { sig, at, width } => return reads.add(*sig, bits(*at, *width)),
+            FExpr::At { sig, index, .. } => {
+                reads.add(*sig, all_bits(signals, *sig))?;
+                inner = index;
+            }
+            FExpr::Unary { a, .. } => inner = a,
+            FExpr::Binary { a, b, .. } => {
+                add_reads(signals, b, reads)?;
+                inner = a;
+            }
+            FExpr::Choose {
+                cond,
+                yes,
+                other,
+                ..
+            } => {
+                add_reads(signals, cond, reads)?;
+                add_reads(signals, yes, reads)?;
+                inner = other;
+            }
+            FExpr::Join { parts, .. } | FExpr::Repeat { parts, .. } => {
+                return add_reads_of(signals, parts.as_slice(), reads);
+            }
         }
     }
 }
