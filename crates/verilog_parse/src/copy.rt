@@ -1,8 +1,10 @@
 //! Copies of trees: each entry of a list owns what the list says once for all of them.
-use crate::make::{binary, choice, paren, repeat, select, unary};
 use cdc_base::{List, NoMemory};
 use std::alloc::Global;
 use verilog_ast::{Conn, Conns, Expr, Range};
+use verilog_exprs::make::{
+    make_binary, make_choice, make_paren, make_repeat, make_select, make_unary,
+};
 
 #[cycle(copy)]
 pub fn copy_expr(alloc: Global, expr: &Expr) -> Result<Expr, NoMemory> {
@@ -19,29 +21,29 @@ pub fn copy_expr(alloc: Global, expr: &Expr) -> Result<Expr, NoMemory> {
         Expr::Ident(name) => Ok(Expr::Ident(name.copy(alloc)?)),
         Expr::At { name, index } => {
             let index = copy_expr(alloc, index)?;
-            select(alloc, name.copy(alloc)?, index, None)
+            make_select(alloc, name.copy(alloc)?, index, None)
         }
         Expr::Part { name, left, right } => {
             let left = copy_expr(alloc, left)?;
             let right = copy_expr(alloc, right)?;
-            select(alloc, name.copy(alloc)?, left, Some(right))
+            make_select(alloc, name.copy(alloc)?, left, Some(right))
         }
-        Expr::Unary { op, a } => unary(alloc, *op, copy_expr(alloc, a)?),
+        Expr::Unary { op, a } => make_unary(alloc, *op, copy_expr(alloc, a)?),
         Expr::Binary { op, a, b } => {
             let a = copy_expr(alloc, a)?;
-            binary(alloc, *op, a, copy_expr(alloc, b)?)
+            make_binary(alloc, *op, a, copy_expr(alloc, b)?)
         }
         Expr::Choose { cond, yes, other } => {
             let cond = copy_expr(alloc, cond)?;
             let yes = copy_expr(alloc, yes)?;
-            choice(alloc, cond, yes, copy_expr(alloc, other)?)
+            make_choice(alloc, cond, yes, copy_expr(alloc, other)?)
         }
         Expr::Join(parts) => Ok(Expr::Join(copy_exprs(alloc, parts.as_slice())?)),
         Expr::Repeat { count, parts } => {
             let count = copy_expr(alloc, count)?;
-            repeat(alloc, count, copy_exprs(alloc, parts.as_slice())?)
+            make_repeat(alloc, count, copy_exprs(alloc, parts.as_slice())?)
         }
-        Expr::Paren(a) => paren(alloc, copy_expr(alloc, a)?),
+        Expr::Paren(a) => make_paren(alloc, copy_expr(alloc, a)?),
     }
 }
 

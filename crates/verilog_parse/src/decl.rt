@@ -2,15 +2,15 @@
 ghost use Rattle.std.specs.Prelude.{◌≤◌, ◌<◌, length, IfOk, IfSome};
 
 use crate::copy::copy_range;
-use crate::expr::read_whole;
-use crate::halt::Halt;
-use crate::target::read_target;
-use crate::tokens::{Read, after_mark, after_word, past_ident, past_mark};
 use cdc_base::limits::MAX_DEPTH;
 use cdc_base::{List, Place};
 use std::alloc::Global;
 use verilog_ast::{Decl, DeclKind, Expr, Item, ItemBody, ParamDecl, Range};
+use verilog_exprs::expr::read_whole;
+use verilog_exprs::halt::Halt;
+use verilog_exprs::tokens::{Read, after_mark, after_word, past_ident, past_mark};
 use verilog_lex::{Keyword, MarkKind, Token};
+use verilog_stmts::target::read_target;
 
 /// `[range]`
 pub fn read_range<'a>(alloc: Global, tokens: &'a [Token]) -> Result<Read<'a, Option<Range>>, Halt>

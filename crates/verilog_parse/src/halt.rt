@@ -1,50 +1,10 @@
-//! Why a form was not read.
-ghost use Rattle.std.specs.Prelude.{◌≡◌, ◌≤◌, ◌<◌, ◌+◌, IfOk};
+//! The refusal of a text, from what ends its reading.
 ghost use Rattle.refusals.specs.Numbers.{HasNumberIn, grammar_numbers};
 
-use cdc_base::{Fault, Name, NoMemory, Place, Stop};
+use cdc_base::{Fault, Name, Place, Stop};
 use std::alloc::Global;
+use verilog_exprs::halt::Halt;
 use verilog_lex::Token;
-
-/// What ends the reading before its form ends.
-#[derive(Debug, Drop)]
-pub enum Halt {
-    /// Of the tokens `left` are left, of which the first is refused. `deep` tells that a form which is nested deeper
-    /// goes on with it.
-    Refused { deep: bool, left: usize },
-    Memory,
-}
-
-impl From<NoMemory> for Halt {
-    ghost use Rattle.std.specs.Prelude.{◌≡◌};
-    ghost use Rattle.verilog_parse.specs.declared.halt.Halt.TheVariants.{Memory};
-
-    ghost from_gives = { λ _ r. r ≡ Memory };
-
-    fn from(_error: NoMemory) -> Halt {
-        Halt::Memory
-    }
-}
-
-/// The refusal of the first of these tokens.
-pub fn refused(rest: &[Token], deep: bool) -> Halt {
-    Halt::Refused {
-        deep,
-        left: rest.len(),
-    }
-}
-
-/// The levels that are left below one more level, which the first of the tokens opens and which holds a part that is
-/// `height` levels high.
-pub fn deeper(left: u32, height: u32, tokens: &[Token]) -> Result<u32, Halt>
-    ensures within { IfOk result (λ below. height ≤ below) }
-    ensures less { IfOk result (λ below. below + 1 ≡ left) }
-{
-    if left <= height {
-        return Err(refused(tokens, true));
-    }
-    Ok(left - 1)
-}
 
 const NO_READING: u16 = 201;
 

@@ -3,11 +3,11 @@ ghost use Rattle.std.specs.Prelude.{◌≤◌, ◌<◌, length, IfOk, IfSome};
 
 use crate::copy::copy_range;
 use crate::decl::{after_direction, read_init, read_param, read_range};
-use crate::halt::{Halt, refused};
-use crate::tokens::{Read, after_ident, after_mark, after_word, past_ident, past_mark};
 use cdc_base::{List, Name};
 use std::alloc::Global;
 use verilog_ast::{Decl, DeclKind, Expr, ParamDecl, Port, Range};
+use verilog_exprs::halt::{Halt, refused};
+use verilog_exprs::tokens::{Read, after_ident, after_mark, after_word, past_ident, past_mark};
 use verilog_lex::{Keyword, MarkKind, Token};
 
 /// The ports of a header, and whether it declares them.

@@ -2,13 +2,13 @@
 ghost use Rattle.std.specs.Prelude.{◌≤◌, ◌<◌, length, IfOk, IfSome};
 
 use crate::copy::copy_conns;
-use crate::expr::{read_exprs, read_whole};
-use crate::halt::Halt;
-use crate::tokens::{Read, after_ident, after_mark, past_ident, past_mark};
 use cdc_base::limits::MAX_DEPTH;
 use cdc_base::{List, Name, Place};
 use std::alloc::Global;
 use verilog_ast::{Conn, Conns, Expr, GateKind, Item, ItemBody};
+use verilog_exprs::expr::{read_exprs, read_whole};
+use verilog_exprs::halt::Halt;
+use verilog_exprs::tokens::{Read, after_ident, after_mark, past_ident, past_mark};
 use verilog_lex::{Keyword, MarkKind, Token, TokenKind};
 
 fn gate_of(word: Keyword) -> Option<GateKind> {

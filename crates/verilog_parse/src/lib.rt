@@ -6,17 +6,11 @@ ghost use Rattle.refusals.specs.Numbers.{HasNumberIn, grammar_numbers};
 
 pub mod copy;
 pub mod decl;
-pub mod expr;
 pub mod halt;
 pub mod header;
 pub mod instance;
-pub mod make;
 pub mod module;
-pub mod operators;
-pub mod stmt;
-pub mod target;
 pub mod text;
-pub mod tokens;
 
 use cdc_base::{List, NoMemory, Stop};
 use std::alloc::Global;

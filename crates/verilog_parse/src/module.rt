@@ -2,18 +2,18 @@
 ghost use Rattle.std.specs.Prelude.{◌≤◌, ◌<◌, length, IfOk, IfSome};
 
 use crate::decl::{after_kind, after_parameter, read_assigns, read_decls, read_params};
-use crate::halt::{Halt, refused};
 use crate::header::{read_header_params, read_ports};
 use crate::instance::{after_gate, read_gates, read_instances};
-use crate::stmt::read_stmt;
-use crate::tokens::{
-    Read, after_ident, after_mark, after_word, is_at_end, past_ident, past_mark, past_word,
-};
 use cdc_base::limits::MAX_DEPTH;
 use cdc_base::{List, Place};
 use std::alloc::Global;
 use verilog_ast::{Edge, EdgeKind, Event, Item, ItemBody, Module, Source};
+use verilog_exprs::halt::{Halt, refused};
+use verilog_exprs::tokens::{
+    Read, after_ident, after_mark, after_word, is_at_end, past_ident, past_mark, past_word,
+};
 use verilog_lex::{Keyword, MarkKind, Token};
+use verilog_stmts::stmt::read_stmt;
 
 /// The modules up to the end of the tokens.
 pub fn read_source(alloc: Global, tokens: &[Token]) -> Result<Source, Halt> {

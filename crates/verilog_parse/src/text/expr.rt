@@ -1,9 +1,9 @@
 //! Expressions and targets as text.
-use crate::operators::{binary_mark, unary_mark};
 use crate::text::token::{put_mark, put_name, put_number};
 use cdc_base::NoMemory;
 use std::alloc::Global;
 use verilog_ast::{Expr, Target};
+use verilog_exprs::operators::{binary_mark, unary_mark};
 use verilog_lex::MarkKind;
 
 #[cycle(put)]

@@ -1,0 +1,4 @@
+pub mod Forms
+pub mod Halts
+pub mod Next
+pub mod Selected

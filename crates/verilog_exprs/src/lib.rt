@@ -1,0 +1,8 @@
+//! Expressions of a netlist, read from its tokens.
+#![tactic(auto)]
+
+pub mod expr;
+pub mod halt;
+pub mod make;
+pub mod operators;
+pub mod tokens;

@@ -1,0 +1,4 @@
+pub mod ListSteps
+pub mod TargetSteps
+pub mod StmtSteps
+pub mod MakeSteps
