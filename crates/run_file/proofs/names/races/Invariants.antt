@@ -1,0 +1,8 @@
+use Rattle.std.proofs.Common.{◌≡◌, ◌++◌, drop, Ok}
+use Rattle.clock_constraints.specs.Refusals.{◌>>=◌}
+use Rattle.run_file.specs.Names.{CanRead, each, race}
+use Rattle.run_file.proofs.names.races.Given as goal
+
+abbrev pub invariant-loop-entry : goal.invariant-loop-entry
+invariant-loop-entry l = CanRead l.net l.domains → each (race l.net l.domains) l.entries
+    ≡ (each (race l.net l.domains) (drop l.entry-index l.entries) >>= (λ rest. Ok (l.races ++ rest)))

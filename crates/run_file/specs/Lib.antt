@@ -1,0 +1,5 @@
+pub mod Values
+pub mod Shapes
+pub mod Names
+pub mod Files
+pub mod Numbers

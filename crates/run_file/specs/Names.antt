@@ -1,0 +1,131 @@
+-- The signals, bits and clocks that a record names.
+use Rattle.std.specs.Prelude.{◌≡◌, ℕ, zero, suc, ◌+◌, ◌≤◌, ◌^◌, ◌==◌, nat_le, List, [], ◌∷◌, length, Bool, true, false, Option, None, Some, Result, Ok, Err, position, slice_get, option_map, bit_and, bit_xor, if◌then◌else◌}
+use Rattle.std.specs.Option.{option_map_or}
+use Rattle.std.specs.Str.{bytes_eq}
+use Rattle.std.specs.List.Sorted.{IsStrictlyIncreasing}
+use Rattle.cdc_base.specs.declared.bit.Bit.{Bit}
+use Rattle.cdc_base.specs.declared.fault.Fault.{Fault}
+use Rattle.cdc_base.specs.declared.signal.Signal.{Signal}
+use Rattle.cdc_base.specs.Bits.{IsNamed, bit_text}
+use Rattle.cell_graph.specs.declared.net.Net.{Net}
+use Rattle.clock_constraints.specs.declared.ClockPin.{ClockPin}
+use Rattle.clock_constraints.specs.Refusals.{Text, broken, ◌>>=◌, required}
+use Rattle.domains.specs.declared.Domains.{Domains}
+use Rattle.domains.specs.Nets.{is_register}
+use Rattle.cdc_model.specs.declared.record.Given.{Given}
+use Rattle.cdc_model.specs.declared.record.Race.{Race}
+use Rattle.cdc_model.specs.declared.record.RecordStep.{RecordStep}
+use Rattle.settling_sim.specs.State.{has_kind, is_clocked_input, is_state_signal}
+use Rattle.run_file.specs.declared.document.Entry.{Entry}
+use Rattle.run_file.specs.declared.document.RaceEntry.{RaceEntry}
+use Rattle.run_file.specs.declared.document.StepEntry.{StepEntry}
+
+-- the place of the first signal, and of the first clock, with this name
+abbrev pub signal_named : List Signal → Text → Option ℕ
+signal_named signals name = position (λ s. bytes_eq s.name name) signals
+
+abbrev pub clock_named : List ClockPin → Text → Option ℕ
+clock_named clocks name = position (λ c. bytes_eq c.name name) clocks
+
+-- the first of two that is there
+abbrev pub or_other : {A : Type 0} → Option A → Option A → Option A
+or_other (Some x) o = Some x
+or_other None o = o
+
+-- the first of a signal's low bits with this printed name
+abbrev pub offset_named : Signal → Text → ℕ → Option ℕ
+offset_named s t zero = None
+offset_named s t (suc n) = or_other (offset_named s t n) (if bytes_eq t (bit_text s n) then Some n else None)
+
+-- the first bit of the signals from number k on with this printed name
+abbrev pub bit_from : ℕ → List Signal → Text → Option Bit
+bit_from k [] t = None
+bit_from k (s ∷ ss) t = or_other (option_map (λ at. record { sig = k; at = at }) (offset_named s t s.width)) (bit_from (k + 1) ss t)
+
+abbrev pub bit_named : List Signal → Text → Option Bit
+bit_named signals t = bit_from 0 signals t
+
+-- no two bits have one printed name, and each signal has a number
+pub record AreApart (signals : List Signal) : Type 0 where
+  pub named : (t : Text) (b : Bit) → IsNamed signals t b → bit_named signals t ≡ Some b
+  pub numbered : length signals ≤ 2 ^ 32
+
+-- a net and domains of which records can speak: bits are told apart by their names, clocks have numbers, and static inputs ascend
+pub record CanRead (net : Net) (domains : Domains) : Type 0 where
+  pub apart : AreApart net.graph.signals
+  pub clocks : length domains.clocks ≤ 2 ^ 32
+  pub statics : IsStrictlyIncreasing domains.statics
+
+-- what passes a test
+abbrev pub passing : {A : Type 0} → (A → Bool) → Option A → Option A
+passing test None = None
+passing test (Some x) = if test x then Some x else None
+
+-- what a name stands for, or that it is unknown
+abbrev pub known : {A : Type 0} → Text → Option A → Result A Fault
+known name o = required 503 name o
+
+-- the value needs more bits than the signal has
+abbrev pub is_wider : List Signal → ℕ → ℕ → Bool
+is_wider signals sig value = option_map_or (λ (s : Signal). nat_le (2 ^ s.width) value) (slice_get signals sig) false
+
+abbrev pub given : List Signal → Entry → ℕ → Result Given Fault
+given signals e sig = if is_wider signals sig e.value then Err (broken 508 e.name) else Ok (record { sig = sig; value = e.value })
+
+-- the value has the signal's known start bits
+abbrev pub has_start : List Signal → Given → Bool
+has_start signals g = option_map_or (λ (s : Signal). bit_and (bit_xor g.value s.start) s.known == 0) (slice_get signals g.sig) true
+
+abbrev pub starting : List Signal → Text → Given → Result Given Fault
+starting signals name g = if has_start signals g then Ok g else Err (broken 509 name)
+
+-- a start value, of a signal that holds state
+abbrev pub start_value : Net → Domains → Entry → Result Given Fault
+start_value net domains e = do
+  sig ← known e.name (passing (is_state_signal net domains) (signal_named net.graph.signals e.name))
+  g ← given net.graph.signals e sig
+  starting net.graph.signals e.name g
+
+-- a value of a clocked input
+abbrev pub input_value : Net → Domains → Entry → Result Given Fault
+input_value net domains e = do
+  sig ← known e.name (passing (is_clocked_input net domains) (signal_named net.graph.signals e.name))
+  given net.graph.signals e sig
+
+-- each item of a list in turn
+abbrev pub each : {A B : Type 0} → (A → Result B Fault) → List A → Result (List B) Fault
+each one [] = Ok []
+each one (x ∷ xs) = do
+  y ← one x
+  ys ← each one xs
+  Ok (y ∷ ys)
+
+abbrev pub edge : List ClockPin → Text → Result ℕ Fault
+edge clocks name = known name (clock_named clocks name)
+
+-- a bit of a register, and of any signal that holds state
+abbrev pub register_bit : Net → Text → Result Bit Fault
+register_bit net name = known name (passing (λ (b : Bit). has_kind net is_register b.sig) (bit_named net.graph.signals name))
+
+abbrev pub state_bit : Net → Domains → Text → Result Bit Fault
+state_bit net domains name = known name (passing (λ (b : Bit). is_state_signal net domains b.sig) (bit_named net.graph.signals name))
+
+abbrev pub other_bits : Net → Domains → Option (List Text) → Result (Option (List Bit)) Fault
+other_bits net domains None = Ok None
+other_bits net domains (Some names) = do
+  bits ← each (state_bit net domains) names
+  Ok (Some bits)
+
+abbrev pub race : Net → Domains → RaceEntry → Result Race Fault
+race net domains e = do
+  bit ← register_bit net e.bit
+  flip ← each (state_bit net domains) e.flip
+  other ← other_bits net domains e.other
+  Ok (record { bit = bit; flip = flip; other = other })
+
+abbrev pub step : Net → Domains → StepEntry → Result RecordStep Fault
+step net domains e = do
+  edges ← each (edge domains.clocks) e.edges
+  inputs ← each (input_value net domains) e.inputs
+  races ← each (race net domains) e.races
+  Ok (record { edges = edges; inputs = inputs; races = races })

@@ -1,0 +1,11 @@
+//! Records of runs, as JSON files have them.
+#![tactic(auto)]
+
+mod document;
+mod file;
+mod names;
+mod refusal;
+mod shape;
+mod value;
+
+pub use file::read;

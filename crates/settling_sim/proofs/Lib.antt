@@ -1,0 +1,12 @@
+pub mod Statics
+pub mod Words
+pub mod Values
+pub mod Ticks
+pub mod Trials
+pub mod Stepped
+pub mod Fits
+pub mod Faults
+pub mod Counts
+pub mod Settles
+pub mod Steps
+pub mod Kept

@@ -1,0 +1,11 @@
+pub mod Words
+pub mod Cycles
+pub mod Edges
+pub mod State
+pub mod Trial
+pub mod Faults
+pub mod Runs
+pub mod Design
+pub mod Reader
+pub mod Loose
+pub mod Present
