@@ -1,10 +1,11 @@
 //! Single layers, each on a design that says most about it.
-use crate::program::{CHIP, HANDSHAKE, constraints};
-use cdc_base::{Name, ResetPin, Signal};
+use crate::program::{CHIP, HANDSHAKE, TWO_FLOPS, constraints};
+use cdc_base::{Bit, Name, ResetPin, Signal};
 use cell_graph::{Net, Values};
 use cofactor::Plain;
 use domains::Domains;
 use flat_design::{Flat, flatten};
+use settling_sim::Sim;
 use std::alloc::Global;
 use std::test::Fail;
 use verilog_ast::{ItemBody, Source, Stmt};
@@ -135,6 +136,68 @@ fn rings_need_their_own_acknowledgement(rt: HostRuntime) -> Result<(), Fail> {
     ] {
         let text = HANDSHAKE.replacen(alloc, part, by, 1)?;
         assert_eq!(&rt; ring_count(alloc, text.as_str())?, count, "{by}");
+    }
+    Ok(())
+}
+
+/// Bit 0 of the signal with this name.
+fn bit_of(net: &Net, name: &str) -> Option<Bit> {
+    for (place, signal) in net.graph.signals().iter().enumerate() {
+        if signal.name.as_str() == name {
+            let sig = u32::try_from(place).ok()?;
+            return Some(Bit { sig, at: 0 });
+        }
+    }
+    None
+}
+
+/// What a first flop holds once its source changes while both clocks tick, by the bits that its race flips and the
+/// other ones: its value, and the cycles that it may still need. A step without an edge then changes nothing.
+fn sampled(
+    alloc: Global,
+    net: &Net,
+    domains: &Domains,
+    flip: &str,
+    other: &str,
+) -> Result<Option<(bool, u8)>, Fail> {
+    let text = format!(in alloc;
+        "{{\"steps\":[{{\"edges\":[\"ca\"],\"inputs\":{{\"d\":1}}}},
+        {{\"edges\":[\"ca\",\"cb\"],\"races\":[{{\"bit\":\"s1\",\"flip\":[{flip}],\"else\":[{other}]}}]}}]}}"
+    )?;
+    let record = run_file::read(alloc, text.as_bytes(), net, domains)?;
+    let mut sim = Sim::open(alloc, net, domains, record.start.as_slice())?;
+    for step in record.steps.as_slice() {
+        let edges = step.edges.as_slice();
+        if sim
+            .step(edges, step.inputs.as_slice(), step.races.as_slice())
+            .is_err()
+        {
+            return Ok(None);
+        }
+    }
+    match bit_of(net, "s1") {
+        Some(first) if sim.step(&[], &[], &[]).is_err() => {
+            Ok(Some((sim.value(first), sim.left(first))))
+        }
+        _ => Ok(None),
+    }
+}
+
+#[test]
+fn a_changing_bit_is_sampled_either_way(rt: HostRuntime) -> Result<(), Fail> {
+    let alloc = rt.alloc();
+    let net = net_of(alloc, TWO_FLOPS)?;
+    let domains = domains_of(alloc, &net, "d")?;
+    for (flip, other, wanted) in [
+        ("\"a\"", "", Some((true, 1))),
+        ("", "\"a\"", Some((false, 1))),
+        ("\"s2\"", "\"a\"", None),
+    ] {
+        assert_eq!(&rt;
+            sampled(alloc, &net, &domains, flip, other)?,
+            wanted,
+            "{flip}"
+        );
     }
     Ok(())
 }

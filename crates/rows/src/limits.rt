@@ -58,8 +58,8 @@ fn many_cells(rt: HostRuntime) -> Result<(), Fail> {
         alloc,
         "module m(input ca, cb, d, output q);\nwire w1 = d ^ d;\n",
     )?;
-    for number in 2..31 {
-        let before = number - 1;
+    for before in 1..30 {
+        let number = before + 1;
         let line = format!(in alloc; "wire w{number} = w{before} ^ w{before};\n")?;
         text.push_str(line.as_str())?;
     }
