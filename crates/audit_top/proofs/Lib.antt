@@ -5,4 +5,3 @@ pub mod TokenNumbers
 pub mod ReadInTurn
 pub mod Answered
 pub mod Finished
-pub mod Replayed
