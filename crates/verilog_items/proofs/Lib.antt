@@ -1,0 +1,2 @@
+pub mod PushSteps
+pub mod DeclSteps

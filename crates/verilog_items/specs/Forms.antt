@@ -1,0 +1,81 @@
+-- What the parser's functions of items speak of.
+use Rattle.std.specs.Prelude.{ℕ, Bool, false, ◌≡◌, Option, None, List, [], ◌∷◌, ◌++◌, map}
+use Rattle.cdc_base.specs.declared.fault.Place.{Place}
+use Rattle.cdc_base.specs.declared.words.Keyword.TheVariants as k
+use Rattle.verilog_ast.specs.declared.GateKind.{GateKind}
+use Rattle.verilog_ast.specs.declared.Item.{Item}
+use Rattle.verilog_exprs.specs.Next.{Takes, Lacks}
+use Rattle.verilog_lex.specs.declared.token.Token.{Token}
+use Rattle.verilog_reading.specs.Lexemes.{mark_in, word_in}
+use Rattle.verilog_reading.specs.Outcome.{Outcome, done}
+use Rattle.verilog_lex.specs.declared.marks.MarkKind.TheVariants.{Semicolon, Comma, ParenClose}
+use Rattle.verilog_reading.specs.ItemReader.{then_both, then_done, maybe_range, param_items, setting, assign_items, driven, gate_items, gate, instance_items, overrides, placed, as_ordered, value, conn, list, long_pdecl, pdecl, listed, old_of, bare_name, ansi_of, adecl, entry}
+use Rattle.verilog_reading.specs.ItemReading.{Pdecl, range_from, params_from, Shape, Entry, shape_from, Ports}
+use Rattle.verilog_reading.specs.SourceTree.{Bounds, ParamTree, ItemTree, item_of, ConnsTree, named}
+use Rattle.verilog_reading.specs.StmtReader.{Lower}
+
+-- the place of the next token
+abbrev pub place_at : List Token → Place
+place_at [] = record { line = 0; column = 0 }
+place_at (t ∷ ts) = t.place
+
+-- the reader gives these items, which are put behind the others
+pub record Puts (o : Outcome (List ItemTree)) (old new : List Item) (rest : List Token) : Type 0 where
+  pub added : List ItemTree
+  pub reads : o ≡ done added rest
+  pub all : map item_of new ≡ map item_of old ++ added
+
+-- no declaration of a port begins with the next token
+pub record NoDirection (ts : List Token) : Type 0 where
+  pub input : Lacks (word_in k.Input) ts
+  pub output : Lacks (word_in k.Output) ts
+
+-- no declaration begins with the next token
+pub record NoKind (ts : List Token) : Type 0 where
+  pub direction : NoDirection ts
+  pub wire : Lacks (word_in k.Wire) ts
+  pub reg : Lacks (word_in k.Reg) ts
+
+-- parameters behind their word, and assignments behind `assign`
+abbrev pub params_at : Lower → Bool → Place → List Token → Outcome (List ItemTree)
+params_at l local p = then_both (param_items p local) (maybe_range l) (listed Semicolon (setting l))
+
+abbrev pub assigns_at : Lower → Place → List Token → Outcome (List ItemTree)
+assigns_at l p = then_done (assign_items p) (listed Semicolon (driven l))
+
+-- gates behind the word of their kind, and instances behind the name of their module
+abbrev pub gates_at : Lower → Place → GateKind → List Token → Outcome (List ItemTree)
+gates_at l p kind = then_done (gate_items p kind) (listed Semicolon (gate l))
+
+abbrev pub instances_at : Lower → Place → List ℕ → List Token → Outcome (List ItemTree)
+instances_at l p n = then_both (instance_items p n) (overrides l) (listed Semicolon (placed l))
+
+-- the two styles of connections, behind their parenthesis
+abbrev pub ordered_at : Lower → List Token → Outcome ConnsTree
+ordered_at l = then_done as_ordered (listed ParenClose (value l))
+
+abbrev pub named_at : Lower → List Token → Outcome ConnsTree
+named_at l = then_done named (listed ParenClose (conn l))
+
+-- the entries of a header behind their parenthesis
+abbrev pub pdecls_at : Lower → List Token → Outcome (List ParamTree)
+pdecls_at l = then_done (params_from None) (list (mark_in Comma) ParenClose (long_pdecl l) (pdecl l))
+
+abbrev pub names_at : List Token → Outcome Ports
+names_at = then_done old_of (listed ParenClose bare_name)
+
+abbrev pub adecls_at : Lower → List Token → Outcome Ports
+adecls_at l = then_done ansi_of (list (mark_in Comma) ParenClose (adecl l) (entry l))
+
+-- the parameter of an entry of that range, and the range that stands behind entries
+abbrev pub param_by : Option Bounds → Pdecl → ParamTree
+param_by r a = record { local = false; range = r; name = a.setting.name; value = a.setting.value }
+
+abbrev pub last_range : Option Bounds → List Pdecl → Option Bounds
+last_range before [] = before
+last_range before (a ∷ bs) = last_range (range_from before a) bs
+
+-- the shape that stands behind entries
+abbrev pub last_shape : Shape → List Entry → Shape
+last_shape before [] = before
+last_shape before (a ∷ bs) = last_shape (shape_from before a.shape) bs
