@@ -1,2 +1,0 @@
-pub mod PushSteps
-pub mod DeclSteps
