@@ -44,7 +44,7 @@ timed "selftest 500" "$program" selftest 500
 for count in 100 500 2000; do
     audit "channels$count" channels "$count"
 done
-for count in 150 600 1500; do
+for count in 150 600 1000; do
     audit "blocks$count" blocks "$count"
 done
 audit doublings doublings
