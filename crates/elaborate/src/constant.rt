@@ -7,12 +7,12 @@ use flat_form::{FCaseItem, FExpr};
 use std::alloc::Global;
 use verilog_ast::{BinaryOp, UnaryOp};
 
-/// The value of the expression at `width` bits; None where it reads a signal.
+/// The value of the expression at `width` bits; None where it reads a signal. A gate stands in no constant expression.
 #[cycle(values)]
 pub fn constant(e: &FExpr, width: u8) -> Option<u64> {
     match e {
         FExpr::Number { value, .. } => Some(*value),
-        FExpr::Read { .. } | FExpr::At { .. } => None,
+        FExpr::Read { .. } | FExpr::At { .. } | FExpr::Gate { .. } => None,
         FExpr::Unary { op, a, .. } => {
             let own = own_width(a);
             let value = constant(a, operand_width(*op, width, own))?;

@@ -19,6 +19,7 @@ pub fn own_width(e: &FExpr) -> u8 {
         | FExpr::Choose { width, .. }
         | FExpr::Join { width, .. }
         | FExpr::Repeat { width, .. } => *width,
+        FExpr::Gate { .. } => 1,
     }
 }
 
@@ -51,16 +52,15 @@ pub fn operand_widths(op: BinaryOp, width: u8, left: u8, right: u8) -> (u8, u8) 
     }
 }
 
-/// What stands around an expression: an operator with its right operand, or a choice with the word that is taken where
-/// it holds.
+/// A choice around an expression, which is taken where it doesn't hold.
 #[derive(Clone, Copy, Drop)]
-enum Around {
-    Operator(BinaryOp, CellId),
-    Choice { cond: CellId, yes: CellId },
+struct Choice {
+    cond: CellId,
+    yes: CellId,
 }
 
-/// The tree of the expression at `width` bits, which are no fewer than its own. A gate of many inputs is a long chain to
-/// the left, and a read of a large memory one of choices: both are walked without a recursion.
+/// The tree of the expression at `width` bits, which are no fewer than its own. A read of a large memory is a long chain
+/// of choices, which is walked without a recursion.
 #[cycle(trees)]
 pub fn tree(
     alloc: Global,
@@ -73,12 +73,6 @@ pub fn tree(
     let mut inner = e;
     loop {
         let word = match inner {
-            FExpr::Binary { op, a, b, .. } if is_folded(*op) => {
-                let right = tree(alloc, drafts, present, b, width)?;
-                push(&mut around, Around::Operator(*op, right))?;
-                inner = a;
-                continue;
-            }
             FExpr::Choose {
                 cond,
                 yes,
@@ -88,7 +82,7 @@ pub fn tree(
                 let word = tree(alloc, drafts, present, cond, own_width(cond))?;
                 let cond = drafts.truth(word)?;
                 let yes = tree(alloc, drafts, present, yes, width)?;
-                push(&mut around, Around::Choice { cond, yes })?;
+                push(&mut around, Choice { cond, yes })?;
                 inner = other;
                 continue;
             }
@@ -121,6 +115,9 @@ pub fn tree(
                 let y = tree(alloc, drafts, present, b, right)?;
                 binary(drafts, *op, x, y, width)?
             }
+            FExpr::Gate { op, inputs } => {
+                gate(alloc, drafts, present, *op, inputs.as_slice(), width)?
+            }
             FExpr::Join { parts, .. } => {
                 let word = join(alloc, drafts, present, parts.as_slice())?;
                 drafts.fitted(word, width)?
@@ -131,32 +128,40 @@ pub fn tree(
                 drafts.fitted(copies, width)?
             }
         };
-        return wrapped(drafts, word, around.as_slice(), width);
+        return chosen(drafts, word, around.as_slice());
     }
 }
 
-/// The operators of gates, whose operands are both evaluated at the size of the whole.
-fn is_folded(op: BinaryOp) -> bool {
-    matches!(op, BinaryOp::And | BinaryOp::Or | BinaryOp::Xor)
+/// The word with the choices around it, the last one of the list innermost.
+fn chosen(drafts: &mut Drafts, innermost: CellId, around: &[Choice]) -> Result<CellId, NoMemory> {
+    let mut word = innermost;
+    for Choice { cond, yes } in around.iter().rev() {
+        word = drafts.add(Cell::Mux {
+            cond: *cond,
+            yes: *yes,
+            other: word,
+        })?;
+    }
+    Ok(word)
 }
 
-/// The word with what stands around it, the last one of the list first.
-fn wrapped(
+/// The inputs of a gate, which has one at least, folded from the left.
+#[cycle(trees)]
+fn gate(
+    alloc: Global,
     drafts: &mut Drafts,
-    innermost: CellId,
-    around: &[Around],
+    present: &Present,
+    op: BinaryOp,
+    inputs: &[FExpr],
     width: u8,
 ) -> Result<CellId, NoMemory> {
-    let mut word = innermost;
-    for each in around.iter().rev() {
-        word = match each {
-            Around::Operator(op, right) => binary(drafts, *op, word, *right, width)?,
-            Around::Choice { cond, yes } => drafts.add(Cell::Mux {
-                cond: *cond,
-                yes: *yes,
-                other: word,
-            })?,
-        };
+    let Some((first, others)) = inputs.split_first() else {
+        return drafts.constant(width, 0);
+    };
+    let mut word = tree(alloc, drafts, present, first, width)?;
+    for input in others {
+        let next = tree(alloc, drafts, present, input, width)?;
+        word = binary(drafts, op, word, next, width)?;
     }
     Ok(word)
 }

@@ -73,6 +73,10 @@ pub fn copy(alloc: Global, expr: &FExpr) -> Result<FExpr, NoMemory> {
                     width: *width,
                 }
             }
+            FExpr::Gate { op, inputs } => FExpr::Gate {
+                op: *op,
+                inputs: copy_all(alloc, inputs.as_slice())?,
+            },
             FExpr::Join { parts, width } => FExpr::Join {
                 parts: copy_all(alloc, parts.as_slice())?,
                 width: *width,

@@ -33,7 +33,8 @@ pub struct FlatClocked {
 }
 
 /// An expression. A `Number` stands for a number, a parameter, a maximal whole expression or a reset; a `Read` for a
-/// whole signal or a constant select, whose lowest bit is `at`; an `At` has a variable index.
+/// whole signal or a constant select, whose lowest bit is `at`; an `At` has a variable index; a `Gate` folds its inputs of
+/// one bit each from the left.
 #[derive(Drop)]
 pub enum FExpr {
     Number {
@@ -66,6 +67,10 @@ pub enum FExpr {
         yes: Box<FExpr>,
         other: Box<FExpr>,
         width: u8,
+    },
+    Gate {
+        op: BinaryOp,
+        inputs: List<FExpr>,
     },
     Join {
         parts: List<FExpr>,

@@ -13,6 +13,7 @@ pub fn width_of(expr: &FExpr) -> u8 {
         | FExpr::Choose { width, .. }
         | FExpr::Join { width, .. }
         | FExpr::Repeat { width, .. } => *width,
+        FExpr::Gate { .. } => 1,
     }
 }
 

@@ -12,8 +12,8 @@ pub fn all_bits(signals: &[Signal], sig: u32) -> u64 {
     }
 }
 
-/// Adds the bits that an expression reads. A variable index reads its whole signal. Gates of many inputs and reads of
-/// large memories are long chains, which are walked without a recursion.
+/// Adds the bits that an expression reads. A variable index reads its whole signal. A read of a large memory is a long
+/// chain of choices, which is walked without a recursion.
 #[cycle(add_reads)]
 pub fn add_reads(signals: &[Signal], expr: &FExpr, reads: &mut Masks) -> Result<(), NoMemory> {
     let mut inner = expr;
@@ -40,7 +40,9 @@ pub fn add_reads(signals: &[Signal], expr: &FExpr, reads: &mut Masks) -> Result<
                 add_reads(signals, yes, reads)?;
                 inner = other;
             }
-            FExpr::Join { parts, .. } | FExpr::Repeat { parts, .. } => {
+            FExpr::Gate { inputs: parts, .. }
+            | FExpr::Join { parts, .. }
+            | FExpr::Repeat { parts, .. } => {
                 return add_reads_of(signals, parts.as_slice(), reads);
             }
         }

@@ -9,8 +9,8 @@ use verilog_ast::{BinaryOp, UnaryOp};
 pub fn value_at(expr: &FExpr, size: u8) -> u64 {
     match expr {
         FExpr::Number { value, .. } => *value,
-        // A signal is no constant.
-        FExpr::Read { .. } | FExpr::At { .. } => 0,
+        // Signals and gates are no constants.
+        FExpr::Read { .. } | FExpr::At { .. } | FExpr::Gate { .. } => 0,
         FExpr::Unary { op, a, .. } => {
             let at = operand_size(*op, size, width_of(a));
             unary_value(*op, value_at(a, at), at)

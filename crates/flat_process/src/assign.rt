@@ -2,13 +2,13 @@
 ghost use Rattle.std.specs.Prelude.{IfErr};
 ghost use Rattle.refusals.specs.Numbers.{HasNumberIn, unfolding_numbers};
 
-use cdc_base::{Name, NoMemory, Place, Stop};
+use cdc_base::{List, Name, NoMemory, Place, Stop};
 use flat_form::flat::{FExpr, FlatAssign};
 use flat_form::memory::{boxed, push};
 use flat_names::design::Design;
 use flat_names::expr::resolve;
 use flat_names::fault::{Faults, Order, Rule};
-use flat_names::resolved::{Resolved, binary_expr, nothing};
+use flat_names::resolved::Resolved;
 use flat_names::scope::{Look, Names};
 use flat_names::target::{
     Assigned, Fixed, expr_target, first_index, fixed_target, is_target, nowhere, whole_target,
@@ -162,12 +162,15 @@ fn gate_value(
     inputs: &[Expr],
     faults: &mut Faults,
 ) -> Result<FExpr, NoMemory> {
-    let mut value = None;
+    let mut bits = Vec::new(look.alloc);
     for input in inputs {
         let input = one_bit(look, kind, input, faults)?;
-        value = Some(folded(look.alloc, kind, value, input.expr)?);
+        push(&mut bits, input.expr)?;
     }
-    let value = value.unwrap_or(nothing());
+    let value = FExpr::Gate {
+        op: gate_operator(kind),
+        inputs: List::from_vec(bits),
+    };
     match kind {
         GateKind::Nand | GateKind::Nor | GateKind::Xnor | GateKind::Not => Ok(FExpr::Unary {
             op: UnaryOp::Not,
@@ -190,18 +193,6 @@ fn one_bit(
         faults.note(Rule::Mismatch, gate_word(kind))?;
     }
     Ok(input)
-}
-
-fn folded(
-    alloc: Global,
-    kind: GateKind,
-    before: Option<FExpr>,
-    input: FExpr,
-) -> Result<FExpr, NoMemory> {
-    match before {
-        None => Ok(input),
-        Some(before) => binary_expr(alloc, gate_operator(kind), before, input),
-    }
 }
 
 fn gate_operator(kind: GateKind) -> BinaryOp {
