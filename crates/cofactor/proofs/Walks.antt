@@ -20,15 +20,15 @@ use Rattle.cofactor.specs.declared.table.Row.{Row}
 use Rattle.cofactor.specs.declared.walk.Wanted.{Wanted}
 use Rattle.cofactor.specs.Made.{IsMadeOf}
 use Rattle.cofactor.specs.Shown.{Shown, row_at, same_in, IsSame, HasPlace, Shows}
-use Rattle.cofactor.specs.Walked.{Walked, IsAsked, AreMakers, LeadsOn, IsReadBy, IsRead}
+use Rattle.cofactor.specs.Walked.{Walked, IsAsked, AreMakers, LeadsOn, IsReadBy, is_sought, IsRead}
 use Rattle.cofactor.proofs.Shown.{known-of}
 use Rattle.cofactor.proofs.ReadBits.{reads-known, reads-same, reads-made, made-reads, made-operand}
 
-and-true : (x y : Bool) → (x && y) ≡ true → (x ≡ true) × (y ≡ true)
+pub and-true : (x y : Bool) → (x && y) ≡ true → (x ≡ true) × (y ≡ true)
 and-true true y h = (refl, h)
 and-true false y h = absurd (cc)
 
-both-true : (x y : Bool) → x ≡ true → y ≡ true → (x && y) ≡ true
+pub both-true : (x y : Bool) → x ≡ true → y ≡ true → (x && y) ≡ true
 both-true true y e f = f
 both-true false y e f = e
 
@@ -126,15 +126,16 @@ module _ (g : Cells) (well : IsWellFormed g) (cube : Cube) (t : Shown) (id : Cel
             ∙ not-true (bit_at (bit_and unknown row.same) i) (sym (bit-not (bit_and unknown row.same) i same-small (omega arith)) ∙ p.1))),
       )
 
-  module _ (old new : Walked)
-      (there : (i : ℕ) (b : Bit) → i < w → bit_at (bit_and unknown row.same) i ≡ true → same_in t row i ≡ Some b → Contains new.found b)
+  module _ (marks : List (Option ℕ)) (old new : Walked)
+      (there : (i : ℕ) (b : Bit) → i < w → is_sought marks b ≡ true → bit_at (bit_and unknown row.same) i ≡ true → same_in t row i ≡ Some b → Contains new.found b)
       (only : (b : Bit) → Contains new.found b → Contains old.found b ⊎ ((i : ℕ) × (bit_at (bit_and unknown row.same) i ≡ true) × (same_in t row i ≡ Some b)))
+      (sought : (b : Bit) → Contains new.found b → Contains old.found b ⊎ (is_sought marks b ≡ true))
       (kept : (b : Bit) → Contains old.found b → Contains new.found b)
       (asked : (i j : ℕ) (x : CellId) → bit_at rest i ≡ true → IsMadeOf g cube (cell_at g id) i x j → j < cell_width g x → HasPlace t x → IsAsked t new.wanted x j)
       (made : (v : Wanted) → Contains new.wanted v → Contains old.wanted v ⊎ AreMakers g cube t (cell_at g id) rest v) where
-    by-same : (i : ℕ) → bit_at unknown i ≡ true → i < cell_width g id → (b : Bit) → reads cube (tree_of g id) i b ≡ true → K i ≡ None → (o : Option Bit) → S i ≡ o
+    by-same : (i : ℕ) → bit_at unknown i ≡ true → i < cell_width g id → (b : Bit) → is_sought marks b ≡ true → reads cube (tree_of g id) i b ≡ true → K i ≡ None → (o : Option Bit) → S i ≡ o
         → IsSame (bit_at row.same i) (slice_get t.sames (row.start + i)) o → LeadsOn g cube t id new b
-    by-same i set l b h k None s is =
+    by-same i set l b q h k None s is =
         let r = reads-made g well cube id lt i l k s b h in
         inr (
           r.0,
@@ -144,13 +145,13 @@ module _ (g : Cells) (well : IsWellFormed g) (cube : Cube) (t : Shown) (id : Cel
           asked i r.1 r.0 (is-rest i set l is) r.2 r.3 (operands r.0 (made-operand g cube (cell_at g id) i r.0 r.1 r.2)),
           r.4,
         )
-    by-same i set l b h k (Some a) s is =
+    by-same i set l b q h k (Some a) s is =
         let e = bit_eq-true a b (sym (reads-same cube (tree_of g id) i b a s) ∙ h) in
-        inl (there i b (omega arith) (and-whole unknown row.same i set is.0) (ap (λ c. cond c (slice_get t.sames (row.start + i)) None) is.0 ∙ is.1 ∙ ap Some e))
+        inl (there i b (omega arith) q (and-whole unknown row.same i set is.0) (ap (λ c. cond c (slice_get t.sames (row.start + i)) None) is.0 ∙ is.1 ∙ ap Some e))
 
-    by-known : (i : ℕ) → bit_at bits i ≡ true → i < cell_width g id → (b : Bit) → reads cube (tree_of g id) i b ≡ true → (o : Option Bool) → K i ≡ o → LeadsOn g cube t id new b
-    by-known i set l b h None k = by-same i (is-unknown i set l k) l b h k (S i) refl (told i l)
-    by-known i set l b h (Some v) k = let z = reads-known cube (tree_of g id) i b v k in absurd (cc)
+    by-known : (i : ℕ) → bit_at bits i ≡ true → i < cell_width g id → (b : Bit) → is_sought marks b ≡ true → reads cube (tree_of g id) i b ≡ true → (o : Option Bool) → K i ≡ o → LeadsOn g cube t id new b
+    by-known i set l b q h None k = by-same i (is-unknown i set l k) l b q h k (S i) refl (told i l)
+    by-known i set l b q h (Some v) k = let z = reads-known cube (tree_of g id) i b v k in absurd (cc)
 
     found-by : (i : ℕ) (b : Bit) → bit_at (bit_and unknown row.same) i ≡ true → same_in t row i ≡ Some b → IsReadBy g cube id bits b
     found-by i b set is =
@@ -163,9 +164,9 @@ module _ (g : Cells) (well : IsWellFormed g) (cube : Cube) (t : Shown) (id : Cel
         same-there c at None b e f h = absurd (cc)
         same-there c at (Some a) b e f h = sym h.1 ∙ f
 
-    pub is-read : IsRead g cube t id bits old new
+    pub is-read : IsRead g cube t marks id bits old new
     is-read = record {
-      all = λ b h. by-known h.0 h.1 h.2 b h.3 (K h.0) refl;
+      all = λ b q h. by-known h.0 h.1 h.2 b q h.3 (K h.0) refl;
       wanted = λ v h. elim (made v h) [
         | inl k ↦ inl k
         | inr k ↦ inr (
@@ -179,6 +180,7 @@ module _ (g : Cells) (well : IsWellFormed g) (cube : Cube) (t : Shown) (id : Cel
         )
       ];
       found = λ b h. elim (only b h) [ inl k ↦ inl k | inr k ↦ inr (found-by k.0 b k.1 k.2) ];
+      sought = sought;
       kept = kept;
     }
 

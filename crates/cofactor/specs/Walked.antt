@@ -1,6 +1,7 @@
 -- What a walk over the bits of cells has met.
-use Rattle.std.specs.Prelude.{◌≡◌, ◌⊎◌, ℕ, ◌<◌, true, List, Some, slice_get}
+use Rattle.std.specs.Prelude.{◌≡◌, ◌⊎◌, ℕ, ◌<◌, Bool, true, List, Option, Some, is_some, slice_get}
 use Rattle.std.specs.List.{Contains}
+use Rattle.std.specs.Option.{option_map_or}
 use Rattle.cdc_base.specs.declared.bit.Bit.{Bit}
 use Rattle.cell_graph.specs.declared.cell.Cell.{Cell}
 use Rattle.cell_graph.specs.declared.cell.CellId.{CellId}
@@ -48,6 +49,10 @@ AreMakers g cube t c bits w = (x : CellId) × IsOperand c x × (place_in t.cells
 abbrev pub KeepEntries : List Wanted → List Wanted → Type 0
 KeepEntries old new = (k : ℕ) (w : Wanted) → slice_get old k ≡ Some w → slice_get new k ≡ Some w
 
+-- the bit is sought: its signal is marked, or stands beyond the marks
+abbrev pub is_sought : List (Option ℕ) → Bit → Bool
+is_sought marks b = option_map_or (λ (mark : Option ℕ). is_some mark) (slice_get marks b.sig) true
+
 -- b is found, or read by a bit of an operand that was asked for
 abbrev pub LeadsOn : Cells → Cube → Shown → CellId → Walked → Bit → Type 0
 LeadsOn g cube t id walked b = Contains walked.found b
@@ -62,9 +67,10 @@ abbrev pub AreReadThrough : Cells → Cube → Shown → CellId → ℕ → Want
 AreReadThrough g cube t id bits w = (x : CellId) × IsOperand (cell_at g id) x × (place_in t.cells x ≡ Some w.place)
     × ((j : ℕ) → bit_at w.bits j ≡ true → j < cell_width g x → (b : Bit) → reads cube (tree_of g x) j b ≡ true → IsReadBy g cube id bits b)
 
--- these bits of a cell were read: what they read is found or asked for, and nothing else is
-pub record IsRead (g : Cells) (cube : Cube) (t : Shown) (id : CellId) (bits : ℕ) (old new : Walked) : Type 0 where
-  pub all : (b : Bit) → IsReadBy g cube id bits b → LeadsOn g cube t id new b
+-- these bits of a cell were read: what they read is asked for or, if it is sought, found; and nothing else is
+pub record IsRead (g : Cells) (cube : Cube) (t : Shown) (marks : List (Option ℕ)) (id : CellId) (bits : ℕ) (old new : Walked) : Type 0 where
+  pub all : (b : Bit) → is_sought marks b ≡ true → IsReadBy g cube id bits b → LeadsOn g cube t id new b
   pub wanted : (w : Wanted) → Contains new.wanted w → Contains old.wanted w ⊎ AreReadThrough g cube t id bits w
   pub found : (b : Bit) → Contains new.found b → Contains old.found b ⊎ IsReadBy g cube id bits b
+  pub sought : (b : Bit) → Contains new.found b → Contains old.found b ⊎ (is_sought marks b ≡ true)
   pub kept : (b : Bit) → Contains old.found b → Contains new.found b

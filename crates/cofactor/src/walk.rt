@@ -1,5 +1,5 @@
 //! The state bits that a node reads, by a walk that meets each bit of a cell once.
-ghost use Rattle.std.specs.Prelude.{◌≡◌, ◌⊎◌, ◌↔◌, ℕ, ◌^◌, ◌≤◌, ◌<◌, true, [], ◌∷◌, ◌++◌, length, Some, slice_get, IfOk, OnOk};
+ghost use Rattle.std.specs.Prelude.{◌≡◌, ◌⊎◌, ◌↔◌, ℕ, ◌^◌, ◌≤◌, ◌<◌, ◌&&◌, true, [], ◌∷◌, ◌++◌, length, Some, slice_get, IfOk, OnOk};
 ghost use Rattle.std.specs.List.{Contains};
 ghost use Rattle.cdc_base.specs.declared.bit.Bit.{Bit};
 ghost use Rattle.cell_graph.specs.declared.cell.Cell.TheVariants.{Mux, Concat};
@@ -15,7 +15,7 @@ ghost use Rattle.cofactor.specs.Made.{HasBit, IsMadeOf};
 ghost use Rattle.cofactor.specs.Marks.{marked};
 ghost use Rattle.cofactor.specs.Order.{AreAscending};
 ghost use Rattle.cofactor.specs.Shown.{place_in, same_in, ShowsMasks, HasPlace, Shows};
-ghost use Rattle.cofactor.specs.Walked.{IsMet, IsAsked, IsWithin, IsPartOf, AreMakers, KeepEntries, IsRead};
+ghost use Rattle.cofactor.specs.Walked.{IsMet, IsAsked, IsWithin, IsPartOf, AreMakers, KeepEntries, is_sought, IsRead};
 
 use crate::marks::Marks;
 use crate::masks::has_bit;
@@ -61,28 +61,46 @@ impl Table {
         ensures ascending { IfOk result (λ bits. AreAscending bits) }
         ensures unchanged { self.new ≡ self.old }
     {
-        let marks = mem::replace(&mut self.marks, Marks::new(alloc));
-        let marks = marks.begin(alloc, self.row_count())?;
-        let (marks, found) = self.walk(alloc, &net.graph, node, marks)?;
-        self.marks = marks;
+        self.reads_marked(alloc, net, node, &[])
+    }
+
+    /// The state bits of marked signals that the node reads, ascending. A signal beyond the marks counts as marked.
+    pub fn reads_marked(
+        &mut self,
+        alloc: Global,
+        net: &Net,
+        node: Node,
+        marks: &[Option<u32>],
+    ) -> Result<List<Bit>, NoMemory>
+        ensures exact { IfOk result (λ bits. (cube : reading.Cube) → IsWellFormed net.now.graph → IsNodeOf net.now.graph node →
+            ((id : CellId) → IsBelow net.now.graph (node.cell ∷ []) id → Shows net.now.graph cube self.old id) →
+            (b : Bit) → (Contains bits b) ↔ ((is_sought marks.now b && reads cube (tree_of net.now.graph node.cell) node.at b) ≡ true)) }
+        ensures ascending { IfOk result (λ bits. AreAscending bits) }
+        ensures unchanged { self.new ≡ self.old }
+    {
+        let met = mem::replace(&mut self.marks, Marks::new(alloc));
+        let met = met.begin(alloc, self.row_count())?;
+        let (met, found) = self.walk(alloc, &net.graph, node, met, marks)?;
+        self.marks = met;
         Ok(List::from_vec(into_ascending(found)))
     }
 
-    /// The marks that a whole walk from a node leaves, and the state bits found.
+    /// The bits of cells that a whole walk from a node has met, and the state bits of marked signals found.
     fn walk(
         &self,
         alloc: Global,
         graph: &Graph,
         node: Node,
-        marks: Marks,
+        met: Marks,
+        marks: &[Option<u32>],
     ) -> Result<(Marks, Vec<Bit>), NoMemory>
-        requires { (place : ℕ) → marked marks place ≡ 0 }
+        requires { (place : ℕ) → marked met place ≡ 0 }
         ensures { IfOk result (λ parts. (cube : reading.Cube) → IsWellFormed graph.now → IsNodeOf graph.now node →
             ((id : CellId) → IsBelow graph.now (node.cell ∷ []) id → Shows graph.now cube self.now id) →
-            (b : Bit) → (Contains parts.1.items b) ↔ (reads cube (tree_of graph.now node.cell) node.at b ≡ true)) }
+            (b : Bit) → (Contains parts.1.items b) ↔ ((is_sought marks.now b && reads cube (tree_of graph.now node.cell) node.at b) ≡ true)) }
     {
         let mut walk = Walk {
-            marks,
+            marks: met,
             wanted: Vec::new(alloc),
             found: Vec::new(alloc),
         };
@@ -91,7 +109,7 @@ impl Table {
             let Some(wanted) = walk.get(turn) else {
                 break;
             };
-            walk.read(self, graph, wanted)?;
+            walk.read(self, graph, wanted, marks)?;
         }
         Ok(walk.into_parts())
     }
@@ -177,11 +195,17 @@ impl Walk {
 
     /// Reads bits of a cell: known ones read nothing, those that equal a state bit read it, the others read what they
     /// are made of.
-    fn read(&mut self, table: &Table, graph: &Graph, wanted: Wanted) -> Result<(), NoMemory>
+    fn read(
+        &mut self,
+        table: &Table,
+        graph: &Graph,
+        wanted: Wanted,
+        marks: &[Option<u32>],
+    ) -> Result<(), NoMemory>
         ensures read { OnOk result ((cube : reading.Cube) (id : CellId) → IsWellFormed graph.now → id.0 < length graph.now.cells →
             place_in table.now.cells id ≡ Some wanted.place → Shows graph.now cube table.now id →
             ((a : CellId) → IsOperand (cell_at graph.now id) a → Shows graph.now cube table.now a) →
-            IsRead graph.now cube table.now id wanted.bits self.old self.new) }
+            IsRead graph.now cube table.now marks.now id wanted.bits self.old self.new) }
         ensures kept { OnOk result (KeepEntries self.old.wanted self.new.wanted) }
     {
         let cell = table.cell_at(graph, wanted.place);
@@ -189,7 +213,7 @@ impl Walk {
         let width = graph.width(cell);
         let unknown = wanted.bits & !row.masks.known & mask(width);
         let same = unknown & row.same;
-        self.find_all(table, row, same, width)?;
+        self.find_all(table, row, same, width, marks)?;
         let bits = unknown & !same;
         if bits == 0 {
             return Ok(());
@@ -197,9 +221,18 @@ impl Walk {
         self.want_makers(table, graph, graph.cell(cell), bits)
     }
 
-    /// Finds the state bits that these bits of a row's cell equal, of those below the width.
-    fn find_all(&mut self, table: &Table, row: Row, bits: u64, width: u8) -> Result<(), NoMemory>
-        ensures there { OnOk result ((i : ℕ) (b : Bit) → i < width → bit_at bits i ≡ true → same_in table.now row i ≡ Some b → Contains self.new.found b) }
+    /// Finds the state bits of marked signals that these bits of a row's cell equal, of those below the width.
+    fn find_all(
+        &mut self,
+        table: &Table,
+        row: Row,
+        bits: u64,
+        width: u8,
+        marks: &[Option<u32>],
+    ) -> Result<(), NoMemory>
+        ensures there { OnOk result ((i : ℕ) (b : Bit) → i < width → is_sought marks.now b ≡ true → bit_at bits i ≡ true → same_in table.now row i ≡ Some b →
+            Contains self.new.found b) }
+        ensures sought { OnOk result ((b : Bit) → Contains self.new.found b → Contains self.old.found b ⊎ (is_sought marks.now b ≡ true)) }
         ensures only { OnOk result ((b : Bit) → Contains self.new.found b → Contains self.old.found b ⊎
             ((i : ℕ) × (bit_at bits i ≡ true) × (same_in table.now row i ≡ Some b))) }
         ensures kept { OnOk result ((b : Bit) → Contains self.old.found b → Contains self.new.found b) }
@@ -209,14 +242,23 @@ impl Walk {
             return Ok(());
         }
         for at in 0..width {
-            self.find(table, row, bits, at)?;
+            self.find(table, row, bits, at, marks)?;
         }
         Ok(())
     }
 
-    /// Finds the state bit that bit `at` of a row's cell equals, if it is one of these bits.
-    fn find(&mut self, table: &Table, row: Row, bits: u64, at: u8) -> Result<(), NoMemory>
-        ensures there { OnOk result ((b : Bit) → bit_at bits at ≡ true → same_in table.now row at ≡ Some b → Contains self.new.found b) }
+    /// Finds the state bit that bit `at` of a row's cell equals, if it is one of these bits and of a marked signal.
+    fn find(
+        &mut self,
+        table: &Table,
+        row: Row,
+        bits: u64,
+        at: u8,
+        marks: &[Option<u32>],
+    ) -> Result<(), NoMemory>
+        ensures there { OnOk result ((b : Bit) → is_sought marks.now b ≡ true → bit_at bits at ≡ true → same_in table.now row at ≡ Some b →
+            Contains self.new.found b) }
+        ensures sought { OnOk result ((b : Bit) → Contains self.new.found b → Contains self.old.found b ⊎ (is_sought marks.now b ≡ true)) }
         ensures only { OnOk result ((b : Bit) → Contains self.new.found b → Contains self.old.found b ⊎
             ((bit_at bits at ≡ true) × (same_in table.now row at ≡ Some b))) }
         ensures kept { OnOk result ((b : Bit) → Contains self.old.found b → Contains self.new.found b) }
@@ -226,8 +268,23 @@ impl Walk {
             return Ok(());
         }
         match table.same_in(row, at) {
-            Some(bit) => self.add_found(bit),
+            Some(bit) => self.add_sought(bit, marks),
             None => Ok(()),
+        }
+    }
+
+    /// Adds a state bit that is found, if its signal is marked.
+    fn add_sought(&mut self, bit: Bit, marks: &[Option<u32>]) -> Result<(), NoMemory>
+        ensures there { OnOk result (is_sought marks.now bit ≡ true → Contains self.new.found bit) }
+        ensures only { OnOk result ((b : Bit) → Contains self.new.found b → Contains self.old.found b ⊎ (b ≡ bit)) }
+        ensures sought { OnOk result ((b : Bit) → Contains self.new.found b → Contains self.old.found b ⊎ (is_sought marks.now b ≡ true)) }
+        ensures kept { OnOk result ((b : Bit) → Contains self.old.found b → Contains self.new.found b) }
+        ensures wanted { OnOk result (self.new.wanted ≡ self.old.wanted) }
+    {
+        if is_sought(marks, bit) {
+            self.add_found(bit)
+        } else {
+            Ok(())
         }
     }
 
@@ -336,6 +393,16 @@ impl Walk {
         let width = graph.width(low);
         self.want(table, low, bits & mask(width))?;
         self.want(table, high, shifted_right(bits, u64::from(width)))
+    }
+}
+
+/// Whether the bit's signal is marked, or stands beyond the marks.
+fn is_sought(marks: &[Option<u32>], bit: Bit) -> bool
+    ensures { result ≡ is_sought marks.now bit }
+{
+    match marks.get(bit.sig as usize) {
+        Some(mark) => mark.is_some(),
+        None => true,
     }
 }
 

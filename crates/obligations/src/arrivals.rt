@@ -2,7 +2,7 @@
 use crate::Found;
 use crate::covers::{first_flop, is_code};
 use cdc_base::{Bit, List, NoMemory};
-use cdc_model::view::{bits_read, copied_bit, mark, reads_marked, register_bits, unmarked};
+use cdc_model::view::{copied_bit, mark, marked_bits_read, reads_marked, register_bits, unmarked};
 use cdc_model::{Arrival, Below, Finding};
 use cofactor::Table;
 use std::alloc::Global;
@@ -214,7 +214,7 @@ pub fn add_v6(
     for to in bits.as_slice() {
         let may_read = reads_marked(found.net, &below, *to);
         if may_read && copied_bit(found.net, plain, *to).is_none() {
-            let bits = bits_read(alloc, found.net, plain, *to)?;
+            let bits = marked_bits_read(alloc, found.net, plain, *to, marks.as_slice())?;
             let reads = arrivals_among(alloc, found, arrivals.as_slice(), bits.as_slice())?;
             add_lots(alloc, *to, reads.as_slice(), findings)?;
         }

@@ -1,4 +1,4 @@
-use Rattle.std.proofs.Common.{◌∙◌, arith}
+use Rattle.std.proofs.Common.{◌∙◌, inl, inr, arith}
 use Rattle.cofactor.proofs.Walks.{found-more, only-more}
 use Rattle.cofactor.proofs.walk.Walk.find_all.Goals as goal
 
@@ -8,11 +8,12 @@ loop-at-preserved c =
     let step = c.in_ok-find.ensures in
     let at = c.loop-at.at in
     record {
-      there = λ i b lt. found-more c.args.table.now c.args.row c.args.bits at c.loop-at.self.found c.find.new.self.found b (step.kept b) (step.there b) (λ j l. inv.there j b l) i lt;
+      there = λ i b lt sought. found-more c.args.table.now c.args.row c.args.bits at c.loop-at.self.found c.find.new.self.found b (step.kept b) (step.there b sought) (λ j l. inv.there j b l sought) i lt;
       only = λ b h. only-more c.args.table.now c.args.row c.args.bits at b (inv.only b) (step.only b h);
+      sought = λ b h. elim (step.sought b h) [ inl k ↦ inv.sought b k | inr k ↦ inr k ];
       kept = λ b h. step.kept b (inv.kept b h);
       wanted = step.wanted ∙ inv.wanted;
     }
 
 pub returns-clause-there : goal.returns-clause-there
-returns-clause-there c = λ i b l set. c.loop-at.invariant.there i b (let f = c.loop-at-test.false in omega arith) set
+returns-clause-there c = λ i b l sought set. c.loop-at.invariant.there i b (let f = c.loop-at-test.false in omega arith) sought set
