@@ -86,7 +86,7 @@ from_registers signals (r ∷ rs) b h = elim (Contains-append_cases (bits_from r
   | inr j ↦ let k = from_registers signals rs b j in (k.0, later r rs k.0 k.1, k.2, k.3)
 ]
 
-registers_ascend : (signals : List Signal) (rs : List Reg) → AreAscending rs → Ascends by_bit (bits_of_registers signals rs)
+pub registers_ascend : (signals : List Signal) (rs : List Reg) → AreAscending rs → Ascends by_bit (bits_of_registers signals rs)
 registers_ascend signals [] h = tt
 registers_ascend signals (r ∷ rs) h = joined_ascend by_bit (bits_from r.sig 0 (bit_count signals r.sig)) (bits_of_registers signals rs)
     (word_ascends r.sig 0 (bit_count signals r.sig)) (registers_ascend signals rs (λ i j q s l e f. h (suc i) (suc j) q s (omega arith) e f))
@@ -161,7 +161,7 @@ module _ (net : Net) (domains : Domains) where
     | inr j ↦ Contains-append_right (crossings_into net domains y) (crossings_among net domains ys) c (in_among ys x c j h)
   ]
 
-  among_ascends : (xs : List Bit) → Ascends by_bit xs → Ascends crossing_key (crossings_among net domains xs)
+  pub among_ascends : (xs : List Bit) → Ascends by_bit xs → Ascends crossing_key (crossings_among net domains xs)
   among_ascends [] h = tt
   among_ascends (x ∷ xs) h = joined_ascend crossing_key (crossings_into net domains x) (crossings_among net domains xs) (into_ascends x) (among_ascends xs h.1)
       (λ c e i j.

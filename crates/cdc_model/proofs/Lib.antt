@@ -31,3 +31,5 @@ pub mod Listing
 pub mod Marked
 pub mod Within
 pub mod ReadBits
+pub mod Noted
+pub mod Synced

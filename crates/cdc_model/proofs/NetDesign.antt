@@ -70,7 +70,7 @@ module _ (net : Net) (domains : Domains) where
   are_next_trees : AreNextTrees (design_of net domains) (next_tree net)
   are_next_trees = record { next = λ r x reg. refl; copied = λ x reg. refl }
 
-  settles : Fit net domains → (c : ℕ) → (1 ≤ (design_of net domains).settle c) × ((design_of net domains).settle c ≤ 3)
+  pub settles : Fit net domains → (c : ℕ) → (1 ≤ (design_of net domains).settle c) × ((design_of net domains).settle c ≤ 3)
   settles fit c = go (slice_get domains.clocks c) refl
     where
       go : (o : Option ClockPin) → slice_get domains.clocks c ≡ o → (1 ≤ option_map_or (λ (p : ClockPin). p.settle) o 1) × (option_map_or (λ (p : ClockPin). p.settle) o 1 ≤ 3)

@@ -1,5 +1,5 @@
 -- The list of the bits that a register bit reads, and of its crossings.
-use Rattle.std.proofs.Common.{◌≡◌, ◌∙◌, inl, inr, refl, sym, ap, ap₂, subst, arith, ℕ, ◌<◌, length, Bool, true, false, cond, lt-ltb, Option, Some, None, option_map, List, [], ◌∷◌, map, Contains, ◌↔◌, Result, Ok, Err}
+use Rattle.std.proofs.Common.{◌≡◌, ◌∙◌, inl, inr, refl, sym, ap, ap₂, subst, arith, ℕ, ◌<◌, length, Bool, true, false, ◌&&◌, cond, lt-ltb, Option, Some, None, option_map, List, [], ◌∷◌, map, Contains, ◌↔◌, Result, Ok, Err}
 use Rattle.std.specs.Prelude.{filter, IfOk}
 use Rattle.cdc_base.specs.declared.bit.Bit.{Bit}
 use Rattle.cell_graph.specs.declared.cell.CellId.{CellId}
@@ -14,6 +14,7 @@ use Rattle.cofactor.specs.Order as order
 use Rattle.cofactor.specs.Shown.{Shown, Shows, same_at}
 use Rattle.cofactor.proofs.Places.{root-within}
 use Rattle.cofactor.proofs.SameRows.{same-shown}
+use Rattle.cofactor.proofs.Walks.{and-true, both-true}
 use Rattle.domains.specs.declared.Domains.{Domains}
 use Rattle.domains.specs.Assignment.{group_of}
 use Rattle.domains.specs.Fit.{Fit}
@@ -103,6 +104,29 @@ module _ (net : Net) (is : IsNet net) (has : HasNextCells net) (cube : Cube) (x 
       })
       listed
 
+  -- the same of those that a test chooses
+  chosen : (s : Bit → Bool) → IsAll (λ b. (s b && reads cube (next_tree net x.sig) x.at b) ≡ true) by_bit (filter s (bits_read_by net cube x))
+  chosen s = record {
+    all = λ b h.
+        let p = and-true (s b) (reads cube (next_tree net x.sig) x.at b) h in
+        in_filter s (bits_read_by net cube x) b (listed.all b p.1) p.0;
+    only = λ b i.
+        let p = from_filter s (bits_read_by net cube x) b i in
+        both-true (s b) (reads cube (next_tree net x.sig) x.at b) p.1 (listed.only b p.0);
+    ordered = ascending by_bit (filter s (bits_read_by net cube x)) (filtered_ascend by_bit s (bits_read_by net cube x)
+        (filtered_ascend by_bit (λ b. reads cube (next_tree net x.sig) x.at b) (bits_of_signals 0 net.graph.signals) (signals_ascend 0 net.graph.signals)));
+  }
+
+  pub chosen-are : (s : Bit → Bool) (bits : List Bit) → order.AreAscending bits → ((b : Bit) → Contains bits b ↔ ((s b && reads cube (tree_of net.graph c) x.at b) ≡ true))
+      → bits ≡ filter s (bits_read_by net cube x)
+  chosen-are s bits asc h = one_list by_bit (λ b. (s b && reads cube (next_tree net x.sig) x.at b) ≡ true) bits (filter s (bits_read_by net cube x))
+      (record {
+        all = λ b r. (h b).1 (sym (ap (λ t. s b && reads cube t x.at b) tree-is) ∙ r);
+        only = λ b i. ap (λ t. s b && reads cube t x.at b) tree-is ∙ (h b).0 i;
+        ordered = λ i j a b k f g. before-is a b (asc i j a b k f g);
+      })
+      (chosen s)
+
   -- each bit of the list is read
   pub read-in : (b : Bit) → Contains (bits_read_by net cube x) b → reads cube (next_tree net x.sig) x.at b ≡ true
   read-in b i = listed.only b i
@@ -158,6 +182,20 @@ module _ (net : Net) (is : IsNet net) (has : HasNextCells net) (cube : Cube) (t 
       let node = node-is net has x l n.cell c in
       bits-are net is has cube x l n.cell c bits asc (λ b.
       subst (λ (i : ℕ). Contains bits b ↔ (reads cube (tree_of net.graph n.cell) i b ≡ true)) at
+      (h (node.0, omega (arith, node.1, at)) (shows-below net is cube t shown n.cell node.0) b))
+
+module _ (net : Net) (is : IsNet net) (has : HasNextCells net) (cube : Cube) (t : Shown) (shown : ShowsNet net cube t) (x : Bit) (l : x.at < bit_count net.graph.signals x.sig) (s : Bit → Bool) where
+  -- the list of those of them that a test chooses
+  pub reads-some-of : (n : Node) → next_node_of net x ≡ Some n → (bits : List Bit) → order.AreAscending bits
+      → (IsNodeOf net.graph n → ((id : CellId) → IsBelow net.graph (n.cell ∷ []) id → Shows net.graph cube t id)
+      → (b : Bit) → Contains bits b ↔ ((s b && reads cube (tree_of net.graph n.cell) n.at b) ≡ true))
+      → bits ≡ filter s (bits_read_by net cube x)
+  reads-some-of n e bits asc h =
+      let c = cell-of net x n e in
+      let at : n.at ≡ x.at = place-of net x n e in
+      let node = node-is net has x l n.cell c in
+      chosen-are net is has cube x l n.cell c s bits asc (λ b.
+      subst (λ (i : ℕ). Contains bits b ↔ ((s b && reads cube (tree_of net.graph n.cell) i b) ≡ true)) at
       (h (node.0, omega (arith, node.1, at)) (shows-below net is cube t shown n.cell node.0) b))
 
 -- two facts of a value that is there, as one

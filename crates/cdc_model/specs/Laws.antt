@@ -29,10 +29,11 @@ use Rattle.cdc_model.specs.declared.record.Record.{Record}
 use Rattle.cdc_model.specs.Replay.{opened, step_fault, IsFixedStep, AreClocks, replayed, Ran}
 use Rattle.cdc_model.specs.Runs.{State, Trace, IsRun, IsStep, InEachState}
 use Rattle.cdc_model.specs.declared.scheme.Load.{Load}
-use Rattle.cdc_model.specs.Schemes.{Trees, AreTrees, IsCrossing, Sync, AreSyncs, Ring, IsRing, ring_bits, Justified}
+use Rattle.cdc_model.specs.Schemes.{Trees, AreTrees, IsCrossing, Sync, IsSync, AreSyncs, Ring, IsRing, ring_bits, Justified}
 use Rattle.cdc_model.specs.Sound.{Sound}
+use Rattle.cdc_model.specs.Syncs.{syncs_of}
 use Rattle.cdc_model.specs.Together.{IsTogether, OneFamily}
-use Rattle.cdc_model.specs.Verdict.{AreCovers, crossing_key, Verdict, IsVerdict}
+use Rattle.cdc_model.specs.Verdict.{AreCovers, crossing_key, sync_key, Verdict, IsVerdict}
 
 -- what the flops of synchronizers take in a step, where only settling flops are unsettled before it
 abbrev pub ChainSettlesInAStep : Type 0
@@ -143,6 +144,11 @@ PathsRead = (t : Tree) (i : ℕ) (b : Bit) → reads [] t i b ≡ true → IsPat
 abbrev pub CrossingsAreAll : Type 0
 CrossingsAreAll = (net : Net) (domains : Domains) (grays : GrayReg → Bool) → AreAscending net.regs
     → IsAll (λ c. IsCrossing (design_of net domains) (net_trees net grays) c.from c.to) crossing_key (crossings_of net domains)
+
+-- the list of all synchronizers of a net has exactly those of its design, in order
+abbrev pub SyncsAreAll : Type 0
+SyncsAreAll = (net : Net) (domains : Domains) (grays : GrayReg → Bool) → IsNet net → Fit net domains
+    → IsAll (IsSync (design_of net domains) (net_trees net grays)) sync_key (syncs_of net domains)
 
 -- a net has one verdict under its domains
 abbrev pub NetsHaveOneVerdict : Type 0

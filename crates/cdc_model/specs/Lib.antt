@@ -19,3 +19,5 @@ pub mod Listed
 pub mod Found
 pub mod Marked
 pub mod Tables
+pub mod Readers
+pub mod Syncs

@@ -7,6 +7,7 @@ ghost use Rattle.cdc_model.specs.Laws.{
   NetsAscend,
   PathsRead,
   CrossingsAreAll,
+  SyncsAreAll,
   ChainSettlesInAStep,
   ChainSettlesInARun,
   RingsTurnOnce,
@@ -99,6 +100,11 @@ pub fn paths_read()
 /// The list of all crossings of a net has exactly the crossings of its design, in order.
 pub fn crossings_are_all()
     ensures { CrossingsAreAll }
+{}
+
+/// The list of all synchronizers of a net has exactly the synchronizers of its design, in order.
+pub fn syncs_are_all()
+    ensures { SyncsAreAll }
 {}
 
 /// The theorem on nets: where the verdict of a net has no finding, its design is sound, by the covers and rings that the

@@ -1,15 +1,18 @@
 //! Register bits: their next values, start values and groups.
-ghost use Rattle.std.specs.Prelude.{◌≡◌, [], ◌++◌, ◌<◌, List, IfOk};
+ghost use Rattle.std.specs.Prelude.{◌≡◌, ℕ, false, Option, is_some, [], ◌++◌, ◌<◌, length, List, filter, IfOk};
 ghost use Rattle.cdc_base.specs.declared.bit.Bit.{Bit};
-ghost use Rattle.cell_graph.specs.Cofactor.{same};
+ghost use Rattle.cell_graph.specs.Cofactor.{same, reads};
 ghost use Rattle.cell_graph.specs.Reading as reading;
 ghost use Rattle.cell_graph.specs.Tree.{bit_at};
 ghost use Rattle.cell_graph.specs.Unfolded.{IsWellFormed};
+ghost use Rattle.cofactor.specs.Walked.{is_sought};
 ghost use Rattle.domains.specs.Assignment.{clock_of, group_of};
 ghost use Rattle.domains.specs.Nets.{IsNet};
 ghost use Rattle.cdc_model.specs.Design.{bits_from, differ, are_equal};
 ghost use Rattle.cdc_model.specs.Found.{bits_read_by};
+ghost use Rattle.cdc_model.specs.Marked.{mark_of};
 ghost use Rattle.cdc_model.specs.Nets.{next_cell, next_node_of, next_tree, AreAscending, HasNextCells, bit_count, bits_of_registers, start_of, settle_at};
+ghost use Rattle.cdc_model.specs.Readers.{IsMarked, ShowsBelow};
 ghost use Rattle.cdc_model.specs.Tables.{ShowsNet};
 
 use crate::below::{Below, Marks};
@@ -119,16 +122,43 @@ pub fn bits_read(
     }
 }
 
-/// Whether a marked signal stands below the bit's next value. Where none does, the bit reads no bit of one.
-pub fn reads_marked(net: &Net, below: &Below, bit: Bit) -> bool {
+/// The bits of marked signals that a register bit reads under the table's cube, ascending. `marks` has the mark of each
+/// signal.
+pub fn marked_bits_read(
+    alloc: Global,
+    net: &Net,
+    table: &mut Table,
+    bit: Bit,
+    marks: &[Option<u32>],
+) -> Result<List<Bit>, NoMemory>
+    ensures exact { IfOk result (λ bits. (cube : reading.Cube) → IsNet net.now → HasNextCells net.now → ShowsNet net.now cube table.old →
+        bit.at < bit_count net.now.graph.signals bit.sig → bits ≡ filter (is_sought marks.now) (bits_read_by net.now cube bit)) }
+    ensures unchanged { table.new ≡ table.old }
+{
     match next_node(net, bit) {
-        Some(node) => below.of(node.cell) != Marks::Nothing,
+        Some(node) => table.reads_marked(alloc, net, node, marks),
+        None => Ok(List::new(alloc)),
+    }
+}
+
+/// Whether a marked signal stands below the bit's next value. Where none does, the bit reads no bit of one.
+pub fn reads_marked(net: &Net, below: &Below, bit: Bit) -> bool
+    ensures { result ≡ false → (marks : List (Option ℕ)) (cube : reading.Cube) → IsNet net.now → HasNextCells net.now → ShowsBelow net.now marks below.now →
+        (b : Bit) → IsMarked marks b.sig → reads cube (next_tree net.now bit.sig) bit.at b ≡ false }
+{
+    match next_node(net, bit) {
+        Some(node) => match below.of(node.cell) {
+            Marks::Nothing => false,
+            _ => true,
+        },
         None => false,
     }
 }
 
 /// No mark for any signal of the net.
-pub fn unmarked(alloc: Global, net: &Net) -> Result<Vec<Option<u32>>, NoMemory> {
+pub fn unmarked(alloc: Global, net: &Net) -> Result<Vec<Option<u32>>, NoMemory>
+    ensures { IfOk result (λ marks. length marks.items ≡ length net.now.graph.signals) }
+{
     match vec![in alloc; None; net.graph.signals().len()] {
         Ok(marks) => Ok(marks),
         Err(_) => Err(NoMemory),
@@ -136,13 +166,20 @@ pub fn unmarked(alloc: Global, net: &Net) -> Result<Vec<Option<u32>>, NoMemory> 
 }
 
 /// Marks the signal of a bit.
-pub fn mark(marks: &mut Vec<Option<u32>>, bit: Bit) {
-    if let Some(mark) = marks.get_mut(bit.sig as usize) {
-        *mark = Some(0);
+pub fn mark(marks: &mut Vec<Option<u32>>, bit: Bit)
+    ensures counted { length marks.new.items ≡ length marks.old.items }
+    ensures marked { bit.sig < length marks.old.items → IsMarked marks.new.items bit.sig }
+    ensures kept { (sig : ℕ) → IsMarked marks.old.items sig → IsMarked marks.new.items sig }
+{
+    let place = bit.sig as usize;
+    if place < marks.len() {
+        marks[place] = Some(0);
     }
 }
 
-pub fn is_marked(marks: &[Option<u32>], bit: Bit) -> bool {
+pub fn is_marked(marks: &[Option<u32>], bit: Bit) -> bool
+    ensures { result ≡ is_some (mark_of marks.now bit.sig) }
+{
     match marks.get(bit.sig as usize) {
         Some(mark) => mark.is_some(),
         None => false,

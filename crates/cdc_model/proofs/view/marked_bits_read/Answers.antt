@@ -1,0 +1,17 @@
+-- The list of what the next value's node reads of marked signals.
+use Rattle.std.proofs.Common.{◌∙◌, sym, ap}
+use Rattle.std.specs.Prelude.{filter}
+use Rattle.cofactor.specs.Walked.{is_sought}
+use Rattle.cdc_model.proofs.Found.{net_ascends}
+use Rattle.cdc_model.proofs.ReadBits.{reads-some-of, reads-absent, two_if}
+use Rattle.cdc_model.proofs.view.marked_bits_read.Goals as goal
+
+pub returns-in-Some-clause-exact : goal.returns-in-Some-clause-exact
+returns-in-Some-clause-exact c = two_if c.reads_marked.result
+    (λ bits exact asc cube is has shown l.
+    reads-some-of c.args.net.now is has cube c.args.table.now shown c.args.bit l (is_sought c.args.marks.now) c.in-Some.node (sym (c.next_node.ensures (net_ascends c.args.net.now is)) ∙ c.in-Some.is) bits asc (exact cube is.graph))
+    c.reads_marked.ensures.exact c.reads_marked.ensures.ascending
+
+pub returns-in-None-clause-exact : goal.returns-in-None-clause-exact
+returns-in-None-clause-exact c = λ cube is has shown l.
+    c.new.ensures ∙ ap (filter (is_sought c.args.marks.now)) (reads-absent c.args.net.now cube c.args.bit (sym (c.next_node.ensures (net_ascends c.args.net.now is)) ∙ c.in-None.is))
