@@ -32,7 +32,7 @@ use Rattle.settling_sim.proofs.Values.{found-register, put-words, map-get}
 use Rattle.settling_sim.proofs.Words.{word-set_same, word-set_other}
 
 -- a word that fits its signal leaves words of their signals
-set-words : (net : Net) (words : List ℕ) (sig w : ℕ) → AreWordsOf net.graph.signals words → w < 2 ^ bit_count net.graph.signals sig → AreWordsOf net.graph.signals (set words sig w)
+pub set-words : (net : Net) (words : List ℕ) (sig w : ℕ) → AreWordsOf net.graph.signals words → w < 2 ^ bit_count net.graph.signals sig → AreWordsOf net.graph.signals (set words sig w)
 set-words net words sig w are h = record {
   counted = length-set words sig w ∙ are.counted;
   fit = λ other s e. go (sig == other) other refl s e;

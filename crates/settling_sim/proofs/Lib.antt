@@ -10,3 +10,4 @@ pub mod Counts
 pub mod Settles
 pub mod Steps
 pub mod Kept
+pub mod Opened

@@ -9,3 +9,5 @@ pub mod Design
 pub mod Reader
 pub mod Loose
 pub mod Present
+pub mod Starts
+pub mod Opened

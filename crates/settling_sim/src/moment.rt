@@ -1,12 +1,14 @@
 //! A moment of a run.
-ghost use Rattle.std.specs.Prelude.{◌≡◌, length, replicate, IfOk};
+ghost use Rattle.std.specs.Prelude.{◌≡◌, ◌≤◌, ◌<◌, ◌^◌, length, replicate, IfOk};
+ghost use Rattle.std.specs.List.Sorted.{IsStrictlyIncreasing};
 ghost use Rattle.settling_sim.specs.Cycles.{settled};
+ghost use Rattle.settling_sim.specs.Starts.{start_word, start_words};
 ghost use Rattle.settling_sim.specs.Trial.{take_given};
 
 use crate::cycles::{Cycles, SETTLED};
 use crate::state::is_state_signal;
 use crate::word::put_word;
-use cdc_base::NoMemory;
+use cdc_base::{NoMemory, Signal};
 use cdc_model::Given;
 use cell_graph::Net;
 use domains::Domains;
@@ -27,32 +29,43 @@ impl Moment {
         domains: &Domains,
         start: &[Given],
     ) -> Result<Moment, NoMemory>
-        ensures words { IfOk result (λ m. length m.words.items ≡ length net.now.graph.signals) }
+        ensures length { IfOk result (λ m. length m.words.items ≡ length net.now.graph.signals) }
+        ensures words { length net.now.graph.signals ≤ 2 ^ 32 → IsStrictlyIncreasing domains.now.statics →
+            IfOk result (λ m. m.words.items ≡ take_given start.now (start_words net.now domains.now 0 net.now.graph.signals)) }
         ensures cycles { IfOk result (λ m. m.cycles.items ≡ replicate (length net.now.graph.signals) settled) }
     {
-        let count = net.graph.signals().len();
-        let mut words = zeros(alloc, count)?;
-        take_starts(net, domains, &mut words);
+        let mut words = start_words(alloc, net, domains)?;
         take_given(start, &mut words);
         Ok(Moment {
             words,
-            cycles: settled(alloc, count)?,
+            cycles: settled(alloc, net.graph.signals().len())?,
         })
     }
 }
 
-/// Sets the words of the state signals to their known start values.
-fn take_starts(net: &Net, domains: &Domains, words: &mut [u64])
-    ensures length { length words.new ≡ length words.old }
+/// The known start bits of the signal at a place, where it holds state.
+fn start_word(net: &Net, domains: &Domains, place: usize, signal: &Signal) -> u64
+    ensures { place < 2 ^ 32 → IsStrictlyIncreasing domains.now.statics → result ≡ start_word net.now domains.now place signal.now }
 {
+    match u32::try_from(place) {
+        Ok(sig) if is_state_signal(net, domains, sig) => signal.start & signal.known,
+        _ => 0,
+    }
+}
+
+/// A word for each signal, with its known start bits.
+fn start_words(alloc: Global, net: &Net, domains: &Domains) -> Result<Vec<u64>, NoMemory>
+    ensures length { IfOk result (λ words. length words.items ≡ length net.now.graph.signals) }
+    ensures words { length net.now.graph.signals ≤ 2 ^ 32 → IsStrictlyIncreasing domains.now.statics →
+        IfOk result (λ words. words.items ≡ start_words net.now domains.now 0 net.now.graph.signals) }
+{
+    let mut words = Vec::new(alloc);
     for (place, signal) in net.graph.signals().iter().enumerate() {
-        let Ok(sig) = u32::try_from(place) else {
-            return;
-        };
-        if is_state_signal(net, domains, sig) {
-            put_word(words, sig, signal.start & signal.known);
+        if words.push(start_word(net, domains, place, signal)).is_err() {
+            return Err(NoMemory);
         }
     }
+    Ok(words)
 }
 
 /// Sets words to given values.

@@ -2,7 +2,10 @@
 ghost use Rattle.std.specs.Prelude.{◌≡◌, not, ◌==◌, IfOk, OnErr};
 ghost use Rattle.cell_graph.specs.Values.{reading_of};
 ghost use Rattle.cdc_model.specs.declared.record.RecordStep.{RecordStep};
+ghost use Rattle.cdc_model.specs.Nets.{design_of};
+ghost use Rattle.domains.specs.Fit.{Fit};
 ghost use Rattle.settling_sim.specs.Cycles.{cycles_of};
+ghost use Rattle.settling_sim.specs.Opened.{CanOpen, AreStarts, IsOpened, HaveRecords};
 ghost use Rattle.settling_sim.specs.Present.{Present, IsKept, CanStep, IsStepped};
 ghost use Rattle.settling_sim.specs.Runs.{IsStepOf};
 
@@ -40,8 +43,9 @@ impl<'a> Model for Sim<'a> {
 }
 
 impl<'a> Sim<'a> {
-    /// The first moment of a run. `start` has values of state signals, each named once, which agree with the known start
-    /// values; a bit that has neither is 0. It takes all memory that steps need.
+    /// The first moment of a run: the one that the model opens, where `start` has values of state signals, each named
+    /// once, which fit and agree with the known start values; a bit that has neither is 0. It takes all memory that steps
+    /// need. Every run that begins so has a record, whose steps lead through the same states.
     pub fn open(
         alloc: Global,
         net: &'a Net,
@@ -50,6 +54,8 @@ impl<'a> Sim<'a> {
     ) -> Result<Sim<'a>, NoMemory>
         ensures net { IfOk result (λ s. s.net ≡ net.now) }
         ensures domains { IfOk result (λ s. s.domains ≡ domains.now) }
+        ensures opened { CanOpen net.now domains.now → AreStarts net.now domains.now start.now → IfOk result (IsOpened start.now) }
+        ensures recorded { Fit net.now domains.now → HaveRecords (design_of net.now domains.now) start.now }
     {
         let design = Design::open(alloc, net, domains)?;
         let moment = Moment::open(alloc, net, domains, start)?;
