@@ -3,3 +3,4 @@ pub mod Shapes
 pub mod Names
 pub mod Files
 pub mod Numbers
+pub mod Tables

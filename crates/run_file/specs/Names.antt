@@ -1,7 +1,8 @@
 -- The signals, bits and clocks that a record names.
-use Rattle.std.specs.Prelude.{◌≡◌, ℕ, zero, suc, ◌+◌, ◌≤◌, ◌^◌, ◌==◌, nat_le, List, [], ◌∷◌, length, Bool, true, false, Option, None, Some, Result, Ok, Err, position, slice_get, option_map, bit_and, bit_xor, if◌then◌else◌}
+use Rattle.std.specs.Prelude.{◌≡◌, ℕ, zero, suc, ◌+◌, ◌≤◌, ◌^◌, ◌==◌, nat_le, List, [], ◌∷◌, length, Bool, true, false, Option, None, Some, Result, Ok, Err, slice_get, option_map, bit_and, bit_xor, if◌then◌else◌}
 use Rattle.std.specs.Option.{option_map_or}
 use Rattle.std.specs.Str.{bytes_eq}
+use Rattle.std.specs.List.{position_from}
 use Rattle.std.specs.List.Sorted.{IsStrictlyIncreasing}
 use Rattle.cdc_base.specs.declared.bit.Bit.{Bit}
 use Rattle.cdc_base.specs.declared.fault.Fault.{Fault}
@@ -22,10 +23,10 @@ use Rattle.run_file.specs.declared.document.StepEntry.{StepEntry}
 
 -- the place of the first signal, and of the first clock, with this name
 abbrev pub signal_named : List Signal → Text → Option ℕ
-signal_named signals name = position (λ s. bytes_eq s.name name) signals
+signal_named signals name = position_from (λ s. bytes_eq name s.name) 0 signals
 
 abbrev pub clock_named : List ClockPin → Text → Option ℕ
-clock_named clocks name = position (λ c. bytes_eq c.name name) clocks
+clock_named clocks name = position_from (λ c. bytes_eq name c.name) 0 clocks
 
 -- the first of two that is there
 abbrev pub or_other : {A : Type 0} → Option A → Option A → Option A

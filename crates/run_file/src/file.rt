@@ -6,11 +6,13 @@ ghost use Rattle.run_file.specs.Numbers.{record_numbers};
 ghost use Rattle.clock_constraints.specs.Refusals.{Gives};
 ghost use Rattle.run_file.specs.Names.{CanRead};
 ghost use Rattle.run_file.specs.Files.{named, record_of, IsMeaning, IsStopOf};
+ghost use Rattle.run_file.specs.Tables.{CanName};
 
 use crate::document::Document;
 use crate::names::{start_values, steps};
 use crate::refusal::{NOT_JSON, TOO_MANY_STEPS, refuse};
 use crate::shape::document;
+use crate::table::{Names, bit_names};
 use cdc_base::Stop;
 use cdc_base::limits::MAX_STEPS;
 use cdc_model::Record;
@@ -23,12 +25,28 @@ fn record(alloc: Global, net: &Net, domains: &Domains, document: &Document) -> R
     ensures gives { CanRead net.now domains.now → Gives result (named net.now domains.now document.now) }
     ensures numbered { IfErr result (HasNumberIn record_numbers) }
 {
+    let bits = bit_names(alloc, net.graph.signals())?;
+    let names = Names::open(alloc, net, domains, bits.as_slice())?;
+    named_record(alloc, net, domains, &names, document)
+}
+
+/// The record that the document's names stand for.
+fn named_record(
+    alloc: Global,
+    net: &Net,
+    domains: &Domains,
+    names: &Names,
+    document: &Document,
+) -> Result<Record, Stop>
+    ensures gives { CanName net.now domains.now names.now → Gives result (named net.now domains.now document.now) }
+    ensures numbered { IfErr result (HasNumberIn record_numbers) }
+{
     if document.steps.len() > MAX_STEPS {
         return Err(refuse(alloc, TOO_MANY_STEPS, ""));
     }
     Ok(Record {
-        start: start_values(alloc, net, domains, document.start.as_slice())?,
-        steps: steps(alloc, net, domains, document.steps.as_slice())?,
+        start: start_values(alloc, net, domains, names, document.start.as_slice())?,
+        steps: steps(alloc, net, domains, names, document.steps.as_slice())?,
     })
 }
 

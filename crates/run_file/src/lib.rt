@@ -6,6 +6,7 @@ mod file;
 mod names;
 mod refusal;
 mod shape;
+mod table;
 mod value;
 
 pub use file::read;

@@ -6,15 +6,15 @@ ghost use Rattle.settling_sim.specs.State.{has_kind};
 ghost use Rattle.refusals.specs.Numbers.{HasNumberIn};
 ghost use Rattle.run_file.specs.Numbers.{record_numbers};
 ghost use Rattle.clock_constraints.specs.Refusals.{Gives, IsStop};
-ghost use Rattle.run_file.specs.Names.{AreApart, CanRead, signal_named, clock_named, bit_named, given, has_start, start_value, input_value, each, edge, register_bit, state_bit, other_bits, race, step};
+ghost use Rattle.run_file.specs.Tables.{CanName};
+ghost use Rattle.run_file.specs.Names.{signal_named, clock_named, bit_named, given, has_start, start_value, input_value, each, edge, register_bit, state_bit, other_bits, race, step};
 
 use crate::document::{Entry, RaceEntry, StepEntry};
 use crate::refusal::{OTHER_START, TOO_WIDE, UNKNOWN_NAME, refuse};
-use cdc_base::signal::parse_bit;
+use crate::table::Names;
 use cdc_base::{Bit, List, Name, Signal, Stop};
 use cdc_model::{Given, Race, RecordStep};
 use cell_graph::Net;
-use clock_constraints::ClockPin;
 use domains::Domains;
 use settling_sim::{is_clocked_input, is_register, is_state_signal};
 use std::alloc::Global;
@@ -26,30 +26,11 @@ fn unknown(alloc: Global, name: &Name) -> Stop
     refuse(alloc, UNKNOWN_NAME, name.as_str())
 }
 
-/// The number of a place, where there is one.
-fn numbered(place: Option<usize>) -> Option<u32>
-    ensures { IfSome place (λ p. p < 2 ^ 32) → result ≡ place }
-{
-    match place {
-        Some(place) => u32::try_from(place).ok(),
-        None => None,
-    }
-}
-
-/// The place of the first signal with this name.
-fn place_of_signal(signals: &[Signal], name: &str) -> Option<usize>
-    ensures { result ≡ signal_named signals.now name.now }
-{
-    signals
-        .iter()
-        .position(|signal| signal.name.as_str() == name)
-}
-
 /// The first signal with this name.
-fn signal_named(signals: &[Signal], name: &str) -> Option<u32>
-    ensures { length signals.now ≤ 2 ^ 32 → result ≡ signal_named signals.now name.now }
+fn signal_named(net: &Net, domains: &Domains, names: &Names, name: &str) -> Option<u32>
+    ensures { CanName net.now domains.now names.now → result ≡ signal_named net.now.graph.signals name.now }
 {
-    numbered(place_of_signal(signals, name))
+    names.signals.get(name).copied()
 }
 
 /// Whether the value needs more bits than these.
@@ -86,11 +67,17 @@ fn has_start(signals: &[Signal], given: Given) -> bool
 }
 
 /// A start value: of a register, a clocked input or a static input.
-fn start_value(alloc: Global, net: &Net, domains: &Domains, entry: &Entry) -> Result<Given, Stop>
-    ensures gives { CanRead net.now domains.now → Gives result (start_value net.now domains.now entry.now) }
+fn start_value(
+    alloc: Global,
+    net: &Net,
+    domains: &Domains,
+    names: &Names,
+    entry: &Entry,
+) -> Result<Given, Stop>
+    ensures gives { CanName net.now domains.now names.now → Gives result (start_value net.now domains.now entry.now) }
     ensures numbered { IfErr result (HasNumberIn record_numbers) }
 {
-    match signal_named(net.graph.signals(), entry.name.as_str()) {
+    match signal_named(net, domains, names, entry.name.as_str()) {
         Some(sig) if is_state_signal(net, domains, sig) => {
             let given = given(alloc, net, sig, entry)?;
             if has_start(net.graph.signals(), given) {
@@ -104,11 +91,17 @@ fn start_value(alloc: Global, net: &Net, domains: &Domains, entry: &Entry) -> Re
 }
 
 /// A value of a clocked input.
-fn input_value(alloc: Global, net: &Net, domains: &Domains, entry: &Entry) -> Result<Given, Stop>
-    ensures gives { CanRead net.now domains.now → Gives result (input_value net.now domains.now entry.now) }
+fn input_value(
+    alloc: Global,
+    net: &Net,
+    domains: &Domains,
+    names: &Names,
+    entry: &Entry,
+) -> Result<Given, Stop>
+    ensures gives { CanName net.now domains.now names.now → Gives result (input_value net.now domains.now entry.now) }
     ensures numbered { IfErr result (HasNumberIn record_numbers) }
 {
-    match signal_named(net.graph.signals(), entry.name.as_str()) {
+    match signal_named(net, domains, names, entry.name.as_str()) {
         Some(sig) if is_clocked_input(net, domains, sig) => given(alloc, net, sig, entry),
         _ => Err(unknown(alloc, &entry.name)),
     }
@@ -118,14 +111,15 @@ pub fn start_values(
     alloc: Global,
     net: &Net,
     domains: &Domains,
+    names: &Names,
     entries: &[Entry],
 ) -> Result<List<Given>, Stop>
-    ensures gives { CanRead net.now domains.now → Gives result (each (start_value net.now domains.now) entries.now) }
+    ensures gives { CanName net.now domains.now names.now → Gives result (each (start_value net.now domains.now) entries.now) }
     ensures numbered { IfErr result (HasNumberIn record_numbers) }
 {
     let mut values = List::new(alloc);
     for entry in entries {
-        values.push(start_value(alloc, net, domains, entry)?)?;
+        values.push(start_value(alloc, net, domains, names, entry)?)?;
     }
     Ok(values)
 }
@@ -134,39 +128,39 @@ fn input_values(
     alloc: Global,
     net: &Net,
     domains: &Domains,
+    names: &Names,
     entries: &[Entry],
 ) -> Result<List<Given>, Stop>
-    ensures gives { CanRead net.now domains.now → Gives result (each (input_value net.now domains.now) entries.now) }
+    ensures gives { CanName net.now domains.now names.now → Gives result (each (input_value net.now domains.now) entries.now) }
     ensures numbered { IfErr result (HasNumberIn record_numbers) }
 {
     let mut values = List::new(alloc);
     for entry in entries {
-        values.push(input_value(alloc, net, domains, entry)?)?;
+        values.push(input_value(alloc, net, domains, names, entry)?)?;
     }
     Ok(values)
 }
 
-/// The place of the first clock with this name.
-fn place_of_clock(clocks: &[ClockPin], name: &str) -> Option<usize>
-    ensures { result ≡ clock_named clocks.now name.now }
+/// The number of the first clock with this name.
+fn clock_named(net: &Net, domains: &Domains, names: &Names, name: &str) -> Option<u32>
+    ensures { CanName net.now domains.now names.now → result ≡ clock_named domains.now.clocks name.now }
 {
-    clocks.iter().position(|clock| clock.name.as_str() == name)
+    names.clocks.get(name).copied()
 }
 
-/// The number of the clock with this name.
-fn clock_named(clocks: &[ClockPin], name: &str) -> Option<u32>
-    ensures { length clocks.now ≤ 2 ^ 32 → result ≡ clock_named clocks.now name.now }
-{
-    numbered(place_of_clock(clocks, name))
-}
-
-fn edges(alloc: Global, clocks: &[ClockPin], names: &[Name]) -> Result<List<u32>, Stop>
-    ensures gives { length clocks.now ≤ 2 ^ 32 → Gives result (each (edge clocks.now) names.now) }
+fn edges(
+    alloc: Global,
+    net: &Net,
+    domains: &Domains,
+    names: &Names,
+    clocks: &[Name],
+) -> Result<List<u32>, Stop>
+    ensures gives { CanName net.now domains.now names.now → Gives result (each (edge domains.now.clocks) clocks.now) }
     ensures numbered { IfErr result (HasNumberIn record_numbers) }
 {
     let mut edges = List::new(alloc);
-    for name in names {
-        match clock_named(clocks, name.as_str()) {
+    for name in clocks {
+        match clock_named(net, domains, names, name.as_str()) {
             Some(clock) => edges.push(clock)?,
             None => return Err(unknown(alloc, name)),
         }
@@ -174,30 +168,42 @@ fn edges(alloc: Global, clocks: &[ClockPin], names: &[Name]) -> Result<List<u32>
     Ok(edges)
 }
 
-/// The bit with this printed name.
-fn bit_named(signals: &[Signal], name: &Name) -> Option<Bit>
-    ensures { AreApart signals.now → result ≡ bit_named signals.now name.now }
+/// The first bit with this printed name.
+fn bit_named(net: &Net, domains: &Domains, names: &Names, name: &str) -> Option<Bit>
+    ensures { CanName net.now domains.now names.now → result ≡ bit_named net.now.graph.signals name.now }
 {
-    parse_bit(signals, name.as_bytes())
+    names.bits.get(name).copied()
 }
 
 /// A bit of a register.
-fn register_bit(alloc: Global, net: &Net, name: &Name) -> Result<Bit, Stop>
-    ensures gives { AreApart net.now.graph.signals → Gives result (register_bit net.now name.now) }
+fn register_bit(
+    alloc: Global,
+    net: &Net,
+    domains: &Domains,
+    names: &Names,
+    name: &Name,
+) -> Result<Bit, Stop>
+    ensures gives { CanName net.now domains.now names.now → Gives result (register_bit net.now name.now) }
     ensures numbered { IfErr result (HasNumberIn record_numbers) }
 {
-    match bit_named(net.graph.signals(), name) {
+    match bit_named(net, domains, names, name.as_str()) {
         Some(bit) if is_register(net, bit.sig) => Ok(bit),
         _ => Err(unknown(alloc, name)),
     }
 }
 
 /// A bit of a register, of a clocked input or of a static input.
-fn state_bit(alloc: Global, net: &Net, domains: &Domains, name: &Name) -> Result<Bit, Stop>
-    ensures gives { CanRead net.now domains.now → Gives result (state_bit net.now domains.now name.now) }
+fn state_bit(
+    alloc: Global,
+    net: &Net,
+    domains: &Domains,
+    names: &Names,
+    name: &Name,
+) -> Result<Bit, Stop>
+    ensures gives { CanName net.now domains.now names.now → Gives result (state_bit net.now domains.now name.now) }
     ensures numbered { IfErr result (HasNumberIn record_numbers) }
 {
-    match bit_named(net.graph.signals(), name) {
+    match bit_named(net, domains, names, name.as_str()) {
         Some(bit) if is_state_signal(net, domains, bit.sig) => Ok(bit),
         _ => Err(unknown(alloc, name)),
     }
@@ -207,41 +213,49 @@ fn state_bits(
     alloc: Global,
     net: &Net,
     domains: &Domains,
-    names: &[Name],
+    names: &Names,
+    bits: &[Name],
 ) -> Result<List<Bit>, Stop>
-    ensures gives { CanRead net.now domains.now → Gives result (each (state_bit net.now domains.now) names.now) }
+    ensures gives { CanName net.now domains.now names.now → Gives result (each (state_bit net.now domains.now) bits.now) }
     ensures numbered { IfErr result (HasNumberIn record_numbers) }
 {
-    let mut bits = List::new(alloc);
-    for name in names {
-        bits.push(state_bit(alloc, net, domains, name)?)?;
+    let mut found = List::new(alloc);
+    for name in bits {
+        found.push(state_bit(alloc, net, domains, names, name)?)?;
     }
-    Ok(bits)
+    Ok(found)
 }
 
 fn other_bits(
     alloc: Global,
     net: &Net,
     domains: &Domains,
-    names: &Option<List<Name>>,
+    names: &Names,
+    bits: &Option<List<Name>>,
 ) -> Result<Option<List<Bit>>, Stop>
-    ensures gives { CanRead net.now domains.now → Gives result (other_bits net.now domains.now names.now) }
+    ensures gives { CanName net.now domains.now names.now → Gives result (other_bits net.now domains.now bits.now) }
     ensures numbered { IfErr result (HasNumberIn record_numbers) }
 {
-    match names {
-        Some(names) => Ok(Some(state_bits(alloc, net, domains, names.as_slice())?)),
+    match bits {
+        Some(bits) => Ok(Some(state_bits(alloc, net, domains, names, bits.as_slice())?)),
         None => Ok(None),
     }
 }
 
-fn race(alloc: Global, net: &Net, domains: &Domains, entry: &RaceEntry) -> Result<Race, Stop>
-    ensures gives { CanRead net.now domains.now → Gives result (race net.now domains.now entry.now) }
+fn race(
+    alloc: Global,
+    net: &Net,
+    domains: &Domains,
+    names: &Names,
+    entry: &RaceEntry,
+) -> Result<Race, Stop>
+    ensures gives { CanName net.now domains.now names.now → Gives result (race net.now domains.now entry.now) }
     ensures numbered { IfErr result (HasNumberIn record_numbers) }
 {
     Ok(Race {
-        bit: register_bit(alloc, net, &entry.bit)?,
-        flip: state_bits(alloc, net, domains, entry.flip.as_slice())?,
-        other: other_bits(alloc, net, domains, &entry.other)?,
+        bit: register_bit(alloc, net, domains, names, &entry.bit)?,
+        flip: state_bits(alloc, net, domains, names, entry.flip.as_slice())?,
+        other: other_bits(alloc, net, domains, names, &entry.other)?,
     })
 }
 
@@ -249,26 +263,33 @@ fn races(
     alloc: Global,
     net: &Net,
     domains: &Domains,
+    names: &Names,
     entries: &[RaceEntry],
 ) -> Result<List<Race>, Stop>
-    ensures gives { CanRead net.now domains.now → Gives result (each (race net.now domains.now) entries.now) }
+    ensures gives { CanName net.now domains.now names.now → Gives result (each (race net.now domains.now) entries.now) }
     ensures numbered { IfErr result (HasNumberIn record_numbers) }
 {
     let mut races = List::new(alloc);
     for entry in entries {
-        races.push(race(alloc, net, domains, entry)?)?;
+        races.push(race(alloc, net, domains, names, entry)?)?;
     }
     Ok(races)
 }
 
-fn step(alloc: Global, net: &Net, domains: &Domains, entry: &StepEntry) -> Result<RecordStep, Stop>
-    ensures gives { CanRead net.now domains.now → Gives result (step net.now domains.now entry.now) }
+fn step(
+    alloc: Global,
+    net: &Net,
+    domains: &Domains,
+    names: &Names,
+    entry: &StepEntry,
+) -> Result<RecordStep, Stop>
+    ensures gives { CanName net.now domains.now names.now → Gives result (step net.now domains.now entry.now) }
     ensures numbered { IfErr result (HasNumberIn record_numbers) }
 {
     Ok(RecordStep {
-        edges: edges(alloc, domains.clocks.as_slice(), entry.edges.as_slice())?,
-        inputs: input_values(alloc, net, domains, entry.inputs.as_slice())?,
-        races: races(alloc, net, domains, entry.races.as_slice())?,
+        edges: edges(alloc, net, domains, names, entry.edges.as_slice())?,
+        inputs: input_values(alloc, net, domains, names, entry.inputs.as_slice())?,
+        races: races(alloc, net, domains, names, entry.races.as_slice())?,
     })
 }
 
@@ -276,14 +297,15 @@ pub fn steps(
     alloc: Global,
     net: &Net,
     domains: &Domains,
+    names: &Names,
     entries: &[StepEntry],
 ) -> Result<List<RecordStep>, Stop>
-    ensures gives { CanRead net.now domains.now → Gives result (each (step net.now domains.now) entries.now) }
+    ensures gives { CanName net.now domains.now names.now → Gives result (each (step net.now domains.now) entries.now) }
     ensures numbered { IfErr result (HasNumberIn record_numbers) }
 {
     let mut steps = List::new(alloc);
     for entry in entries {
-        steps.push(step(alloc, net, domains, entry)?)?;
+        steps.push(step(alloc, net, domains, names, entry)?)?;
     }
     Ok(steps)
 }

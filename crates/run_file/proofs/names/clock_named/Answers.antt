@@ -1,11 +1,5 @@
-use Rattle.std.proofs.Common.{◌≡◌, ◌∙◌, ◌<◌, ◌^◌, subst, sym, Option, ℕ}
-use Rattle.std.specs.Prelude.{IfSome}
-use Rattle.std.specs.Str.{bytes_eq}
-use Rattle.run_file.specs.Names.{clock_named}
-use Rattle.run_file.proofs.Places.{place-few}
+use Rattle.std.proofs.Common.{◌∙◌}
 use Rattle.run_file.proofs.names.clock_named.Goals as goal
 
 pub returns : goal.returns
-returns c = λ few.
-    let placed : c.place_of_clock.result ≡ clock_named c.args.clocks.now c.args.name.now = c.place_of_clock.ensures in
-    c.numbered.ensures (subst (λ (o : Option ℕ). IfSome o (λ p. p < 2 ^ 32)) (sym placed) (place-few (λ s. bytes_eq s.name c.args.name.now) c.args.clocks.now (2 ^ 32) few)) ∙ placed
+returns c = λ can. c.copied.ensures ∙ c.get.ensures.value ∙ can.clocks c.args.name.now

@@ -1,8 +1,9 @@
 use Rattle.std.proofs.Common.{◌≡◌, ◌++◌, drop, Ok}
 use Rattle.clock_constraints.specs.Refusals.{◌>>=◌}
-use Rattle.run_file.specs.Names.{CanRead, each, start_value}
+use Rattle.run_file.specs.Names.{each, start_value}
+use Rattle.run_file.specs.Tables.{CanName}
 use Rattle.run_file.proofs.names.start_values.Given as goal
 
 abbrev pub invariant-loop-entry : goal.invariant-loop-entry
-invariant-loop-entry l = CanRead l.net l.domains → each (start_value l.net l.domains) l.entries
+invariant-loop-entry l = CanName l.net l.domains l.names → each (start_value l.net l.domains) l.entries
     ≡ (each (start_value l.net l.domains) (drop l.entry-index l.entries) >>= (λ rest. Ok (l.values ++ rest)))
