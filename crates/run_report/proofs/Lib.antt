@@ -1,0 +1,4 @@
+pub mod Digits
+pub mod ByBit
+pub mod Going
+pub mod Lines
