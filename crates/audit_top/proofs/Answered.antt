@@ -13,7 +13,7 @@ use Rattle.audit_top.specs.declared.answer.Ending.{Ending}
 use Rattle.audit_top.specs.declared.answer.Ending.TheVariants.{Refused, Memory}
 use Rattle.audit_top.specs.declared.status.Status.{Status}
 use Rattle.audit_top.specs.declared.status.Status.TheVariants as status
-use Rattle.audit_top.specs.Runs.{Seen, Text, IsAnswer, IsLong, IsRefusedBy, IsRefusedForLength, IsText, IsOfFile, TellsOfLength, fault_at, numbers_of}
+use Rattle.audit_top.specs.Runs.{Seen, Text, IsAnswer, IsLong, IsRefusedBy, IsRefusedForLength, IsText, IsOfFile, IsOfStatus, TellsOfLength, fault_at, numbers_of, all_record_numbers}
 use Rattle.audit_top.specs.Endings.{IsAnswerTo, IsAudited, IsEnding, IsEndOfAudit, IsLengthEnding, IsOfFiles, IsReadOfBoth}
 use Rattle.audit_top.proofs.Lines.{is_other, other_line}
 
@@ -29,26 +29,23 @@ audited_fits before now status.ReadFault text h = absurd h
 audited_fits before now status.WriteFault text h = absurd h
 audited_fits before now status.Memory text h = absurd h
 
-refused_fits : (before now : Seen) (s : Status) (f : Fault) → IsRefusedBy before now s f → IsText before now s (line_of f)
+pub refused_fits : (before now : Seen) (s : Status) (f : Fault) → IsRefusedBy before now s f → IsText before now s (line_of f)
 refused_fits before now status.ReadFault f h = (f, refl, h)
 refused_fits before now status.Netlist f h = (f, refl, h)
 refused_fits before now status.Constraints f h = (f, refl, h)
+refused_fits before now status.Record f h = (f, refl, h)
 refused_fits before now status.Done f h = absurd h
 refused_fits before now status.Violations f h = absurd h
 refused_fits before now status.Waived f h = absurd h
 refused_fits before now status.Usage f h = absurd h
-refused_fits before now status.Record f h = absurd h
 refused_fits before now status.WriteFault f h = absurd h
 refused_fits before now status.Memory f h = absurd h
 
--- the status of a file
-abbrev IsOfStatus : Status → Type 0
-IsOfStatus s = (s ≡ status.Netlist) ⊎ (s ≡ status.Constraints)
-
--- an audit that came to its end has no such status
+-- an audit that came to its end has no status of a file
 audited_of_none : (s : Status) → IsAudited s → IsOfStatus s → ⊥
 audited_of_none s h (inl is) = subst (λ (x : Status). IsAudited x) is h
-audited_of_none s h (inr is) = subst (λ (x : Status). IsAudited x) is h
+audited_of_none s h (inr (inl is)) = subst (λ (x : Status). IsAudited x) is h
+audited_of_none s h (inr (inr is)) = subst (λ (x : Status). IsAudited x) is h
 
 file_tells : (numbers : List ℕ) (before now : Seen) (f g : Fault) → list_all is_other numbers ≡ true → IsOfFile numbers before now f
     → line_of f ≡ line_of g → g.number ≡ 600 → TellsOfLength before now (line_of f)
@@ -56,23 +53,25 @@ file_tells numbers before now f g all (inl (last, is, rose)) lines number = (f.n
 file_tells numbers before now f g all (inr listed) lines number = absurd (other_line numbers f g all listed lines number)
 
 -- a line with the number of a file's length is that of a file over its limit
-line_tells : (before now : Seen) (s : Status) (f g : Fault) → IsOfStatus s → IsRefusedBy before now s f → line_of f ≡ line_of g
+pub line_tells : (before now : Seen) (s : Status) (f g : Fault) → IsOfStatus s → IsRefusedBy before now s f → line_of f ≡ line_of g
     → g.number ≡ 600 → TellsOfLength before now (line_of f)
 line_tells before now s f g (inl is) refused lines number =
     file_tells netlist_numbers before now f g refl (subst (λ (x : Status). IsRefusedBy before now x f) is refused) lines number
-line_tells before now s f g (inr is) refused lines number =
+line_tells before now s f g (inr (inl is)) refused lines number =
     file_tells all_constraint_numbers before now f g refl (subst (λ (x : Status). IsRefusedBy before now x f) is refused) lines number
+line_tells before now s f g (inr (inr is)) refused lines number =
+    file_tells all_record_numbers before now f g refl (subst (λ (x : Status). IsRefusedBy before now x f) is refused) lines number
 
 -- a refusal by a rule that goes with its status
-listed_ending : (before now : Seen) (s : Status) (f : Fault) → is_listed (numbers_of s) f.number ≡ true → IsRefusedBy before now s f
+pub listed_ending : (before now : Seen) (s : Status) (f : Fault) → is_listed (numbers_of s) f.number ≡ true → IsRefusedBy before now s f
 listed_ending before now status.Netlist f h = inr h
 listed_ending before now status.Constraints f h = inr h
+listed_ending before now status.Record f h = inr h
 listed_ending before now status.ReadFault f h = absurd (false≢true h)
 listed_ending before now status.Done f h = absurd (false≢true h)
 listed_ending before now status.Violations f h = absurd (false≢true h)
 listed_ending before now status.Waived f h = absurd (false≢true h)
 listed_ending before now status.Usage f h = absurd (false≢true h)
-listed_ending before now status.Record f h = absurd (false≢true h)
 listed_ending before now status.WriteFault f h = absurd (false≢true h)
 listed_ending before now status.Memory f h = absurd (false≢true h)
 
@@ -108,8 +107,9 @@ module _ (words : List Text) (before now : Seen) (accepted : IsAccepted words) (
     refused = λ not_accepted. absurd (not_accepted accepted);
     fits = audited_fits before now own.status own.text audited;
     too_long = λ g of_file _ _. absurd (audited_of_none own.status audited of_file);
-    long_net = λ n c _ files long. cc;
-    long_con = λ n c _ files long. cc;
+    long_net = λ n c rest _ files long. cc;
+    long_con = λ n c rest _ files long. cc;
+    long_run = λ n c r _ files long. cc;
   }
 
   line_test : (s : Status) (f : Fault) → IsRefusedBy before now s f → IsAnswer words before now s (line_of f)
@@ -118,8 +118,9 @@ module _ (words : List Text) (before now : Seen) (accepted : IsAccepted words) (
     refused = λ not_accepted. absurd (not_accepted accepted);
     fits = refused_fits before now s f refused;
     too_long = λ g of_file lines number. line_tells before now s f g of_file refused lines number;
-    long_net = λ n c _ files long. cc;
-    long_con = λ n c _ files long. cc;
+    long_net = λ n c rest _ files long. cc;
+    long_con = λ n c rest _ files long. cc;
+    long_run = λ n c r _ files long. cc;
   }
 
   one_test : (ended : Result Answer Ending) (a : Answer) → MatchResult ended (λ own. IsAudited own.status) IsOfFiles
@@ -136,23 +137,23 @@ module _ (words : List Text) (before now : Seen) (accepted : IsAccepted words) (
   answered_test ended (Ok a) h is = one_test ended a h is
   answered_test ended (Err e) h is = tt
 
-length_answer : (of_file s : Status) (f : Fault) (name : Text) → IsLengthEnding of_file name (Refused s f)
+pub length_answer : (of_file s : Status) (f : Fault) (name : Text) → IsLengthEnding of_file name (Refused s f)
     → IsRefusedForLength of_file name s (line_of f)
 length_answer of_file s f name (inl (is, fault)) = inl (is, ap line_of fault)
 length_answer of_file s f name (inr is) = inr is
 
-length_answers : (s : Status) (f : Fault) (net con : Text)
+pub length_answers : (s : Status) (f : Fault) (net con : Text)
     → IsLengthEnding status.Constraints con (Refused s f) ⊎ IsLengthEnding status.Netlist net (Refused s f)
     → IsRefusedForLength status.Constraints con s (line_of f) ⊎ IsRefusedForLength status.Netlist net s (line_of f)
 length_answers s f net con (inl h) = inl (length_answer status.Constraints s f con h)
 length_answers s f net con (inr h) = inr (length_answer status.Netlist s f net h)
 
 module _ (words : List Text) (before now : Seen) (net con : Text) (accepted : IsAccepted words) (named : file_words words ≡ net ∷ con ∷ []) where
-  is_net : (n c : Text) → file_words words ≡ n ∷ c ∷ [] → net ≡ n
-  is_net n c e = cc
+  is_net : (n c : Text) (rest : List Text) → file_words words ≡ n ∷ c ∷ rest → net ≡ n
+  is_net n c rest e = cc
 
-  is_con : (n c : Text) → file_words words ≡ n ∷ c ∷ [] → con ≡ c
-  is_con n c e = cc
+  is_con : (n c : Text) (rest : List Text) → file_words words ≡ n ∷ c ∷ rest → con ≡ c
+  is_con n c rest e = cc
 
   own_answer : (own : Answer) → IsEndOfAudit net con before now (Ok own) → IsAnswer words before now own.status own.text
   own_answer own end = record {
@@ -160,8 +161,9 @@ module _ (words : List Text) (before now : Seen) (net con : Text) (accepted : Is
     refused = λ not_accepted. absurd (not_accepted accepted);
     fits = audited_fits before now own.status own.text end.audited;
     too_long = λ g of_file _ _. absurd (audited_of_none own.status end.audited of_file);
-    long_net = λ n c _ files long. absurd (end.reads.long_net (subst (λ (x : Text). IsLong before x) (sym (is_net n c files)) long));
-    long_con = λ n c _ files long. absurd (end.reads.long_con (subst (λ (x : Text). IsLong before x) (sym (is_con n c files)) long));
+    long_net = λ n c rest _ files long. absurd (end.reads.long_net (subst (λ (x : Text). IsLong before x) (sym (is_net n c rest files)) long));
+    long_con = λ n c rest _ files long. absurd (end.reads.long_con (subst (λ (x : Text). IsLong before x) (sym (is_con n c rest files)) long));
+    long_run = λ n c r _ files long. cc;
   }
 
   line_answer : (s : Status) (f : Fault) → IsEndOfAudit net con before now (Err (Refused s f)) → IsAnswer words before now s (line_of f)
@@ -170,12 +172,13 @@ module _ (words : List Text) (before now : Seen) (net con : Text) (accepted : Is
     refused = λ not_accepted. absurd (not_accepted accepted);
     fits = refused_fits before now s f end.reads.ended;
     too_long = λ g of_file lines number. line_tells before now s f g of_file end.reads.ended lines number;
-    long_net = λ n c _ files long. subst (λ (x : Text). IsRefusedForLength status.Netlist x s (line_of f)) (is_net n c files)
-        (length_answer status.Netlist s f net (end.reads.long_net (subst (λ (x : Text). IsLong before x) (sym (is_net n c files)) long)));
-    long_con = λ n c _ files long.
-        subst (λ (x : Text). IsRefusedForLength status.Constraints c s (line_of f) ⊎ IsRefusedForLength status.Netlist x s (line_of f)) (is_net n c files)
-        (subst (λ (x : Text). IsRefusedForLength status.Constraints x s (line_of f) ⊎ IsRefusedForLength status.Netlist net s (line_of f)) (is_con n c files)
-        (length_answers s f net con (end.reads.long_con (subst (λ (x : Text). IsLong before x) (sym (is_con n c files)) long))));
+    long_net = λ n c rest _ files long. subst (λ (x : Text). IsRefusedForLength status.Netlist x s (line_of f)) (is_net n c rest files)
+        (length_answer status.Netlist s f net (end.reads.long_net (subst (λ (x : Text). IsLong before x) (sym (is_net n c rest files)) long)));
+    long_con = λ n c rest _ files long.
+        subst (λ (x : Text). IsRefusedForLength status.Constraints c s (line_of f) ⊎ IsRefusedForLength status.Netlist x s (line_of f)) (is_net n c rest files)
+        (subst (λ (x : Text). IsRefusedForLength status.Constraints x s (line_of f) ⊎ IsRefusedForLength status.Netlist net s (line_of f)) (is_con n c rest files)
+        (length_answers s f net con (end.reads.long_con (subst (λ (x : Text). IsLong before x) (sym (is_con n c rest files)) long))));
+    long_run = λ n c r _ files long. cc;
   }
 
   one_answer : (ended : Result Answer Ending) (a : Answer) → IsEndOfAudit net con before now ended

@@ -5,3 +5,4 @@ pub mod TokenNumbers
 pub mod ReadInTurn
 pub mod Answered
 pub mod Finished
+pub mod Replayed

@@ -1,14 +1,14 @@
--- Two reads, one after the other.
+-- Reads, one after the other.
 use Rattle.std.proofs.Common.{◌≡◌, ◌≢◌, ◌∙◌, ◌≤◌, ap, sym, subst, append-nil, inl, inr, ◌⊎◌, ◌++◌, ◌+◌, ◌∷◌, [], List, ℕ, Ok, Err, Some, append_assoc, arith, refl, Result}
 use Rattle.cdc_base.specs.Causes.{Rose, RoseBy}
 use Rattle.cdc_base.specs.declared.fault.Fault.{Fault}
 use Rattle.audit_top.specs.declared.answer.Ending.{Ending}
 use Rattle.audit_top.specs.declared.answer.Ending.TheVariants.{Refused, Memory}
 use Rattle.audit_top.specs.declared.status.Status.{Status}
-use Rattle.audit_top.specs.declared.status.Status.TheVariants.{Netlist, Constraints, ReadFault}
+use Rattle.audit_top.specs.declared.status.Status.TheVariants.{Netlist, Constraints, Record, ReadFault}
 use Rattle.audit_top.specs.declared.status.Status.TheVariants as status
 use Rattle.audit_top.specs.Runs.{Seen, Text, AskedFor, AskedInOrder, IsLong, IsRefusedBy, IsUnread, IsTooLong, IsLastAsked, fault_at, max_bytes}
-use Rattle.audit_top.specs.Endings.{IsEnding, IsLengthEnding, IsReadEnding, IsReadOf, IsReadOfBoth}
+use Rattle.audit_top.specs.Endings.{IsEnding, IsLengthEnding, IsReadEnding, IsReadOf, IsReadOfBoth, IsReadOfThree}
 
 -- no count is lower than before
 abbrev IsLater : Seen → Seen → Type 0
@@ -18,6 +18,7 @@ IsLater before now = (before.taken ≤ now.taken) × (before.faults ≤ now.faul
 abbrev IsFileStatus : Status → Type 0
 IsFileStatus Netlist = Unit {0}
 IsFileStatus Constraints = Unit {0}
+IsFileStatus Record = Unit {0}
 IsFileStatus _ = ⊥
 
 -- a file that was read whole was asked for
@@ -63,7 +64,7 @@ long_file Constraints before now fault of_file long = inl long
 long_file status.Done before now fault of_file long = absurd of_file
 long_file status.Violations before now fault of_file long = absurd of_file
 long_file status.Usage before now fault of_file long = absurd of_file
-long_file status.Record before now fault of_file long = absurd of_file
+long_file Record before now fault of_file long = inl long
 long_file status.ReadFault before now fault of_file long = absurd of_file
 long_file status.WriteFault before now fault of_file long = absurd of_file
 long_file status.Memory before now fault of_file long = absurd of_file
@@ -136,4 +137,85 @@ both_read net con before mid now bytes more texts first second = record {
   ended = tt;
   long_net = λ long. absurd (first.short long);
   long_con = λ (all, is, over). absurd (second.short (all, first.holds con ∙ is, over));
+}
+
+-- ---- three files
+
+asked_first : (net con run : Text) (before now : Seen) (result : Result (List ℕ) Ending)
+    → (now.asked ≡ before.asked ++ net ∷ []) ⊎ ((result ≡ Err Memory) × (now.asked ≡ before.asked))
+    → AskedInOrder (net ∷ con ∷ run ∷ []) before now
+asked_first net con run before now result (inl first) = (net ∷ [], con ∷ run ∷ [], refl, first)
+asked_first net con run before now result (inr (p, same)) = ([], net ∷ con ∷ run ∷ [], refl, same ∙ sym (append-nil before.asked))
+
+asked_second : (net con run : Text) (before mid now : Seen) (result : Result (List ℕ) Ending) → mid.asked ≡ before.asked ++ net ∷ []
+    → (now.asked ≡ mid.asked ++ con ∷ []) ⊎ ((result ≡ Err Memory) × (now.asked ≡ mid.asked))
+    → AskedInOrder (net ∷ con ∷ run ∷ []) before now
+asked_second net con run before mid now result first (inl second) = (net ∷ con ∷ [], run ∷ [], refl, asked_twice net con before mid now first second)
+asked_second net con run before mid now result first (inr (p, same)) = (net ∷ [], con ∷ run ∷ [], refl, same ∙ first)
+
+asked_third : (net con run : Text) (before late now : Seen) (result : Result (List ℕ) Ending) → AskedFor (net ∷ con ∷ []) before late
+    → (now.asked ≡ late.asked ++ run ∷ []) ⊎ ((result ≡ Err Memory) × (now.asked ≡ late.asked))
+    → AskedInOrder (net ∷ con ∷ run ∷ []) before now
+asked_third net con run before late now result first (inl third) =
+    (net ∷ con ∷ run ∷ [], [], refl, third ∙ ap (λ a. a ++ run ∷ []) first ∙ append_assoc before.asked (net ∷ con ∷ []) (run ∷ []))
+asked_third net con run before late now result first (inr (p, same)) = (net ∷ con ∷ [], run ∷ [], refl, same ∙ first)
+
+third_length : (net con run : Text) (late now : Seen) (e : Ending) → IsReadEnding run Record late now e
+    → IsLengthEnding Record run e ⊎ (IsLengthEnding Constraints con e ⊎ IsLengthEnding Netlist net e)
+third_length net con run late now Memory ended = inl tt
+third_length net con run late now (Refused s f) (inl (is, fault, rose)) = inl (inr is)
+third_length net con run late now (Refused s f) (inr (is, fault, rose)) = inl (inl (is, fault))
+
+-- the first of three reads ended
+pub first_of_three : {T : Type 0} (net con run : Text) (before now : Seen) (e : Ending) → IsReadOf net Netlist before now (Err e)
+    → IsReadOfThree {T = T} net con run before now (Err e)
+first_of_three net con run before now e first = record {
+  asks = asked_first net con run before now (Err e) first.asks;
+  ended = read_ending net Netlist before before now e tt (omega arith, omega arith) first;
+  long_net = λ _. first_length net before now e first.ended;
+  long_con = λ _. first_lengths net con before now e first.ended;
+  long_run = λ _. inr (first_lengths net con before now e first.ended);
+}
+
+-- the second of three
+pub second_of_three : {T : Type 0} (net con run : Text) (before mid now : Seen) (bytes : List ℕ) (e : Ending)
+    → IsReadOf net Netlist before mid (Ok bytes) → IsReadOf con Constraints mid now (Err e) → IsReadOfThree {T = T} net con run before now (Err e)
+second_of_three net con run before mid now bytes e first second = record {
+  asks = asked_second net con run before mid now (Err e) (asked_ok net Netlist before mid bytes first) second.asks;
+  ended = read_ending con Constraints before mid now e tt first.rising second;
+  long_net = λ long. absurd (first.short long);
+  long_con = λ _. second_length net con mid now e second.ended;
+  long_run = λ _. inr (second_length net con mid now e second.ended);
+}
+
+both_asked : (net con : Text) (before mid late : Seen) (bytes more : List ℕ) → IsReadOf net Netlist before mid (Ok bytes) → IsReadOf con Constraints mid late (Ok more)
+    → AskedFor (net ∷ con ∷ []) before late
+both_asked net con before mid late bytes more first second =
+    asked_twice net con before mid late (asked_ok net Netlist before mid bytes first) (asked_ok con Constraints mid late more second)
+
+both_later : (before mid late : Seen) → IsLater before mid → IsLater mid late → IsLater before late
+both_later before mid late first second = (omega (arith, first, second), omega (arith, first, second))
+
+-- the third of three
+pub third_of_three : {T : Type 0} (net con run : Text) (before mid late now : Seen) (bytes more : List ℕ) (e : Ending)
+    → IsReadOf net Netlist before mid (Ok bytes) → IsReadOf con Constraints mid late (Ok more) → IsReadOf run Record late now (Err e)
+    → IsReadOfThree {T = T} net con run before now (Err e)
+third_of_three net con run before mid late now bytes more e first second third = record {
+  asks = asked_third net con run before late now (Err e) (both_asked net con before mid late bytes more first second) third.asks;
+  ended = read_ending run Record before late now e tt (both_later before mid late first.rising second.rising) third;
+  long_net = λ long. absurd (first.short long);
+  long_con = λ (all, is, over). absurd (second.short (all, first.holds con ∙ is, over));
+  long_run = λ _. third_length net con run late now e third.ended;
+}
+
+-- all three were read
+pub all_read : {T : Type 0} (net con run : Text) (before mid late now : Seen) (bytes more most : List ℕ) (texts : T)
+    → IsReadOf net Netlist before mid (Ok bytes) → IsReadOf con Constraints mid late (Ok more) → IsReadOf run Record late now (Ok most)
+    → IsReadOfThree net con run before now (Ok texts)
+all_read net con run before mid late now bytes more most texts first second third = record {
+  asks = asked_third net con run before late now (Ok most) (both_asked net con before mid late bytes more first second) third.asks;
+  ended = tt;
+  long_net = λ long. absurd (first.short long);
+  long_con = λ (all, is, over). absurd (second.short (all, first.holds con ∙ is, over));
+  long_run = λ (all, is, over). absurd (third.short (all, second.holds run ∙ (first.holds run ∙ is), over));
 }

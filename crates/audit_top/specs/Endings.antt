@@ -8,7 +8,7 @@ use Rattle.audit_top.specs.declared.answer.Answer.{Answer}
 use Rattle.audit_top.specs.declared.answer.Ending.{Ending}
 use Rattle.audit_top.specs.declared.answer.Ending.TheVariants.{Refused, Memory}
 use Rattle.audit_top.specs.declared.status.Status.{Status}
-use Rattle.audit_top.specs.declared.status.Status.TheVariants.{Done, Violations, Usage, Netlist, Constraints, ReadFault, Waived}
+use Rattle.audit_top.specs.declared.status.Status.TheVariants.{Done, Violations, Usage, Netlist, Constraints, Record, ReadFault, Waived}
 use Rattle.audit_top.specs.Runs.{Seen, Text, AskedFor, AskedInOrder, IsLong, IsRefusedBy, fault_at, max_bytes, numbers_of, usage_line}
 
 -- want of memory, or this refusal
@@ -70,6 +70,19 @@ pub record IsReadOfBoth {T : Type 0} (net con : Text) (before now : Seen) (resul
 pub record IsEndOfAudit (net con : Text) (before now : Seen) (result : Result Answer Ending) : Type 0 where
   pub reads : IsReadOfBoth net con before now result
   pub audited : IfOk result (λ answer. IsAudited answer.status)
+
+-- all three files were read whole, or the reading ended so
+pub record IsReadOfThree {T : Type 0} (net con run : Text) (before now : Seen) (result : Result T Ending) : Type 0 where
+  pub asks : AskedInOrder (net ∷ con ∷ run ∷ []) before now
+  pub ended : IfErr result (IsEnding before now)
+  pub long_net : IsLong before net → IsErrAnd result (IsLengthEnding Netlist net)
+  pub long_con : IsLong before con → IsErrAnd result (λ e. IsLengthEnding Constraints con e ⊎ IsLengthEnding Netlist net e)
+  pub long_run : IsLong before run → IsErrAnd result (λ e. IsLengthEnding Record run e ⊎ (IsLengthEnding Constraints con e ⊎ IsLengthEnding Netlist net e))
+
+-- a replay came to its end: the files were read in their order, and it is done, or there is a refusal with its cause
+pub record IsEndOfReplay (net con run : Text) (before now : Seen) (result : Result Answer Ending) : Type 0 where
+  pub reads : IsReadOfThree net con run before now result
+  pub replayed : IfOk result (λ answer. answer.status ≡ Done)
 
 -- the answer to words that are refused
 abbrev pub IsUsage : Answer → Type 0

@@ -5,6 +5,8 @@ use Rattle.cdc_base.specs.declared.fault.Fault.{Fault}
 use Rattle.command_line.specs.Cli.{IsAccepted, file_words}
 use Rattle.refusals.specs.Numbers.{is_listed, netlist_numbers, all_constraint_numbers}
 use Rattle.report.specs.Faults.{line_of}
+use Rattle.run_file.specs.Numbers.{record_numbers}
+use Rattle.run_report.specs.Refusals.{step_numbers}
 use Rattle.audit_top.specs.declared.status.Status.{Status}
 use Rattle.audit_top.specs.declared.status.Status.TheVariants.{Done, Violations, Usage, Netlist, Constraints, Record, ReadFault, WriteFault, Memory, Waived}
 
@@ -16,7 +18,7 @@ abbrev pub max_bytes : ℕ
 max_bytes = 8388608
 
 abbrev pub usage_line : Text
-usage_line = codes "usage: cdcaudit audit [--json] NET CON | selftest N" ++ 10 ∷ []
+usage_line = codes "usage: cdcaudit audit [--json] NET CON | replay NET CON RUN | selftest N" ++ 10 ∷ []
 
 -- what files tell: what lies under a name, which names were asked for, and the counts of bytes and of failed reads
 pub record Seen : Type 0 where
@@ -56,10 +58,15 @@ abbrev pub IsTooLong : Seen → Seen → Fault → Type 0
 IsTooLong before now fault = IsLastAsked fault.name now × (fault ≡ fault_at 600 fault.name)
     × RoseBy (max_bytes + 1) before.taken now.taken
 
+-- what a record may be refused for, once it was read: its own rules, and those of its steps
+abbrev pub all_record_numbers : List ℕ
+all_record_numbers = record_numbers ++ step_numbers
+
 -- the rules that a file of this status may break, once it was read
 abbrev pub numbers_of : Status → List ℕ
 numbers_of Netlist = netlist_numbers
 numbers_of Constraints = all_constraint_numbers
+numbers_of Record = all_record_numbers
 numbers_of _ = []
 
 -- a file is over its limit, or breaks one of these rules
@@ -71,6 +78,7 @@ abbrev pub IsRefusedBy : Seen → Seen → Status → Fault → Type 0
 IsRefusedBy before now ReadFault fault = IsUnread before now fault
 IsRefusedBy before now Netlist fault = IsOfFile netlist_numbers before now fault
 IsRefusedBy before now Constraints fault = IsOfFile all_constraint_numbers before now fault
+IsRefusedBy before now Record fault = IsOfFile all_record_numbers before now fault
 IsRefusedBy before now _ fault = ⊥
 
 -- the text that goes with a status: the usage line, the line of a refusal, or what the command prints
@@ -95,17 +103,22 @@ abbrev pub TellsOfLength : Seen → Seen → Text → Type 0
 TellsOfLength before now text = (name : Text) × IsLastAsked name now × (text ≡ line_of (fault_at 600 name))
     × RoseBy (max_bytes + 1) before.taken now.taken
 
+-- the status of a file
+abbrev pub IsOfStatus : Status → Type 0
+IsOfStatus s = (s ≡ Netlist) ⊎ ((s ≡ Constraints) ⊎ (s ≡ Record))
+
 -- a status and a text, from the words and from what the files told
 pub record IsAnswer (words : List Text) (before now : Seen) (status : Status) (text : Text) : Type 0 where
   pub usage : status ≡ Usage → IsAccepted words → ⊥
   pub refused : (IsAccepted words → ⊥) → status ≡ Usage
   pub fits : IsText before now status text
-  pub too_long : (fault : Fault) → (status ≡ Netlist) ⊎ (status ≡ Constraints) → text ≡ line_of fault → fault.number ≡ 600
-      → TellsOfLength before now text
-  pub long_net : (net con : Text) → IsAccepted words → file_words words ≡ net ∷ con ∷ [] → IsLong before net
+  pub too_long : (fault : Fault) → IsOfStatus status → text ≡ line_of fault → fault.number ≡ 600 → TellsOfLength before now text
+  pub long_net : (net con : Text) (rest : List Text) → IsAccepted words → file_words words ≡ net ∷ con ∷ rest → IsLong before net
       → IsRefusedForLength Netlist net status text
-  pub long_con : (net con : Text) → IsAccepted words → file_words words ≡ net ∷ con ∷ [] → IsLong before con
+  pub long_con : (net con : Text) (rest : List Text) → IsAccepted words → file_words words ≡ net ∷ con ∷ rest → IsLong before con
       → IsRefusedForLength Constraints con status text ⊎ IsRefusedForLength Netlist net status text
+  pub long_run : (net con run : Text) → IsAccepted words → file_words words ≡ net ∷ con ∷ run ∷ [] → IsLong before run
+      → IsRefusedForLength Record run status text ⊎ (IsRefusedForLength Constraints con status text ⊎ IsRefusedForLength Netlist net status text)
 
 -- what the output told before the run and tells after it, for a text that went to it
 abbrev pub IsWritten : Status → Status → Text → Option Text → Option Text → Type 0

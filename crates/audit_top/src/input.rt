@@ -1,7 +1,7 @@
 //! Reading the files that the words name.
 ghost use Rattle.std.specs.Prelude.{◌≡◌, ◌≤◌, length, IfOk};
 ghost use Rattle.audit_top.specs.Runs.{Seen, fault_at, max_bytes};
-ghost use Rattle.audit_top.specs.Endings.{IsRefusal, IsReadOf, IsReadOfBoth};
+ghost use Rattle.audit_top.specs.Endings.{IsRefusal, IsReadOf, IsReadOfBoth, IsReadOfThree};
 
 use crate::answer::Ending;
 use crate::status::Status;
@@ -63,6 +63,33 @@ pub fn read_both<F: Files>(
     };
     match read_text(alloc, files, con, Status::Constraints) {
         Ok(con) => Ok((net, con)),
+        Err(ending) => Err(ending),
+    }
+}
+
+/// The bytes of all three files, in this order. The first refusal counts.
+pub fn read_three<F: Files>(
+    alloc: Global,
+    files: &mut F,
+    net: &str,
+    con: &str,
+    run: &str,
+) -> Result<(List<u8>, List<u8>, List<u8>), Ending>
+    ensures files { let before : Seen = record { held = F.held files.old; asked = F.asked files.old; taken = F.taken files.old; faults = F.faults files.old } in
+        let now : Seen = record { held = F.held files.new; asked = F.asked files.new; taken = F.taken files.new; faults = F.faults files.new } in
+        IsReadOfThree net.now con.now run.now before now result }
+    ensures within { IfOk result (λ texts. length texts.0 ≤ max_bytes) }
+{
+    let net = match read_text(alloc, files, net, Status::Netlist) {
+        Ok(net) => net,
+        Err(ending) => return Err(ending),
+    };
+    let con = match read_text(alloc, files, con, Status::Constraints) {
+        Ok(con) => con,
+        Err(ending) => return Err(ending),
+    };
+    match read_text(alloc, files, run, Status::Record) {
+        Ok(run) => Ok((net, con, run)),
         Err(ending) => Err(ending),
     }
 }

@@ -7,13 +7,14 @@ ghost use Rattle.audit_top.specs.Runs.{Seen, Output, AsksByWords, IsAnswer, IsRu
 use crate::answer::{Answer, answer_of};
 use crate::audit::audit;
 use crate::output::write_lines;
+use crate::replay::replay;
 use crate::selftest::selftest;
 use crate::status::Status;
 use cdc_base::{Files, List, NoMemory, Sink, SinkFault};
 use command_line::{Refusal, Request};
 use std::alloc::Global;
 
-const USAGE: &str = "usage: cdcaudit audit [--json] NET CON | selftest N\n";
+const USAGE: &str = "usage: cdcaudit audit [--json] NET CON | replay NET CON RUN | selftest N\n";
 
 fn usage(alloc: Global) -> Result<Answer, NoMemory>
     ensures { IfOk result IsUsage }
@@ -39,6 +40,9 @@ fn answer<F: Files>(alloc: Global, words: &[String], files: &mut F) -> Result<An
     match command_line::read(alloc, words) {
         Ok(Request::Audit { json, net, con }) => {
             answer_of(alloc, audit(alloc, files, json, net, con))
+        }
+        Ok(Request::Replay { net, con, run }) => {
+            answer_of(alloc, replay(alloc, files, net, con, run))
         }
         Ok(Request::Selftest { channels }) => answer_of(alloc, selftest(alloc, channels)),
         Err(Refusal::Words) => usage(alloc),

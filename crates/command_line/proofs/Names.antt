@@ -17,7 +17,7 @@ use Rattle.clap.specs.declared.parser.matches.SubCommand.{SubCommand}
 use Rattle.clap.specs.Facts.{explicit_source}
 use Rattle.clap.specs.Takes.{is_given}
 use Rattle.clap.specs.Faults.{built_fault, check_fault, fault_of, walk_fault, entered_fault, settle_fault, defaults_fault}
-use Rattle.command_line.specs.Cli.{cli, IsCommand, audit_app, selftest_app}
+use Rattle.command_line.specs.Cli.{cli, IsCommand, audit_app, replay_app, selftest_app}
 
 pub or_empty : (x y : Kinds) → or_else x y ≡ [] → (x ≡ []) × (y ≡ [])
 or_empty [] y e = (refl, e)
@@ -47,18 +47,21 @@ abbrev pub HasCommand : Option (Text × List Row) → Type 0
 HasCommand None = ⊥
 HasCommand (Some p) = IsCommand p.0
 
-abbrev IsOneOf : Text → Text → Option (Text × List Row) → Type 0
-IsOneOf x y None = ⊥
-IsOneOf x y (Some p) = (p.0 ≡ x) ⊎ (p.0 ≡ y)
+abbrev IsOneOf : Text → Text → Text → Option (Text × List Row) → Type 0
+IsOneOf x y z None = ⊥
+IsOneOf x y z (Some p) = (p.0 ≡ x) ⊎ ((p.0 ≡ y) ⊎ (p.0 ≡ z))
 
-one_of_two : (f : Shape → Bool) (x y : Shape) (ws : List Text)
-    → is_some (option_map (λ s. rows_at s ws) (find f (x ∷ y ∷ []))) ≡ true
-    → IsOneOf x.name y.name (option_map (λ s. rows_at s ws) (find f (x ∷ y ∷ [])))
-one_of_two f x y ws e = elim (cases_Bool (f x)) [
+one_of_three : (f : Shape → Bool) (x y z : Shape) (ws : List Text)
+    → is_some (option_map (λ s. rows_at s ws) (find f (x ∷ y ∷ z ∷ []))) ≡ true
+    → IsOneOf x.name y.name z.name (option_map (λ s. rows_at s ws) (find f (x ∷ y ∷ z ∷ [])))
+one_of_three f x y z ws e = elim (cases_Bool (f x)) [
   | inl t ↦ rw t (inl refl)
   | inr t ↦ elim (cases_Bool (f y)) [
-    | inl u ↦ rw (t, u) (inr refl)
-    | inr u ↦ let bad : false ≡ true = rw (t, u) at e in cc
+    | inl u ↦ rw (t, u) (inr (inl refl))
+    | inr u ↦ elim (cases_Bool (f z)) [
+      | inl v ↦ rw (t, u, v) (inr (inr refl))
+      | inr v ↦ let bad : false ≡ true = rw (t, u, v) at e in cc
+    ]
   ]
 ]
 
@@ -68,7 +71,7 @@ sub a = built_leaf (inherited (on_top with_leaf_noted (on_top marked_built cli))
 
 entered_one : (stop : Option (Text × List Text)) → is_some (entered (built cli) stop) ≡ true → HasCommand (entered (built cli) stop)
 entered_one None e = cc
-entered_one (Some p) e = one_of_two (λ s. answers_to p.0 (label_of s)) (sub audit_app) (sub selftest_app) p.1 e
+entered_one (Some p) e = one_of_three (λ s. answers_to p.0 (label_of s)) (sub audit_app) (sub replay_app) (sub selftest_app) p.1 e
 
 pub named : (ws : List Text) → fault_of cli ws ≡ [] → HasCommand (subcommand_of cli ws)
 named ws e = entered_one (walk (built cli).top.rules (names_of (built cli)) nothing_held (argument_words cli ws)).stopped (has_subcommand (built cli) nothing_held (argument_words cli ws) refl e)

@@ -9,7 +9,7 @@ use Rattle.clap.specs.Simple.{on_top}
 use Rattle.clap.specs.declared.builder.action.ArgAction.TheVariants.{SetTrue}
 use Rattle.clap.specs.declared.builder.value_parser.ValueParser.TheVariants as vp
 use Rattle.command_line.specs.declared.Request.{Request}
-use Rattle.command_line.specs.declared.Request.TheVariants.{Audit, Selftest}
+use Rattle.command_line.specs.declared.Request.TheVariants.{Audit, Replay, Selftest}
 
 -- `--json`
 abbrev pub json_rule : Rule
@@ -28,15 +28,20 @@ abbrev pub audit_app : App
 audit_app = with_rule (with_rule (with_rule (new_app (codes "audit")) json_rule)
     (required_rule (codes "NET"))) (required_rule (codes "CON"))
 
+-- `replay NET CON RUN`
+abbrev pub replay_app : App
+replay_app = with_rule (with_rule (with_rule (new_app (codes "replay")) (required_rule (codes "NET")))
+    (required_rule (codes "CON"))) (required_rule (codes "RUN"))
+
 -- `selftest N`
 abbrev pub selftest_app : App
 selftest_app = with_rule (new_app (codes "selftest")) count_rule
 
 -- the command takes no word for the program's name and wants a subcommand
 abbrev pub cli : App
-cli = with_subcommand (with_subcommand
+cli = with_subcommand (with_subcommand (with_subcommand
     (on_top (λ s. record s { no_binary_name = true; subcommand_required = true; disable_help_subcommand = true })
-    (new_app (codes "cdcaudit"))) audit_app.top) selftest_app.top
+    (new_app (codes "cdcaudit"))) audit_app.top) replay_app.top) selftest_app.top
 
 -- the words have a reading: clap's reading of the command finds no fault in them
 abbrev pub IsAccepted : List Text → Type 0
@@ -57,6 +62,8 @@ abbrev pub IsReading : Option (Text × List Row) → Request → Type 0
 IsReading found (Audit json net con) = (rows : List Row) × (found ≡ Some (codes "audit", rows))
     × (json ≡ bytes_eq (text_of (codes "json") rows) (codes "true"))
     × (net.now ≡ text_of (codes "NET") rows) × (con.now ≡ text_of (codes "CON") rows)
+IsReading found (Replay net con run) = (rows : List Row) × (found ≡ Some (codes "replay", rows))
+    × (net.now ≡ text_of (codes "NET") rows) × (con.now ≡ text_of (codes "CON") rows) × (run.now ≡ text_of (codes "RUN") rows)
 IsReading found (Selftest channels) = (rows : List Row) × (found ≡ Some (codes "selftest", rows))
     × IsCount rows channels
 
@@ -68,11 +75,12 @@ IsRequest words request = IsAccepted words × IsReading (subcommand_of cli words
 abbrev pub files_of : Option (Text × List Row) → List Text
 files_of None = []
 files_of (Some (name, rows)) =
-    if bytes_eq name (codes "audit") then text_of (codes "NET") rows ∷ text_of (codes "CON") rows ∷ [] else []
+    if bytes_eq name (codes "audit") then text_of (codes "NET") rows ∷ text_of (codes "CON") rows ∷ []
+    else (if bytes_eq name (codes "replay") then text_of (codes "NET") rows ∷ text_of (codes "CON") rows ∷ text_of (codes "RUN") rows ∷ [] else [])
 
 abbrev pub file_words : List Text → List Text
 file_words words = files_of (subcommand_of cli words)
 
 -- a name of one of the subcommands
 abbrev pub IsCommand : Text → Type 0
-IsCommand name = (name ≡ codes "audit") ⊎ (name ≡ codes "selftest")
+IsCommand name = (name ≡ codes "audit") ⊎ ((name ≡ codes "replay") ⊎ (name ≡ codes "selftest"))

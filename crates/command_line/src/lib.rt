@@ -4,19 +4,24 @@
 ghost use Rattle.std.specs.Prelude.{◌≡◌, ◌≢◌, [], IfOk, IfErr, map, string_bytes, false};
 ghost use Rattle.clap.specs.Words.{app_of, fault_of, subcommand_of, subcommand_rows_of, rows_of, found_of};
 ghost use Rattle.clap.specs.declared.builder.command.Command.TheViews.{out-Command};
-ghost use Rattle.command_line.specs.Cli.{audit_app, selftest_app, cli, IsAccepted, IsRequest, IsReading, IsCommand, IsCount, text_of};
+ghost use Rattle.command_line.specs.Cli.{audit_app, replay_app, selftest_app, cli, IsAccepted, IsRequest, IsReading, IsCommand, IsCount, text_of};
 
 use clap::error::ErrorKind;
 use clap::{Arg, ArgAction, ArgMatches, Command};
 use std::alloc::{AllocError, Global};
 
-/// What the words ask for. `net` and `con` are the names of the netlist and the constraint file, and `channels` counts
-/// the channels of the generated design, 1 to 500.
+/// What the words ask for. `net`, `con` and `run` are the names of the netlist, the constraint file and the record of a
+/// run, and `channels` counts the channels of the generated design, 1 to 500.
 pub enum Request<'a> {
     Audit {
         json: bool,
         net: &'a str,
         con: &'a str,
+    },
+    Replay {
+        net: &'a str,
+        con: &'a str,
+        run: &'a str,
     },
     Selftest {
         channels: u32,
@@ -51,6 +56,15 @@ fn audit_command<'a>(alloc: Global) -> Result<Command<'a>, AllocError>
     Command::new(alloc, "audit").arg(json)?.arg(net)?.arg(con)
 }
 
+fn replay_command<'a>(alloc: Global) -> Result<Command<'a>, AllocError>
+    ensures { IfOk result (λ c. (app_of c ≡ replay_app) × ((out-Command c).has_globals ≡ false)) }
+{
+    let net = Arg::new(alloc, "NET").required(true);
+    let con = Arg::new(alloc, "CON").required(true);
+    let run = Arg::new(alloc, "RUN").required(true);
+    Command::new(alloc, "replay").arg(net)?.arg(con)?.arg(run)
+}
+
 fn selftest_command<'a>(alloc: Global) -> Result<Command<'a>, AllocError>
     ensures { IfOk result (λ c. (app_of c ≡ selftest_app) × ((out-Command c).has_globals ≡ false)) }
 {
@@ -68,6 +82,7 @@ fn command<'a>(alloc: Global) -> Result<Command<'a>, AllocError>
         .subcommand_required(true)
         .disable_help_subcommand(true)
         .subcommand(audit_command(alloc)?)?
+        .subcommand(replay_command(alloc)?)?
         .subcommand(selftest_command(alloc)?)
 }
 
@@ -106,6 +121,11 @@ fn read_request<'a>(name: &str, found: &ArgMatches<'a>) -> Request<'a>
             json: text(found, "json") == "true",
             net: text(found, "NET"),
             con: text(found, "CON"),
+        },
+        "replay" => Request::Replay {
+            net: text(found, "NET"),
+            con: text(found, "CON"),
+            run: text(found, "RUN"),
         },
         _ => Request::Selftest {
             channels: count(found),

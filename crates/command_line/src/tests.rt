@@ -9,6 +9,7 @@ fn shown(alloc: Global, text: &str) -> Result<String, Fail> {
     }
     let line = match read(alloc, words.as_slice()) {
         Ok(Request::Audit { json, net, con }) => format!(in alloc; "audit {json} {net} {con}")?,
+        Ok(Request::Replay { net, con, run }) => format!(in alloc; "replay {net} {con} {run}")?,
         Ok(Request::Selftest { channels }) => format!(in alloc; "selftest {channels}")?,
         Err(Refusal::Words) => String::from_str(alloc, "usage")?,
         Err(Refusal::Memory) => String::from_str(alloc, "memory")?,
@@ -32,6 +33,10 @@ fn words_as_the_command_reads_them(rt: HostRuntime) -> Result<(), Fail> {
         ("audit -n c.toml", "usage"),
         ("audit --jso n.v c.toml", "usage"),
         ("audit --json=x n.v c.toml", "usage"),
+        ("replay n.v c.toml r.json", "replay n.v c.toml r.json"),
+        ("replay n.v c.toml", "usage"),
+        ("replay n.v c.toml r.json extra", "usage"),
+        ("replay --json n.v c.toml r.json", "usage"),
         ("selftest 500", "selftest 500"),
         ("selftest 501", "usage"),
         ("selftest 0", "usage"),

@@ -1,0 +1,14 @@
+use Rattle.audit_top.proofs.ReadInTurn.{first_of_three, second_of_three, third_of_three, all_read}
+use Rattle.audit_top.proofs.input.read_three.Goals as goal
+
+pub returns-in-Err-clause-files : goal.returns-in-Err-clause-files
+returns-in-Err-clause-files g c = first_of_three _ _ _ _ _ _ c.in-Err.ensures
+
+pub returns-in-Err-read_text-clause-files : goal.returns-in-Err-read_text-clause-files
+returns-in-Err-read_text-clause-files g c = second_of_three _ _ _ _ _ _ _ _ c.in-Ok.ensures c.in-Err-read_text.ensures
+
+pub returns-in-Err-read_text-2-clause-files : goal.returns-in-Err-read_text-2-clause-files
+returns-in-Err-read_text-2-clause-files g c = third_of_three _ _ _ _ _ _ _ _ _ _ c.in-Ok.ensures c.in-Ok-read_text.ensures c.in-Err-read_text-2.ensures
+
+pub returns-in-Ok-read_text-2-clause-files : goal.returns-in-Ok-read_text-2-clause-files
+returns-in-Ok-read_text-2-clause-files g c = all_read _ _ _ _ _ _ _ _ _ _ _ c.in-Ok.ensures c.in-Ok-read_text.ensures c.in-Ok-read_text-2.ensures
