@@ -2,8 +2,11 @@
 # Prints large designs, and their constraints.
 #   design.sh channels N     N handshake channels of 8 bits each, those of `selftest N`
 #   design.sh blocks N       N blocks, each with a pipeline of 32 bits, a decoder, a Gray-coded counter and a channel
+#   design.sh chip N         N tiles: such a block with a checksum of what it received; 880 are near the limits of signals and of cells
 #   design.sh doublings      a wire that is the exclusive or of the one before with itself, 64 times over, in trees of 2^64 leaves
 #   design.sh spaces         8 MiB of spaces
+#   design.sh handshake      a handshake that carries two bits, 10 register bits in all
+#   design.sh record N       a record of N steps of it, in each of which both clocks tick
 #   design.sh constraints    two clocks, and the inputs `send` and `d`
 set -eu
 
@@ -25,7 +28,7 @@ channels() {
     }'
 }
 
-blocks() {
+parts() {
     cat <<'V'
 module channel(input ca, cb, put, input [31:0] d, output ready, output reg [31:0] q, output take);
   reg req = 0, k1 = 0, k2 = 0, s1 = 0, s2 = 0, ack = 0; reg [31:0] hold;
@@ -69,9 +72,38 @@ module block(input ca, cb, step, input [31:0] x, output [31:0] y);
   pipeline u_pipeline(cb, take, sent[1:0], sent, y);
 endmodule
 V
+}
+
+blocks() {
+    parts
     awk -v n="$1" 'BEGIN {
         print "module m(input ca, cb, send, input [7:0] d);"
         for (i = 0; i < n; i++) printf "wire [31:0] y%d; block b%d(ca, cb, send, {4{d}}, y%d);\n", i, i, i
+        print "endmodule"
+    }'
+}
+
+chip() {
+    parts
+    cat <<'V'
+module checksum(input c, step, input [4:0] x, output reg [15:0] sum);
+  wire [15:0] s0 = sum ^ {x, 11'd0};
+  wire [15:0] s1 = {s0[14:0], 1'b0} ^ (s0[15] ? 16'h1021 : 16'd0);
+  wire [15:0] s2 = {s1[14:0], 1'b0} ^ (s1[15] ? 16'h1021 : 16'd0);
+  wire [15:0] s3 = {s2[14:0], 1'b0} ^ (s2[15] ? 16'h1021 : 16'd0);
+  wire [15:0] s4 = {s3[14:0], 1'b0} ^ (s3[15] ? 16'h1021 : 16'd0);
+  wire [15:0] s5 = {s4[14:0], 1'b0} ^ (s4[15] ? 16'h1021 : 16'd0);
+  always @(posedge c) if (step) sum <= s5;
+endmodule
+module tile(input ca, cb, step, input [31:0] x, output [31:0] y);
+  wire [15:0] sum;
+  block u_block(ca, cb, step, x, y);
+  checksum u_checksum(cb, y[0], y[12:8], sum);
+endmodule
+V
+    awk -v n="$1" 'BEGIN {
+        print "module m(input ca, cb, send, input [7:0] d);"
+        for (i = 0; i < n; i++) printf "wire [31:0] y%d; tile t%d(ca, cb, send, {4{d}}, y%d);\n", i, i, i
         print "endmodule"
     }'
 }
@@ -84,9 +116,35 @@ doublings() {
     }'
 }
 
+handshake() {
+    cat <<'V'
+module m(input ca, cb, send, input [1:0] d, output [1:0] q);
+reg req = 0, k1 = 0, k2 = 0; reg [1:0] data;
+reg s1 = 0, s2 = 0, s3 = 0; reg [1:0] x;
+always @(posedge ca) begin
+  k1 <= s3; k2 <= k1;
+  if (send && req == k2) begin req <= ~req; data <= d; end
+end
+always @(posedge cb) begin
+  s1 <= req; s2 <= s1; s3 <= s2;
+  if (s2 != s3) x <= data;
+end
+assign q = x;
+endmodule
+V
+}
+
+record() {
+    awk -v n="$1" 'BEGIN {
+        printf "{\"start\":{\"send\":1},\"steps\":["
+        for (i = 0; i < n; i++) printf "%s{\"edges\":[\"ca\",\"cb\"],\"inputs\":{\"d\":%d}}", i ? "," : "", i % 4
+        print "]}"
+    }'
+}
+
 case $1 in
-    channels | blocks) "$1" "$2" ;;
-    doublings) doublings ;;
+    channels | blocks | chip | record) "$1" "$2" ;;
+    doublings | handshake) "$1" ;;
     spaces) head -c 8388608 /dev/zero | tr '\0' ' ' ;;
     constraints)
         printf 'top = "m"\n'

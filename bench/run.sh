@@ -22,6 +22,8 @@ with open(output, "wb") as sink:
 with open(output, "rb") as said:
     lines = said.read().decode(errors="replace").splitlines()
 print("%-34s %8.2f s %7.0f MiB  %s" % (name, took, used.ru_maxrss / 1024, lines[-1] if lines else ""), flush=True)
+if "updates" in os.environ:
+    print("%-34s %8.2f million a second" % ("  register-bit updates", int(os.environ["updates"]) / took / 1e6), flush=True)
 P
 }
 
@@ -39,6 +41,13 @@ audit() {
     compiler "$name"
 }
 
+# A replay of that many steps of a design with 10 register bits, all of which tick in each step.
+replay() {
+    ./design.sh handshake >"$room/handshake.v"
+    ./design.sh record "$1" >"$room/run.json"
+    updates=$((10 * $1)) timed "replay of $1 steps" "$program" replay "$room/handshake.v" "$room/con.toml" "$room/run.json"
+}
+
 ./design.sh constraints >"$room/con.toml"
 timed "selftest 500" "$program" selftest 500
 for count in 100 500 2000; do
@@ -47,5 +56,7 @@ done
 for count in 150 600 1000; do
     audit "blocks$count" blocks "$count"
 done
+audit chip880 chip 880
 audit doublings doublings
+replay 100000
 audit spaces spaces

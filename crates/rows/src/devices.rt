@@ -5,7 +5,7 @@ use std::test::Fail;
 #[test]
 fn words_and_reads(rt: HostRuntime) -> Result<(), Fail> {
     let alloc = rt.alloc();
-    let usage = "usage: cdcaudit audit [--json] NET CON | selftest N\n2";
+    let usage = "usage: cdcaudit audit [--json] NET CON | replay NET CON RUN | selftest N\n2";
     let json =
         "{\"clean\":true,\"covers\":[{\"from\":\"a\",\"n\":2,\"scheme\":\"two-flop\",\"to\":\"s1\"}],\"crossings\":1,\"findings\":[],\"gray\":[],\"rings\":[]}\n0";
     let con = constraints(alloc, "d")?;
@@ -43,6 +43,7 @@ fn words_and_reads(rt: HostRuntime) -> Result<(), Fail> {
         let outside = Outside {
             net: TWO_FLOPS.as_bytes(),
             con: con.as_str(),
+            run: "",
             reads: &[read],
             puts: &[],
         };
@@ -69,6 +70,7 @@ fn puts_that_fail(rt: HostRuntime) -> Result<(), Fail> {
         let outside = Outside {
             net: HANDSHAKE.as_bytes(),
             con: con.as_str(),
+            run: "",
             reads: &[],
             puts: &[put],
         };

@@ -1,11 +1,12 @@
 //! Single layers, each on a design that says most about it.
 use crate::program::{CHIP, HANDSHAKE, TWO_FLOPS, constraints};
-use cdc_base::{Bit, Name, ResetPin, Signal};
+use cdc_base::{Bit, List, Name, ResetPin, Signal};
+use cdc_model::{Given, Race};
 use cell_graph::{Net, Values};
 use cofactor::Plain;
 use domains::Domains;
 use flat_design::{Flat, flatten};
-use settling_sim::Sim;
+use settling_sim::{Sim, StepFault};
 use std::alloc::Global;
 use std::test::Fail;
 use verilog_ast::{ItemBody, Source, Stmt};
@@ -199,5 +200,51 @@ fn a_changing_bit_is_sampled_either_way(rt: HostRuntime) -> Result<(), Fail> {
             "{flip}"
         );
     }
+    Ok(())
+}
+
+fn race(alloc: Global, bit: Bit, flip: &[Bit], other: &[Bit]) -> Result<Race, Fail> {
+    Ok(Race {
+        bit,
+        flip: List::from_vec(Vec::from_slice(alloc, flip)?),
+        other: Some(List::from_vec(Vec::from_slice(alloc, other)?)),
+    })
+}
+
+/// Whether each refusal comes: without an edge, by an input and by a race that don't tick or aren't loose, and by other
+/// bits that give the same value.
+fn refuses(sim: &mut Sim, input: Given, races: &[Race], same: &[Race]) -> bool {
+    let still = Bit {
+        sig: input.sig,
+        at: 0,
+    };
+    sim.step(&[], &[], &[]).err() == Some(StepFault::NoEdge)
+        && sim.step(&[1], &[input], &[]).err() == Some(StepFault::Unticked(still))
+        && matches!(sim.step(&[1], &[], races), Err(StepFault::NotLoose(_, _)))
+        && matches!(sim.step(&[0, 1], &[], same), Err(StepFault::NotOther(_)))
+}
+
+/// 100,000 steps of one simulator, in which a flop samples a toggling bit; each second one comes behind all refusals.
+#[test]
+fn many_steps_and_refusals(rt: HostRuntime) -> Result<(), Fail> {
+    let alloc = rt.alloc();
+    let net = net_of(alloc, TWO_FLOPS)?;
+    let domains = domains_of(alloc, &net, "d")?;
+    let input = bit_of(&net, "d").ok_or("d")?;
+    let source = bit_of(&net, "a").ok_or("a")?;
+    let first = bit_of(&net, "s1").ok_or("s1")?;
+    let races = [race(alloc, first, &[source], &[])?];
+    let same = [race(alloc, first, &[source], &[source])?];
+    let mut sim = Sim::open(alloc, &net, &domains, &[])?;
+    for turn in 0..50_000u64 {
+        let given = Given {
+            sig: input.sig,
+            value: (turn + 1) % 2,
+        };
+        assert!(&rt; sim.step(&[0], &[given], &[]).is_ok());
+        assert!(&rt; refuses(&mut sim, given, &races, &same));
+        assert!(&rt; sim.step(&[0, 1], &[], &races).is_ok());
+    }
+    assert!(&rt; !sim.value(source) && !sim.value(first) && sim.unsettled(first));
     Ok(())
 }

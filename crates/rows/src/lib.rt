@@ -18,6 +18,8 @@ mod program;
 #[cfg(test)]
 mod refused_texts;
 #[cfg(test)]
+mod replays;
+#[cfg(test)]
 mod sharing;
 #[cfg(test)]
 mod waivers;

@@ -108,15 +108,17 @@ fn numbers(alloc: Global, of: &[u32]) -> Result<List<u32>, Fail> {
 pub struct Outside<'a> {
     pub net: &'a [u8],
     pub con: &'a str,
+    pub run: &'a str,
     pub reads: &'a [u32],
     pub puts: &'a [u32],
 }
 
-/// The output of these words, and the status behind it. The files are `net.v` and `con.toml`.
+/// The output of these words, and the status behind it. The files are `net.v`, `con.toml` and `run.json`.
 pub fn answered(alloc: Global, words: &str, outside: &Outside) -> Result<String, Fail> {
     let mut files = List::new(alloc);
     files.push(file(alloc, "net.v", outside.net)?)?;
     files.push(file(alloc, "con.toml", outside.con.as_bytes())?)?;
+    files.push(file(alloc, "run.json", outside.run.as_bytes())?)?;
     let mut files = MemFiles::new(alloc, files, numbers(alloc, outside.reads)?);
     let mut out = MemSink::new(alloc, numbers(alloc, outside.puts)?);
     let mut list: Vec<String> = Vec::new(alloc);
@@ -133,8 +135,21 @@ pub fn audited(alloc: Global, net: &[u8], con: &str) -> Result<String, Fail> {
     let outside = Outside {
         net,
         con,
+        run: "",
         reads: &[],
         puts: &[],
     };
     answered(alloc, "audit net.v con.toml", &outside)
+}
+
+/// The answer to a replay of this record over files and an output that don't fail.
+pub fn replayed(alloc: Global, net: &str, con: &str, run: &str) -> Result<String, Fail> {
+    let outside = Outside {
+        net: net.as_bytes(),
+        con,
+        run,
+        reads: &[],
+        puts: &[],
+    };
+    answered(alloc, "replay net.v con.toml run.json", &outside)
 }
