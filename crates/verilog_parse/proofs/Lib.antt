@@ -1,4 +1,0 @@
-pub mod EventSteps
-pub mod ModuleSteps
-pub mod ParseSteps
-pub mod Ended

@@ -1,4 +1,0 @@
-pub mod PushSteps
-pub mod DeclSteps
-pub mod HeaderSteps
-pub mod InstanceSteps
