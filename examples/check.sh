@@ -1,7 +1,7 @@
 #!/usr/bin/env bash
 # Runs the program on each example and compares its output and status with what is stored beside it. An example is
-# NAME.v, NAME.toml and NAME.expected, whose last line is the status; NAME.json, where there is one, is a record that is
-# replayed; NAME.words, where there is one, has the words behind the program's name.
+# NAME.v, NAME.toml and NAME.expected, whose last line is the status. NAME.words, where there is one, has the words behind
+# the program's name, as for a record NAME.json of the design of another example.
 set -u
 cd "$(dirname "${BASH_SOURCE[0]}")"
 program=${1:-../cdcaudit}
@@ -10,7 +10,6 @@ failed=0
 for expected in *.expected; do
     name=${expected%.expected}
     words=(audit "$name.v" "$name.toml")
-    [ -f "$name.json" ] && words=(replay "$name.v" "$name.toml" "$name.json")
     [ -f "$name.words" ] && read -r -a words <"$name.words"
     answer=$("$program" "${words[@]}"; echo "status $?")
     if [ "$answer" = "$(cat "$expected")" ]; then
