@@ -72,12 +72,13 @@ impl Links {
         width: u8,
     ) -> Result<(), NoMemory> {
         let from = first_piece(pieces, sig);
-        for (place, piece) in pieces.iter().enumerate().skip(from) {
+        let pieces = pieces.get(from..).unwrap_or(&[]);
+        for (step, piece) in pieces.iter().enumerate() {
             if piece.sig != sig {
                 break;
             }
             if meets(piece, at, width) {
-                let vertex = numbered(first.saturating_add(place))?;
+                let vertex = numbered(first.saturating_add(from).saturating_add(step))?;
                 self.add(vertex)?;
             }
         }

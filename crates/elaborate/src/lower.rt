@@ -140,9 +140,10 @@ impl Lowering {
     {
         let pieces = sketch.pieces.as_slice();
         let first = first_piece(pieces, sig);
+        let pieces = pieces.get(first..).unwrap_or(&[]);
         let mut joined = None;
         let mut reached = at;
-        for (place, piece) in pieces.iter().enumerate().skip(first) {
+        for (step, piece) in pieces.iter().enumerate() {
             if piece.sig != sig {
                 break;
             }
@@ -153,7 +154,7 @@ impl Lowering {
                 .min(at.saturating_add(width));
             if low < high {
                 let below = self.filled(joined, reached, low)?;
-                let tree = self.piece(sketch, place);
+                let tree = self.piece(sketch, first.saturating_add(step));
                 let part = self.part(tree, piece, low, high)?;
                 joined = Some(self.above(part, below)?);
                 reached = high;
