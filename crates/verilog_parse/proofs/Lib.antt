@@ -1,0 +1,4 @@
+pub mod EventSteps
+pub mod ModuleSteps
+pub mod ParseSteps
+pub mod Ended

@@ -1,0 +1,4 @@
+pub mod PushSteps
+pub mod DeclSteps
+pub mod HeaderSteps
+pub mod InstanceSteps

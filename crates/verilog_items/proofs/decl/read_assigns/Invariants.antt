@@ -1,0 +1,12 @@
+use Rattle.std.proofs.Common.{◌<◌, length}
+use Rattle.verilog_items.proofs.DeclSteps.{AssignsOn}
+use Rattle.verilog_items.proofs.decl.read_assigns.Given as goal
+
+abbrev pub invariant-loop-after : goal.invariant-loop-after
+invariant-loop-after l = record {
+  lists : AssignsOn 255 l.place l.tokens l.fn.items l.items l.rest;
+  shorter : length l.rest < length l.tokens;
+}
+
+abbrev pub decreases-loop-after : goal.decreases-loop-after
+decreases-loop-after l = length l.rest

@@ -1,0 +1,8 @@
+//! Items of a netlist, read from its tokens.
+#![tactic(auto)]
+
+pub mod copy;
+pub mod decl;
+pub mod header;
+pub mod instance;
+pub mod make;
