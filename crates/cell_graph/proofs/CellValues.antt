@@ -37,7 +37,7 @@ none-past [] i h = omega arith
 none-past (x ∷ xs) zero h = absurd (cc)
 none-past (x ∷ xs) (suc i) h = let l = none-past xs i h in omega arith
 
-length-in_order : {A : Type 0} (f : List A → Cell → A) (before : List A) (cs : List Cell) → length (in_order f before cs) ≡ length before + length cs
+pub length-in_order : {A : Type 0} (f : List A → Cell → A) (before : List A) (cs : List Cell) → length (in_order f before cs) ≡ length before + length cs
 length-in_order f before [] = omega arith
 length-in_order f before (c ∷ cs) = length-in_order f (before ++ f before c ∷ []) cs ∙ (let l = length-append before (f before c ∷ []) in omega arith)
 

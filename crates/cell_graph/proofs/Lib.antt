@@ -1,6 +1,7 @@
 pub mod Bits
 pub mod FeedLists
 pub mod OriginSound
+pub mod Grown
 pub mod Leads
 pub mod Places
 pub mod Shifts

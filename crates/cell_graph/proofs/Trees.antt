@@ -26,7 +26,7 @@ width-reduced kind.And t = refl
 width-reduced kind.Or t = refl
 width-reduced kind.Xor t = refl
 
-width-unfolded : (signals : List Signal) (ts : List Tree) (c : Cell) → width_of signals (map width ts) c ≡ width (unfolded signals ts c)
+pub width-unfolded : (signals : List Signal) (ts : List Tree) (c : Cell) → width_of signals (map width ts) c ≡ width (unfolded signals ts c)
 width-unfolded signals ts (Var sig) = refl
 width-unfolded signals ts (Const w value) = refl
 width-unfolded signals ts (Not a) = width-tree_at ts a
@@ -45,7 +45,7 @@ width-unfolded signals ts (Slice a at w) = refl
 width-unfolded signals ts (Extend a w) = refl
 width-unfolded signals ts (Reduce k a) = width-reduced k (tree_at ts a)
 
-widths-after : (signals : List Signal) (ts : List Tree) (cs : List Cell) → in_order (width_of signals) (map width ts) cs ≡ map width (in_order (unfolded signals) ts cs)
+pub widths-after : (signals : List Signal) (ts : List Tree) (cs : List Cell) → in_order (width_of signals) (map width ts) cs ≡ map width (in_order (unfolded signals) ts cs)
 widths-after signals ts [] = refl
 widths-after signals ts (c ∷ cs) =
     ap (λ ws. in_order (width_of signals) ws cs) (ap (λ w. map width ts ++ w ∷ []) (width-unfolded signals ts c) ∙ sym (map-append width ts (unfolded signals ts c ∷ [])))
@@ -57,11 +57,11 @@ width-tree_of g id = ap (λ ws. width_at ws id) (widths-after g.signals [] g.cel
 
 -- ---- the answers for cells, place by place
 
-length-push : {A : Type 0} (xs : List A) (y : A) → length (xs ++ y ∷ []) ≡ suc (length xs)
+pub length-push : {A : Type 0} (xs : List A) (y : A) → length (xs ++ y ∷ []) ≡ suc (length xs)
 length-push [] y = refl
 length-push (x ∷ xs) y = ap suc (length-push xs y)
 
-get-push_old : {A : Type 0} (xs : List A) (y : A) (k : ℕ) → k < length xs → slice_get (xs ++ y ∷ []) k ≡ slice_get xs k
+pub get-push_old : {A : Type 0} (xs : List A) (y : A) (k : ℕ) → k < length xs → slice_get (xs ++ y ∷ []) k ≡ slice_get xs k
 get-push_old [] y k h = absurd (omega arith)
 get-push_old (x ∷ xs) y zero h = refl
 get-push_old (x ∷ xs) y (suc k) h = get-push_old xs y k (omega arith)

@@ -5,8 +5,10 @@ pub mod Feeds
 pub mod Kept
 pub mod Laws
 pub mod Met
+pub mod Nets
 pub mod Origin
 pub mod Reading
+pub mod Shared
 pub mod Stands
 pub mod Tree
 pub mod Unfolded

@@ -5,15 +5,19 @@
 //! as often as it is used.
 #![tactic(auto)]
 
-ghost use Rattle.std.specs.Prelude.{◌≡◌, ◌≤◌, length, map, vec_len, IfOk, IfErr};
+ghost use Rattle.std.specs.Prelude.{◌≡◌, ◌≤◌, ◌<◌, length, map, vec_len, All, IfOk, IfErr, OnOk};
+ghost use Rattle.cell_graph.specs.declared.cell.CellId.{CellId as Id};
 ghost use Rattle.cell_graph.specs.declared.net.Reg.{Reg as NetRegister};
 ghost use Rattle.elaborate.specs.declared.sketch.Register.{Register as RegisterDraft};
 ghost use Rattle.cdc_base.specs.declared.limits.TheConstants.{MAX_STATE_BITS};
+ghost use Rattle.cell_graph.specs.Nets.{HasNextCells, IsNet, Keeps, register_signals};
+ghost use Rattle.cell_graph.specs.Unfolded.{IsWellFormed};
 ghost use Rattle.refusals.specs.Numbers.{HasNumberIn, elaboration_numbers};
 ghost use Rattle.elaborate.specs.Limits.{state_bits};
-ghost use Rattle.elaborate.specs.Registers.{registers_from};
+ghost use Rattle.elaborate.specs.Words.{IsRegOf, as_word};
 
 mod assigned;
+mod builder;
 mod constant;
 mod draft;
 mod expr;
@@ -28,13 +32,14 @@ mod sketch;
 mod target;
 mod walk;
 
+use crate::builder::{Builder, sized};
 use crate::links::Links;
 use crate::lower::Lowering;
 use crate::memory::{filled, numbered, push};
 use crate::sketch::Sketch;
 use cdc_base::limits::MAX_CELLS;
 use cdc_base::{List, NoMemory, Signal, Stop};
-use cell_graph::{CellId, Graph, Net, Reg};
+use cell_graph::{CellId, Net, Reg};
 use flat_form::Flat;
 use refusals::past_limit;
 use std::alloc::Global;
@@ -47,9 +52,13 @@ use std::alloc::Global;
 /// counted.
 pub fn elaborate(alloc: Global, flat: &Flat) -> Result<Net, Stop>
     ensures numbered { IfErr result (HasNumberIn elaboration_numbers) }
-    ensures registers { IfOk result (λ net. map (λ (r : NetRegister). r.sig) net.regs ≡ registers_from 0 flat.now.signals) }
+    ensures registers { IfOk result (λ net. map (λ (r : NetRegister). r.sig) net.regs ≡ register_signals 0 flat.now.signals) }
     ensures outputs { IfOk result (λ net. length net.outputs ≡ length flat.now.outputs) }
     ensures state_bits { IfOk result (λ net. state_bits flat.now.signals ≤ MAX_STATE_BITS) }
+    ensures signals { IfOk result (λ net. net.graph.signals ≡ map as_word flat.now.signals) }
+    ensures is_net { IfOk result IsNet }
+    ensures next_cells { IfOk result HasNextCells }
+    ensures outputs_stand { IfOk result (λ net. All (λ (o : Id). o.0 < length net.graph.cells) net.outputs) }
 {
     let signals = flat.signals.as_slice();
     if refusal::has_too_many_state_bits(signals) {
@@ -60,7 +69,8 @@ pub fn elaborate(alloc: Global, flat: &Flat) -> Result<Net, Stop>
     if let Some(signal) = first_loop(alloc, signals, &sketch, &links)? {
         return Err(refusal::combinational_loop(alloc, signal));
     }
-    make_net(alloc, signals, &sketch, &links)
+    let net = make_net(alloc, signals, &sketch, &links)?;
+    Ok(net)
 }
 
 /// The first signal with bits that lead back to themselves.
@@ -95,9 +105,14 @@ fn make_net(alloc: Global, signals: &[Signal], sketch: &Sketch, links: &Links) -
     ensures numbered { IfErr result (HasNumberIn elaboration_numbers) }
     ensures registers { IfOk result (λ net. map (λ (r : NetRegister). r.sig) net.regs ≡ map (λ (r : RegisterDraft). r.sig) sketch.now.registers.items) }
     ensures outputs { IfOk result (λ net. length net.outputs ≡ vec_len sketch.now.outputs) }
+    ensures signals { IfOk result (λ net. net.graph.signals ≡ map as_word signals.now) }
+    ensures well_formed { IfOk result (λ net. IsWellFormed net.graph) }
+    ensures fit { IfOk result (λ net. All (IsRegOf net.graph) net.regs) }
+    ensures outputs_stand { IfOk result (λ net. All (λ (o : Id). o.0 < length net.graph.cells) net.outputs) }
 {
+    let words = copied(alloc, signals)?;
     let mut lowering = Lowering {
-        graph: Graph::new(alloc, copied(alloc, signals)?)?,
+        graph: Builder::new(alloc, words)?,
         trees: filled(alloc, None, links.len())?,
     };
     let roots = roots_of(alloc, sketch)?;
@@ -130,46 +145,70 @@ fn roots_of(alloc: Global, sketch: &Sketch) -> Result<Vec<u32>, NoMemory> {
     Ok(roots)
 }
 
-fn finish(alloc: Global, sketch: &Sketch, lowering: Lowering) -> Result<Net, Stop>
+fn finish(alloc: Global, sketch: &Sketch, mut lowering: Lowering) -> Result<Net, Stop>
     ensures numbered { IfErr result (HasNumberIn elaboration_numbers) }
     ensures registers { IfOk result (λ net. map (λ (r : NetRegister). r.sig) net.regs ≡ map (λ (r : RegisterDraft). r.sig) sketch.now.registers.items) }
     ensures outputs { IfOk result (λ net. length net.outputs ≡ vec_len sketch.now.outputs) }
+    ensures signals { IfOk result (λ net. net.graph.signals ≡ lowering.graph.signals) }
+    ensures well_formed { IfOk result (λ net. IsWellFormed net.graph) }
+    ensures fit { IfOk result (λ net. All (IsRegOf net.graph) net.regs) }
+    ensures outputs_stand { IfOk result (λ net. All (λ (o : Id). o.0 < length net.graph.cells) net.outputs) }
 {
-    let mut regs = List::new(alloc);
-    for register in &sketch.registers {
-        regs.push(Reg {
-            sig: register.sig,
-            next: made(&lowering, register.next),
-            clock: made(&lowering, register.clock),
-        })?;
-    }
-    let mut outputs = List::new(alloc);
-    for output in &sketch.outputs {
-        outputs.push(made(&lowering, *output))?;
-    }
+    let regs = registers(alloc, sketch, &mut lowering)?;
+    let outputs = outputs(alloc, sketch, &mut lowering)?;
     let Lowering { graph, trees: _ } = lowering;
     Ok(Net {
-        graph,
+        graph: graph.into_graph(),
         regs,
         outputs,
     })
 }
 
-/// The cell of a draft.
-fn made(lowering: &Lowering, draft: CellId) -> CellId {
-    match lowering.tree(draft.0 as usize) {
-        Some(tree) => tree.cell,
-        None => CellId(0),
+/// The registers, each with its next value at its own bits.
+fn registers(alloc: Global, sketch: &Sketch, lowering: &mut Lowering) -> Result<List<Reg>, Stop>
+    ensures numbered { IfErr result (HasNumberIn elaboration_numbers) }
+    ensures signals { OnOk result (lowering.new.graph.signals ≡ lowering.old.graph.signals) }
+    ensures registers { IfOk result (λ regs. map (λ (r : NetRegister). r.sig) regs ≡ map (λ (r : RegisterDraft). r.sig) sketch.now.registers.items) }
+    ensures fit { IfOk result (λ regs. All (IsRegOf lowering.new.graph) regs) }
+{
+    let mut regs = List::new(alloc);
+    for register in &sketch.registers {
+        let width = lowering.graph.signal_width(register.sig);
+        let next = lowering.word(register.next, width)?;
+        let clock = lowering.word(register.clock, 1)?;
+        regs.push(Reg {
+            sig: register.sig,
+            next,
+            clock,
+        })?;
     }
+    Ok(regs)
 }
 
-fn copied(alloc: Global, signals: &[Signal]) -> Result<List<Signal>, NoMemory> {
+fn outputs(alloc: Global, sketch: &Sketch, lowering: &mut Lowering) -> Result<List<CellId>, Stop>
+    ensures numbered { IfErr result (HasNumberIn elaboration_numbers) }
+    ensures kept { OnOk result (Keeps lowering.old.graph lowering.new.graph) }
+    ensures outputs { IfOk result (λ outputs. length outputs ≡ vec_len sketch.now.outputs) }
+    ensures stand { IfOk result (λ outputs. All (λ (o : Id). o.0 < length lowering.new.graph.cells) outputs) }
+{
+    let mut outputs = List::new(alloc);
+    for output in &sketch.outputs {
+        let cell = lowering.output(*output)?;
+        outputs.push(cell)?;
+    }
+    Ok(outputs)
+}
+
+/// The signals as words of the graph.
+fn copied(alloc: Global, signals: &[Signal]) -> Result<List<Signal>, NoMemory>
+    ensures { IfOk result (λ copies. copies ≡ map as_word signals.now) }
+{
     let mut copies = List::new(alloc);
     for signal in signals {
         copies.push(Signal {
             name: signal.name.copy(alloc)?,
             place: signal.place,
-            width: signal.width,
+            width: sized(signal.width),
             ranged: signal.ranged,
             left: signal.left,
             right: signal.right,

@@ -1,12 +1,14 @@
 //! The cells of a design, made from its drafts once no wire leads back to itself.
-ghost use Rattle.std.specs.Prelude.{IfErr};
+ghost use Rattle.std.specs.Prelude.{◌≡◌, ◌≤◌, ◌<◌, length, IfOk, IfErr, OnOk};
+ghost use Rattle.cell_graph.specs.Nets.{IsWordOf, Keeps};
 ghost use Rattle.refusals.specs.Numbers.{HasNumberIn, elaboration_numbers};
 
+use crate::builder::Builder;
 use crate::draft::{Draft, Form};
 use crate::links::{first_piece, operands};
 use crate::sketch::{Piece, Sketch};
 use cdc_base::{SigKind, Stop};
-use cell_graph::{Cell, CellId, Graph};
+use cell_graph::{Cell, CellId};
 
 /// The cell of a tree, and how many cells the tree has where shared ones are counted each time. The count stops at the
 /// end of `u32`.
@@ -19,7 +21,7 @@ pub struct Tree {
 /// A tree for each vertex that was met so far.
 #[derive(Drop)]
 pub struct Lowering {
-    pub graph: Graph,
+    pub graph: Builder,
     pub trees: Vec<Option<Tree>>,
 }
 
@@ -27,6 +29,29 @@ impl Lowering {
     /// The tree of a vertex that was met.
     pub fn tree(&self, vertex: usize) -> Option<Tree> {
         self.trees.get(vertex).copied().flatten()
+    }
+
+    /// The word of a draft that was met, at `width` bits.
+    pub fn word(&mut self, draft: CellId, width: u8) -> Result<CellId, Stop>
+        requires { (1 ≤ width) × (width ≤ 64) }
+        ensures numbered { IfErr result (HasNumberIn elaboration_numbers) }
+        ensures signals { self.new.graph.signals ≡ self.old.graph.signals }
+        ensures kept { OnOk result (Keeps self.old.graph self.new.graph) }
+        ensures word { IfOk result (λ c. IsWordOf self.new.graph c width) }
+    {
+        let cell = self.cell(draft);
+        self.graph.fitted(cell, width)
+    }
+
+    /// The word of a draft that was met.
+    pub fn output(&mut self, draft: CellId) -> Result<CellId, Stop>
+        ensures numbered { IfErr result (HasNumberIn elaboration_numbers) }
+        ensures signals { self.new.graph.signals ≡ self.old.graph.signals }
+        ensures kept { OnOk result (Keeps self.old.graph self.new.graph) }
+        ensures there { IfOk result (λ c. c.0 < length self.new.graph.cells) }
+    {
+        let cell = self.cell(draft);
+        self.graph.there(cell)
     }
 
     fn operand(&self, id: CellId) -> Tree {
@@ -37,6 +62,7 @@ impl Lowering {
     /// Makes the tree of a vertex from those that it leads to.
     pub fn meet(&mut self, sketch: &Sketch, vertex: usize) -> Result<(), Stop>
         ensures numbered { IfErr result (HasNumberIn elaboration_numbers) }
+        ensures signals { self.new.graph.signals ≡ self.old.graph.signals }
     {
         let drafts = sketch.drafts.as_slice();
         let tree = match drafts.get(vertex) {
@@ -57,6 +83,7 @@ impl Lowering {
 
     fn lower(&mut self, sketch: &Sketch, draft: Draft) -> Result<Tree, Stop>
         ensures numbered { IfErr result (HasNumberIn elaboration_numbers) }
+        ensures signals { self.new.graph.signals ≡ self.old.graph.signals }
     {
         match draft.form {
             Form::Made(cell) => self.made(cell),
@@ -67,6 +94,7 @@ impl Lowering {
     /// Adds a cell over trees that were made before.
     fn add(&mut self, cell: Cell, below: u32) -> Result<Tree, Stop>
         ensures numbered { IfErr result (HasNumberIn elaboration_numbers) }
+        ensures signals { self.new.graph.signals ≡ self.old.graph.signals }
     {
         let cell = self.graph.add(cell)?;
         Ok(Tree {
@@ -78,6 +106,7 @@ impl Lowering {
     /// The `width` bits of the tree from `at` on.
     fn cut(&mut self, tree: Tree, at: u8, width: u8) -> Result<Tree, Stop>
         ensures numbered { IfErr result (HasNumberIn elaboration_numbers) }
+        ensures signals { self.new.graph.signals ≡ self.old.graph.signals }
     {
         if self.graph.width(tree.cell) == width {
             Ok(tree)
@@ -95,6 +124,7 @@ impl Lowering {
 
     fn zero(&mut self, width: u8) -> Result<Tree, Stop>
         ensures numbered { IfErr result (HasNumberIn elaboration_numbers) }
+        ensures signals { self.new.graph.signals ≡ self.old.graph.signals }
     {
         self.add(Cell::Const { width, value: 0 }, 0)
     }
@@ -102,6 +132,7 @@ impl Lowering {
     /// The tree `high` and, below it, what was joined so far.
     fn above(&mut self, high: Tree, low: Option<Tree>) -> Result<Tree, Stop>
         ensures numbered { IfErr result (HasNumberIn elaboration_numbers) }
+        ensures signals { self.new.graph.signals ≡ self.old.graph.signals }
     {
         match low {
             Some(low) => self.add(
@@ -118,6 +149,7 @@ impl Lowering {
     /// What `width` bits of a signal from `at` on stand for: those of its variable, or those of its drivers.
     fn read(&mut self, sketch: &Sketch, sig: u32, at: u8, width: u8) -> Result<Tree, Stop>
         ensures numbered { IfErr result (HasNumberIn elaboration_numbers) }
+        ensures signals { self.new.graph.signals ≡ self.old.graph.signals }
     {
         let kind = self
             .graph
@@ -137,6 +169,7 @@ impl Lowering {
     /// nothing drives are zero.
     fn driven(&mut self, sketch: &Sketch, sig: u32, at: u8, width: u8) -> Result<Tree, Stop>
         ensures numbered { IfErr result (HasNumberIn elaboration_numbers) }
+        ensures signals { self.new.graph.signals ≡ self.old.graph.signals }
     {
         let pieces = sketch.pieces.as_slice();
         let first = first_piece(pieces, sig);
@@ -169,6 +202,7 @@ impl Lowering {
     /// What was joined up to the bit `reached`, with zeros up to the bit `end`.
     fn filled(&mut self, joined: Option<Tree>, reached: u8, end: u8) -> Result<Option<Tree>, Stop>
         ensures numbered { IfErr result (HasNumberIn elaboration_numbers) }
+        ensures signals { self.new.graph.signals ≡ self.old.graph.signals }
     {
         if reached < end {
             let zero = self.zero(end.saturating_sub(reached))?;
@@ -189,6 +223,7 @@ impl Lowering {
     /// The bits of the piece from `low` up to `high`, counted in its signal.
     fn part(&mut self, tree: Tree, piece: &Piece, low: u8, high: u8) -> Result<Tree, Stop>
         ensures numbered { IfErr result (HasNumberIn elaboration_numbers) }
+        ensures signals { self.new.graph.signals ≡ self.old.graph.signals }
     {
         let at = piece.inside.saturating_add(low.saturating_sub(piece.at));
         self.cut(tree, at, high.saturating_sub(low))
@@ -197,6 +232,7 @@ impl Lowering {
     /// The cell of a draft, over the trees of its operands.
     fn made(&mut self, cell: Cell) -> Result<Tree, Stop>
         ensures numbered { IfErr result (HasNumberIn elaboration_numbers) }
+        ensures signals { self.new.graph.signals ≡ self.old.graph.signals }
     {
         let mut below = 0u32;
         for operand in operands(cell) {

@@ -1,6 +1,6 @@
 //! A design's drivers as drafts: which bits of which signal are driven by which tree.
 ghost use Rattle.std.specs.Prelude.{◌≡◌, IfOk, map, length, vec_len};
-ghost use Rattle.elaborate.specs.Registers.{is_register as register_kind, registers_from};
+ghost use Rattle.cell_graph.specs.Nets.{is_register as register_kind, register_signals};
 ghost use Rattle.elaborate.specs.declared.sketch.Register.{Register as RegisterDraft};
 
 use crate::assigned::{Assigned, collect};
@@ -51,7 +51,7 @@ type Nexts = BTreeMap<u32, (CellId, CellId)>;
 impl Sketch {
     /// The drivers of the design.
     pub fn of(alloc: Global, flat: &Flat) -> Result<Sketch, NoMemory>
-        ensures registers { IfOk result (λ s. map (λ (r : RegisterDraft). r.sig) s.registers.items ≡ registers_from 0 flat.now.signals) }
+        ensures registers { IfOk result (λ s. map (λ (r : RegisterDraft). r.sig) s.registers.items ≡ register_signals 0 flat.now.signals) }
         ensures outputs { IfOk result (λ s. vec_len s.outputs ≡ length flat.now.outputs) }
     {
         let signals = flat.signals.as_slice();
@@ -201,7 +201,7 @@ fn registers(
     signals: &[Signal],
     nexts: &Nexts,
 ) -> Result<Vec<Register>, NoMemory>
-    ensures { IfOk result (λ rs. map (λ (r : RegisterDraft). r.sig) rs.items ≡ registers_from 0 signals.now) }
+    ensures { IfOk result (λ rs. map (λ (r : RegisterDraft). r.sig) rs.items ≡ register_signals 0 signals.now) }
 {
     let mut registers = Vec::new(alloc);
     for (place, signal) in signals.iter().enumerate() {

@@ -1,0 +1,24 @@
+use Rattle.std.proofs.Common.{sym, subst, length}
+use Rattle.std.proofs.lemmas.Option.{slice_get_within}
+use Rattle.cell_graph.specs.Cells.{Cells}
+use Rattle.cell_graph.specs.Nets.{Keeps}
+use Rattle.cell_graph.specs.Unfolded.{IsCellOf}
+use Rattle.cell_graph.proofs.Grown.{added-keeps, added-well, width-cell}
+use Rattle.elaborate.proofs.builder.Builder.place.Goals as goal
+
+pub invariant_of-self-2 : goal.invariant_of-self-2
+invariant_of-self-2 c =
+    added-well c.self.inside.graph c.add.new.self c.args.cell c.self.invariant
+    (subst (λ (g : Cells). IsCellOf g (length g.cells) c.args.cell) (sym c.self.view_is) c.requires) c.add.ensures.signals c.in_ok-id.ensures.cells
+
+pub returns-clause-kept : goal.returns-clause-kept
+returns-clause-kept c =
+    subst (λ (g : Cells). Keeps g c.add.new.self) c.self.view_is (added-keeps c.self.inside.graph c.add.new.self c.args.cell c.add.ensures.signals c.in_ok-id.ensures.cells)
+
+pub returns-clause-word : goal.returns-clause-word
+returns-clause-word c =
+    let well = added-well c.self.inside.graph c.add.new.self c.args.cell c.self.invariant
+    (subst (λ (g : Cells). IsCellOf g (length g.cells) c.args.cell) (sym c.self.view_is) c.requires) c.add.ensures.signals c.in_ok-id.ensures.cells in (
+      slice_get_within c.add.new.self.cells c.in_ok-id.id.0 c.args.cell c.in_ok-id.ensures.found,
+      width-cell c.add.new.self well c.in_ok-id.id c.args.cell c.in_ok-id.ensures.found,
+    )
