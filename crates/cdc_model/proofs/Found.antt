@@ -110,7 +110,7 @@ has_next (q ∷ rs) r i = go (q.sig == r.sig) refl (parts q rs r i) (has_next rs
 
 -- ---- crossings
 
-before_any : (x y : Bit) (ms ns : List ℕ) → is_before (by_bit x) (by_bit y) ≡ true → is_before (bit_key x ms) (bit_key y ns) ≡ true
+pub before_any : (x y : Bit) (ms ns : List ℕ) → is_before (by_bit x) (by_bit y) ≡ true → is_before (bit_key x ms) (bit_key y ns) ≡ true
 before_any x y ms ns h = elim (or_cases (nat_lt x.sig y.sig) ((x.sig == y.sig) && is_before (x.at ∷ []) (y.at ∷ [])) h) [
   | inl l ↦ less_before x.sig y.sig (x.at ∷ ms) (y.at ∷ ns) (ltb-true x.sig y.sig l)
   | inr e ↦

@@ -33,3 +33,4 @@ pub mod Within
 pub mod ReadBits
 pub mod Noted
 pub mod Synced
+pub mod Tables

@@ -83,6 +83,13 @@ module _ (net : Net) (domains : Domains) where
   pub net_trees_are : Fit net domains → (grays : GrayReg → Bool) → FindsGrays net domains grays → AreTrees (design_of net domains) (net_trees net grays)
   net_trees_are fit grays finds = trees_are (design_of net domains) (next_tree net) (is_read_by_output net) grays are_next_trees (settles fit) within (λ g h. (finds g).0 h)
 
+  -- the same where no Gray register is looked for
+  pub plain_trees_are : Fit net domains → AreTrees (design_of net domains) (net_trees net (λ g. false))
+  plain_trees_are fit = trees_are (design_of net domains) (next_tree net) (is_read_by_output net) (λ g. false) are_next_trees (settles fit) within (λ g h. absurd (never h))
+    where
+      never : false ≡ true → ⊥
+      never f = cc
+
 -- ---- finite lists
 
 numbers : ℕ → List ℕ

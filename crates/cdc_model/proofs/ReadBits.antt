@@ -85,7 +85,8 @@ module _ (net : Net) (is : IsNet net) (has : HasNextCells net) (cube : Cube) (x 
       let n = node-is net has x l c e in
       reads_within net.graph is.graph cube c x.at b n.0 n.1 (sym (ap (λ t. reads cube t x.at b) tree-is) ∙ h)
 
-  listed : IsAll (λ b. reads cube (next_tree net x.sig) x.at b ≡ true) by_bit (bits_read_by net cube x)
+  -- the list of what the bit reads has exactly that
+  pub listed : IsAll (λ b. reads cube (next_tree net x.sig) x.at b ≡ true) by_bit (bits_read_by net cube x)
   listed = record {
     all = λ b h.
         let w = counted net.graph.signals b.sig b.at (read-within b h) in

@@ -12,7 +12,8 @@ use Rattle.cdc_model.proofs.Chain.{next_at, settling_sync, at_clock, source_sett
 use Rattle.cdc_model.proofs.Behind.{place_unique}
 use Rattle.cdc_model.proofs.Turns.{Moves, moves-append, last_of-append, turns_kept, one_of_two}
 
-last_at : (d : Design) (t : Trees) (m n : ℕ) (f : Bit) (gs : List Bit) → IsChain d t m n f gs → (j : ℕ) × (m ≤ j) × IsAt j (last_of f gs) (f ∷ gs)
+-- the last flop stands behind those that must be there
+pub last_at : (d : Design) (t : Trees) (m n : ℕ) (f : Bit) (gs : List Bit) → IsChain d t m n f gs → (j : ℕ) × (m ≤ j) × IsAt j (last_of f gs) (f ∷ gs)
 last_at d t zero n f [] c = (0, omega arith, refl)
 last_at d t (suc m) n f [] c = absurd c
 last_at d t zero zero f (g ∷ gs) c = absurd c

@@ -1,5 +1,5 @@
 -- What a net and its domains mean as a design with runs.
-use Rattle.std.specs.Prelude.{◌≡◌, ℕ, ◌<◌, Bool, true, cond, not, ◌&&◌, ◌==◌, nat_lt, ◌↔◌, Option, Some, None, option_map, option_and_then, is_some, unwrap_or, List, [], ◌∷◌, ◌++◌, length, slice_get}
+use Rattle.std.specs.Prelude.{◌≡◌, ℕ, ◌<◌, Bool, true, cond, not, ◌&&◌, nat_lt, ◌↔◌, Option, Some, None, option_map, option_and_then, is_some, unwrap_or, List, [], ◌∷◌, ◌++◌, length, slice_get}
 use Rattle.std.specs.List.{list_any}
 use Rattle.std.specs.Option.{option_map_or}
 use Rattle.cdc_base.specs.declared.bit.Bit.{Bit}
@@ -8,7 +8,8 @@ use Rattle.cell_graph.specs.declared.cell.CellId.{CellId}
 use Rattle.cell_graph.specs.declared.cell.Node.{Node}
 use Rattle.cell_graph.specs.declared.net.Net.{Net}
 use Rattle.cell_graph.specs.declared.net.Reg.{Reg}
-use Rattle.cell_graph.specs.Cells.{Cells, cell_width}
+use Rattle.cell_graph.specs.Cells.{Cells}
+pub use Rattle.cell_graph.specs.Nets.{next_cell, bit_count, HasNextCells}
 use Rattle.cell_graph.specs.Cofactor.{known, same, reads}
 use Rattle.cell_graph.specs.Tree.{Tree, Const, width, bit_at, bit, any_below}
 use Rattle.cell_graph.specs.Unfolded.{tree_of}
@@ -30,11 +31,6 @@ trees_of tree outputs grays = record {
   is_gray = grays;
 }
 
--- the cell of a register's next value
-abbrev pub next_cell : List Reg → ℕ → Option CellId
-next_cell [] sig = None
-next_cell (r ∷ rs) sig = cond (r.sig == sig) (Some r.next) (next_cell rs sig)
-
 -- the tree of a cell, or a zero bit
 abbrev pub tree_or_zero : Cells → Option CellId → Tree
 tree_or_zero graph None = Const 1 0
@@ -43,14 +39,6 @@ tree_or_zero graph (Some id) = tree_of graph id
 -- the tree of a register's next value; a zero bit for any other signal
 abbrev pub next_tree : Net → ℕ → Tree
 next_tree net sig = tree_or_zero net.graph (next_cell net.regs sig)
-
--- the bits of a signal; none where there is no such signal
-abbrev pub bit_count : List Signal → ℕ → ℕ
-bit_count signals sig = option_map_or (λ (s : Signal). s.width) (slice_get signals sig) 0
-
--- each register's next value is a cell of the net that is as wide as the register
-abbrev pub HasNextCells : Net → Type 0
-HasNextCells net = (sig : ℕ) (c : CellId) → next_cell net.regs sig ≡ Some c → (c.0 < length net.graph.cells) × (cell_width net.graph c ≡ bit_count net.graph.signals sig)
 
 -- the node of a register bit's next value
 abbrev pub next_node_of : Net → Bit → Option Node

@@ -1,10 +1,14 @@
 //! Register bits: their next values, start values and groups.
-ghost use Rattle.std.specs.Prelude.{◌≡◌, ℕ, false, Option, is_some, [], ◌++◌, ◌<◌, length, List, filter, IfOk};
+ghost use Rattle.std.specs.Prelude.{◌≡◌, ℕ, false, Option, is_some, [], ◌∷◌, ◌++◌, ◌<◌, length, List, filter, IfOk};
 ghost use Rattle.cdc_base.specs.declared.bit.Bit.{Bit};
-ghost use Rattle.cell_graph.specs.Cofactor.{same, reads};
+ghost use Rattle.cell_graph.specs.declared.net.Net.{Net};
+ghost use Rattle.cell_graph.specs.Cells.{Cells, cell_width};
+ghost use Rattle.cell_graph.specs.Cofactor.{known, same, reads};
 ghost use Rattle.cell_graph.specs.Reading as reading;
 ghost use Rattle.cell_graph.specs.Tree.{bit_at};
-ghost use Rattle.cell_graph.specs.Unfolded.{IsWellFormed};
+ghost use Rattle.cell_graph.specs.Unfolded.{IsNodeOf, IsWellFormed, tree_of};
+ghost use Rattle.cofactor.specs.Cubes.{fixings};
+ghost use Rattle.cofactor.specs.Shown.{ShowsMasks};
 ghost use Rattle.cofactor.specs.Walked.{is_sought};
 ghost use Rattle.domains.specs.Assignment.{clock_of, group_of};
 ghost use Rattle.domains.specs.Nets.{IsNet};
@@ -13,7 +17,7 @@ ghost use Rattle.cdc_model.specs.Found.{bits_read_by};
 ghost use Rattle.cdc_model.specs.Marked.{mark_of};
 ghost use Rattle.cdc_model.specs.Nets.{next_cell, next_node_of, next_tree, AreAscending, HasNextCells, bit_count, bits_of_registers, start_of, settle_at};
 ghost use Rattle.cdc_model.specs.Readers.{IsMarked, ShowsBelow};
-ghost use Rattle.cdc_model.specs.Tables.{ShowsNet};
+ghost use Rattle.cdc_model.specs.Tables.{ShowsNet, ShowsNext, cell_there, next_cells};
 
 use crate::below::{Below, Marks};
 use cdc_base::{Bit, List, NoMemory};
@@ -206,7 +210,9 @@ pub fn pair_table(
     one: Fixed,
     another: Fixed,
     bits: &[Bit],
-) -> Result<Table, NoMemory> {
+) -> Result<Table, NoMemory>
+    ensures { IfOk result (λ table. IsNet net.now → HasNextCells net.now → ShowsNext net.now (fixings (one ∷ another ∷ [])) table bits.now) }
+{
     let mut fixed = List::new(alloc);
     fixed.push(one)?;
     fixed.push(another)?;
@@ -214,14 +220,24 @@ pub fn pair_table(
     Table::open_below(alloc, net, &Cube { fixed }, roots.as_slice())
 }
 
-fn next_cells(alloc: Global, net: &Net, bits: &[Bit]) -> Result<Vec<CellId>, NoMemory> {
+/// The cells of these bits' next values.
+fn next_cells(alloc: Global, net: &Net, bits: &[Bit]) -> Result<Vec<CellId>, NoMemory>
+    ensures { IfOk result (λ cells. AreAscending net.now.regs → cells.items ≡ next_cells net.now.regs bits.now) }
+{
     let mut cells = Vec::new(alloc);
     for bit in bits {
-        if let Some(node) = next_node(net, *bit) {
-            cells.push(node.cell).map_err(|_| NoMemory)?;
-        }
+        add_next_cell(net, *bit, &mut cells)?;
     }
     Ok(cells)
+}
+
+fn add_next_cell(net: &Net, bit: Bit, cells: &mut Vec<CellId>) -> Result<(), NoMemory>
+    ensures { IfOk result (λ _. AreAscending net.now.regs → cells.new.items ≡ cells.old.items ++ cell_there (next_cell net.now.regs bit.sig)) }
+{
+    match next_of(net.regs.as_slice(), bit.sig) {
+        Some(cell) => cells.push(cell).map_err(|_| NoMemory),
+        None => Ok(()),
+    }
 }
 
 /// Whether both bits have groups, and different ones.
@@ -258,7 +274,12 @@ pub fn settle_of(domains: &Domains, bit: Bit) -> u8
 }
 
 /// The value that a node has under the table's cube, where it is known.
-pub fn known_value(table: &Table, node: Node) -> Option<bool> {
+pub fn known_value(table: &Table, node: Node) -> Option<bool>
+    ensures cell { (graph : Cells) (cube : reading.Cube) → ShowsMasks graph cube table.now node.cell → node.at < cell_width graph node.cell →
+        result ≡ known cube (tree_of graph node.cell) node.at }
+    ensures net { (net : Net) (cube : reading.Cube) → ShowsNet net cube table.now → IsNodeOf net.graph node →
+        result ≡ known cube (tree_of net.graph node.cell) node.at }
+{
     let masks = table.masks(node.cell);
     if has_bit(masks.known, node.at) {
         Some(has_bit(masks.value, node.at))

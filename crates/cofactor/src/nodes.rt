@@ -1,7 +1,8 @@
 //! The cofactors of one node.
-ghost use Rattle.std.specs.Prelude.{◌≡◌, ◌↔◌, true, option_map, IfOk};
+ghost use Rattle.std.specs.Prelude.{◌≡◌, ◌↔◌, ◌≤◌, true, Some, option_map, IfOk};
 ghost use Rattle.std.specs.List.{Contains};
 ghost use Rattle.cdc_base.specs.declared.bit.Bit.{Bit};
+ghost use Rattle.cell_graph.specs.declared.cell.Node.{Node};
 ghost use Rattle.cell_graph.specs.Cofactor as rules;
 ghost use Rattle.cell_graph.specs.Origin.{origin as tree_origin};
 ghost use Rattle.cell_graph.specs.Unfolded.{IsWellFormed, IsNodeOf, bit_of, tree_of};
@@ -48,8 +49,10 @@ pub fn reads(alloc: Global, net: &Net, node: Node, cube: &Cube) -> Result<List<B
 /// The bit that the node only passes on, through concatenations, slices, extensions and shifts by constants; None
 /// where that is the zero bit.
 pub fn origin(net: &Net, node: Node) -> Option<Node>
-    ensures { IsWellFormed net.now.graph → IsNodeOf net.now.graph node →
+    ensures exact { IsWellFormed net.now.graph → IsNodeOf net.now.graph node →
         tree_origin (tree_of net.now.graph node.cell) node.at ≡ option_map (bit_of net.now.graph) result }
+    ensures within { IsWellFormed net.now.graph → IsNodeOf net.now.graph node →
+        (m : Node) → result ≡ Some m → IsNodeOf net.now.graph m × (m.cell.0 ≤ node.cell.0) }
 {
     let mut reached = node;
     'down: loop {

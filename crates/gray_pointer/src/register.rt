@@ -1,5 +1,8 @@
 //! Registers that may count or hold a Gray code.
-use cdc_base::{NoMemory, Signal};
+ghost use Rattle.std.specs.Prelude.{◌≡◌, ◌↔◌, true, IfOk};
+ghost use Rattle.gray_pointer.specs.Registers.{is_wide, register_at, registers_among, number_code, Fits};
+
+use cdc_base::{Bit, NoMemory, Signal};
 use cell_graph::word::mask;
 use cell_graph::{CellId, Net, Reg};
 use domains::Domains;
@@ -16,7 +19,9 @@ pub struct Register {
 }
 
 /// The registers that may count or hold a Gray code, ascending.
-pub fn registers(alloc: Global, net: &Net, domains: &Domains) -> Result<Vec<Register>, NoMemory> {
+pub fn registers(alloc: Global, net: &Net, domains: &Domains) -> Result<Vec<Register>, NoMemory>
+    ensures { IfOk result (λ registers. registers.items ≡ registers_among net.now domains.now net.now.regs) }
+{
     let mut registers = Vec::new(alloc);
     for reg in net.regs.as_slice() {
         if let Some(register) = register_of(net, domains, reg) {
@@ -26,15 +31,14 @@ pub fn registers(alloc: Global, net: &Net, domains: &Domains) -> Result<Vec<Regi
     Ok(registers)
 }
 
-fn register_of(net: &Net, domains: &Domains, reg: &Reg) -> Option<Register> {
-    let place = reg.sig as usize;
-    let signal = net.graph.signals().get(place)?;
-    let clock = domains
-        .clock_by_sig
-        .as_slice()
-        .get(place)
-        .copied()
-        .flatten()?;
+fn register_of(net: &Net, domains: &Domains, reg: &Reg) -> Option<Register>
+    ensures { result ≡ register_at net.now domains.now reg.now }
+{
+    let signal = net.graph.signals().get(reg.sig as usize)?;
+    let clock = domains.clock_of(Bit {
+        sig: reg.sig,
+        at: 0,
+    })?;
     if is_wide(signal) && signal.known == mask(signal.width) {
         Some(Register {
             sig: reg.sig,
@@ -48,13 +52,17 @@ fn register_of(net: &Net, domains: &Domains, reg: &Reg) -> Option<Register> {
     }
 }
 
-fn is_wide(signal: &Signal) -> bool {
+fn is_wide(signal: &Signal) -> bool
+    ensures { result ≡ is_wide signal.now.width }
+{
     2 <= signal.width && signal.width <= 64
 }
 
 /// Whether the second may hold the Gray code of the first: another register of its clock and width, which starts with
 /// the code.
-pub fn fit(count: &Register, gray: &Register) -> bool {
+pub fn fit(count: &Register, gray: &Register) -> bool
+    ensures { (result ≡ true) ↔ Fits count.now gray.now }
+{
     count.sig != gray.sig
         && count.clock == gray.clock
         && count.width == gray.width
@@ -62,7 +70,9 @@ pub fn fit(count: &Register, gray: &Register) -> bool {
 }
 
 /// The Gray code of a word.
-pub fn gray_code(word: u64) -> u64 {
+pub fn gray_code(word: u64) -> u64
+    ensures { result ≡ number_code word }
+{
     word ^ (word >> 1)
 }
 

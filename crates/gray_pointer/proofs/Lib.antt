@@ -1,0 +1,12 @@
+pub mod Adding
+pub mod Bits
+pub mod Codes
+pub mod Counts
+pub mod Grays
+pub mod Joints
+pub mod Leaves
+pub mod Places
+pub mod Registers
+pub mod Taken
+pub mod Trees
+pub mod Wholes

@@ -1,0 +1,28 @@
+-- The places ascend, and so do the registers there.
+use Rattle.std.proofs.Common.{◌∙◌, sym, subst, List, Contains, eqb}
+use Rattle.std.proofs.lemmas.List.Filters.{dedup_is}
+use Rattle.std.proofs.lemmas.List.Kept.{AllPairs-from_increasing}
+use Rattle.std.proofs.lemmas.Map.Keys.{IsStrictlyIncreasing-dedup}
+use Rattle.std.specs.List.Sorted.{IsStrictlyIncreasing}
+use Rattle.cofactor.proofs.Places.{if_ok}
+use Rattle.cdc_model.proofs.Justify.{slice_in}
+use Rattle.gray_pointer.specs.declared.register.Register.{Register}
+use Rattle.gray_pointer.specs.Registers.{Ascend}
+use Rattle.gray_pointer.proofs.Registers.{from_taken, taken_ascend}
+use Rattle.gray_pointer.proofs.candidates.Candidates.counters_of.Goals as goal
+
+pub returns-clause-only : goal.returns-clause-only
+returns-clause-only c = if_ok c.registers_at.result
+    (λ found e r k.
+    let at = from_taken c.args.registers.now c.as_slice.result.now r (subst (λ (l : List Register). Contains l r) e k) in
+    slice_in c.args.registers.now at.0 r at.2)
+    c.registers_at.ensures
+
+pub returns-clause-ordered : goal.returns-clause-ordered
+returns-clause-ordered c = if_ok c.registers_at.result
+    (λ found e up.
+    subst Ascend (sym e) (taken_ascend c.args.registers.now up c.as_slice.result.now
+    (AllPairs-from_increasing c.as_slice.result.now
+    (subst IsStrictlyIncreasing (sym (c.as_slice.ensures.value ∙ dedup_is eqb c.sort_unstable.new.self.items c.dedup.new.self.items c.dedup.ensures.filtered))
+    (IsStrictlyIncreasing-dedup c.sort_unstable.new.self.items c.sort_unstable.ensures.sorted)))))
+    c.registers_at.ensures
