@@ -1,0 +1,4 @@
+pub mod Order
+pub mod Pairs
+pub mod AllRings
+pub mod Known
