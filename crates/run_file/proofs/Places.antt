@@ -50,7 +50,7 @@ never-wider v w h at_most =
     let less : v < 2 ^ w = omega arith in
     grind (arith, nat_tests)
 
-text-same : (a b : List ℕ) → bytes_eq a b ≡ true → a ≡ b
+pub text-same : (a b : List ℕ) → bytes_eq a b ≡ true → a ≡ b
 text-same a b h = search (rules, bytes_eq-Decides)
 
 offset-named : (s : Signal) (t : List ℕ) (n at : ℕ) → offset_named s t n ≡ Some at → (at < n) × (t ≡ bit_text s at)
@@ -75,7 +75,7 @@ pub record IsFoundAt (k : ℕ) (ss : List Signal) (t : List ℕ) (b : Bit) : Typ
   pub within : b.at < signal.width
   pub named : t ≡ bit_text signal b.at
 
-bit-found : (k : ℕ) (ss : List Signal) (t : List ℕ) (b : Bit) → bit_from k ss t ≡ Some b → IsFoundAt k ss t b
+pub bit-found : (k : ℕ) (ss : List Signal) (t : List ℕ) (b : Bit) → bit_from k ss t ≡ Some b → IsFoundAt k ss t b
 bit-found k [] t b e = cc
 bit-found k (s ∷ ss) t b e = go (offset_named s t s.width) refl e (bit-found (k + 1) ss t b)
   where

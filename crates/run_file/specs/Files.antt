@@ -1,5 +1,5 @@
 -- What a record says: its meaning on a net, or the first rule that it breaks.
-use Rattle.std.specs.Prelude.{◌≡◌, ℕ, List, [], ◌∷◌, length, nat_lt, Some, Result, Ok, Err, IsUtf8, ⊤, ◌⊎◌, if◌then◌else◌}
+use Rattle.std.specs.Prelude.{◌≡◌, ◌≤◌, ℕ, All, List, [], ◌∷◌, length, nat_lt, Some, Result, Ok, Err, IsUtf8, ⊤, ◌⊎◌, if◌then◌else◌}
 use Rattle.cdc_base.specs.declared.fault.Fault.{Fault}
 use Rattle.cdc_base.specs.declared.fault.Stop.{Stop}
 use Rattle.cdc_base.specs.declared.fault.Stop.TheVariants.{Refused, Memory}
@@ -9,6 +9,8 @@ use Rattle.domains.specs.declared.Domains.{Domains}
 use Rattle.cdc_model.specs.declared.record.Record.{Record}
 use Rattle.serde_json.specs.Data.{Data}
 use Rattle.serde_json.specs.Read.{read as read_text}
+use Rattle.settling_sim.specs.Opened.{AreStarts}
+use Rattle.settling_sim.specs.Runs.{IsStepOf}
 use Rattle.run_file.specs.declared.document.Document.{Document}
 use Rattle.run_file.specs.Names.{each, start_value, step}
 use Rattle.run_file.specs.Shapes.{document}
@@ -39,3 +41,9 @@ IsBroken net domains bytes f = ((f ≡ broken 501 []) × ((d : Data) → ¬ IsTr
 abbrev pub IsStopOf : Net → Domains → List ℕ → Stop → Type 0
 IsStopOf net domains bytes (Refused f) = IsBroken net domains bytes f
 IsStopOf net domains bytes Memory = ⊤
+
+-- The record is one of this net: start values, inputs and races that fit it, each named once, and not too many steps.
+pub record FitsNet (net : Net) (domains : Domains) (r : Record) : Type 0 where
+  pub starts : AreStarts net domains r.start
+  pub steps : All (IsStepOf net domains) r.steps
+  pub few : length r.steps ≤ 100000

@@ -5,7 +5,8 @@ ghost use Rattle.refusals.specs.Numbers.{HasNumberIn};
 ghost use Rattle.run_file.specs.Numbers.{record_numbers};
 ghost use Rattle.clock_constraints.specs.Refusals.{Gives};
 ghost use Rattle.run_file.specs.Names.{CanRead};
-ghost use Rattle.run_file.specs.Files.{named, record_of, IsMeaning, IsStopOf};
+ghost use Rattle.domains.specs.Nets.{IsNet};
+ghost use Rattle.run_file.specs.Files.{named, record_of, FitsNet, IsMeaning, IsStopOf};
 ghost use Rattle.run_file.specs.Tables.{CanName};
 
 use crate::document::Document;
@@ -56,6 +57,7 @@ fn named_record(
 /// differs from a known one.
 pub fn read(alloc: Global, text: &[u8], net: &Net, domains: &Domains) -> Result<Record, Stop>
     ensures ok { CanRead net.now domains.now → IfOk result (IsMeaning net.now domains.now text.now) }
+    ensures fit { IsNet net.now → CanRead net.now domains.now → IfOk result (FitsNet net.now domains.now) }
     ensures numbered { IfErr result (HasNumberIn record_numbers) }
     ensures refused { CanRead net.now domains.now → IfErr result (IsStopOf net.now domains.now text.now) }
 {
