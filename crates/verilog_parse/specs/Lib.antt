@@ -1,2 +1,6 @@
 pub mod Forms
 pub mod Refusals
+pub mod Printed
+pub mod Pieces
+pub mod Texts
+pub mod Kinds

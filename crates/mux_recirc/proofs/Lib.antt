@@ -1,0 +1,10 @@
+pub mod Unfixed
+pub mod Facts
+pub mod Listed
+pub mod Tables
+pub mod Cut
+pub mod Asked
+pub mod Search
+pub mod Meaning
+pub mod Plain
+pub mod Chunks
