@@ -6,4 +6,3 @@ pub mod ReadInTurn
 pub mod Answered
 pub mod Finished
 pub mod Replayed
-pub mod Replays

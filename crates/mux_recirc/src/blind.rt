@@ -1,17 +1,7 @@
 //! Crossings whose end doesn't read the source while a gate is shut.
-ghost use Rattle.std.specs.Prelude.{◌≡◌, ◌<◌, true, false, ◌↔◌, List, Contains, IfOk};
-ghost use Rattle.cdc_base.specs.declared.bit.Bit.{Bit};
-ghost use Rattle.cofactor.specs.Order.{AreAscending};
-ghost use Rattle.domains.specs.Nets.{IsNet};
-ghost use Rattle.cdc_model.specs.Nets.{HasNextCells, bit_count};
-ghost use Rattle.cdc_model.specs.Tables.{ShowsNext};
-ghost use Rattle.mux_recirc.specs.Blind.{keeps_shut, ShowsShut, is_behind};
-ghost use Rattle.mux_recirc.specs.Shown.{equal};
-
 use crate::parts::Parts;
-use crate::shown::{bits_read_under, keeps_value};
 use cdc_base::{Bit, NoMemory};
-use cdc_model::view::{are_together, bits_read, pair_table};
+use cdc_model::view::{are_together, bits_read, copied_bit, pair_table};
 use cdc_model::{Crossing, Ring};
 use cell_graph::Net;
 use cofactor::{Fixed, Table};
@@ -129,9 +119,7 @@ fn questions_of(
 }
 
 /// Whether the bit has the group of the ring's acknowledgement.
-fn is_behind(domains: &Domains, rings: &[Ring], ring: usize, bit: Bit) -> bool
-    ensures { result ≡ is_behind domains.now rings.now ring bit }
-{
+fn is_behind(domains: &Domains, rings: &[Ring], ring: usize, bit: Bit) -> bool {
     match rings.get(ring) {
         Some(ring) => match ring.bits.as_slice().get(ring.ack as usize) {
             Some(acknowledge) => are_together(domains, bit, *acknowledge),
@@ -207,14 +195,15 @@ impl<'a> Search<'a> {
         let Some(run) = self.runs.get(run).copied() else {
             return Ok(());
         };
-        let low = bits_read_under(alloc, self.net, &mut shut.low, run.to)?;
-        let high = bits_read_under(alloc, self.net, &mut shut.high, run.to)?;
+        let low = bits_read(alloc, self.net, &mut shut.low, run.to)?;
+        let high = bits_read(alloc, self.net, &mut shut.high, run.to)?;
         let recirculating = shut.keeps(self.net, run.to);
         for crossing in run.start..run.end {
             let Some(Crossing { from, .. }) = self.crossings.get(crossing).copied() else {
                 break;
             };
-            let is_read = has(low.as_slice(), from) || has(high.as_slice(), from);
+            let is_read = low.as_slice().binary_search(&from).is_ok()
+                || high.as_slice().binary_search(&from).is_ok();
             if !is_read && are_together(self.domains, from, request) {
                 found
                     .push(Blind {
@@ -227,13 +216,6 @@ impl<'a> Search<'a> {
         }
         Ok(())
     }
-}
-
-/// Whether a bit is among ascending ones.
-fn has(bits: &[Bit], bit: Bit) -> bool
-    ensures { AreAscending bits.now → (result ≡ true) ↔ Contains bits.now bit }
-{
-    bits.binary_search(&bit).is_ok()
 }
 
 /// The tables in which the two bits of a gate are equal, for the next values of the ends of some crossings.
@@ -250,9 +232,7 @@ impl Shut {
         ring: &Ring,
         gate: u32,
         ends: &[Bit],
-    ) -> Result<Option<Shut>, NoMemory>
-        ensures { IfOk result (λ shut. IsNet net.now → HasNextCells net.now → ShowsShut net.now ring.now gate ends.now shut) }
-    {
+    ) -> Result<Option<Shut>, NoMemory> {
         let bits = ring.bits.as_slice();
         let place = gate as usize;
         let (Some(one), Some(another)) = (bits.get(place), bits.get(place.saturating_add(1))) else {
@@ -265,11 +245,9 @@ impl Shut {
     }
 
     /// Whether the bit keeps its value in both tables.
-    fn keeps(&self, net: &Net, bit: Bit) -> bool
-        ensures { (p q : Bit) (bits : List Bit) → IsNet net.now → HasNextCells net.now → ShowsNext net.now (equal p q false) self.now.low bits →
-            ShowsNext net.now (equal p q true) self.now.high bits → Contains bits bit → bit.at < bit_count net.now.graph.signals bit.sig → result ≡ keeps_shut net.now p q bit }
-    {
-        keeps_value(net, &self.low, bit) && keeps_value(net, &self.high, bit)
+    fn keeps(&self, net: &Net, bit: Bit) -> bool {
+        copied_bit(net, &self.low, bit) == Some(bit)
+            && copied_bit(net, &self.high, bit) == Some(bit)
     }
 }
 
@@ -280,9 +258,7 @@ fn equal(
     another: Bit,
     value: bool,
     ends: &[Bit],
-) -> Result<Table, NoMemory>
-    ensures { IfOk result (λ table. IsNet net.now → HasNextCells net.now → ShowsNext net.now (equal one another value) table ends.now) }
-{
+) -> Result<Table, NoMemory> {
     let one = Fixed { bit: one, value };
     let another = Fixed {
         bit: another,

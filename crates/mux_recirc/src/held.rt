@@ -1,15 +1,5 @@
 //! Data bits that keep their value while a ring is under way.
-ghost use Rattle.std.specs.Prelude.{◌≡◌, ◌++◌, ◌<◌, true, false, List, map, Contains, IfOk, slice_get};
-ghost use Rattle.cdc_base.specs.declared.bit.Bit.{Bit};
-ghost use Rattle.domains.specs.Nets.{IsNet};
-ghost use Rattle.cdc_model.specs.Nets.{HasNextCells, bit_count};
-ghost use Rattle.cdc_model.specs.Tables.{ShowsNext};
-ghost use Rattle.mux_recirc.specs.declared.held.Question.{Question as QuestionOf};
-ghost use Rattle.mux_recirc.specs.Held.{keeps_between, ShowsBusy, AreWithin, part_if, held_in, question_if, request_at, is_before};
-ghost use Rattle.mux_recirc.specs.Shown.{differing};
-
-use crate::parts::{Part, Parts, parts_at};
-use crate::shown::keeps_value;
+use crate::parts::{Part, Parts};
 use cdc_base::{Bit, NoMemory};
 use cdc_model::view::{are_together, bits_read, copied_bit, next_node, pair_table};
 use cdc_model::{Crossing, Ring};
@@ -74,7 +64,10 @@ impl Held {
 
     /// The rings under which a bit is held, those of a constant bit left out, ascending.
     pub fn pairs_of(&self, bit: Bit) -> &[Part] {
-        parts_at(self.pairs.as_slice(), bit)
+        let pairs = self.pairs.as_slice();
+        let first = pairs.partition_point(|part| part.bit < bit);
+        let end = pairs.partition_point(|part| part.bit <= bit);
+        pairs.get(first..end).unwrap_or(&[])
     }
 }
 
@@ -98,33 +91,19 @@ fn ask(
     ring: usize,
     bit: Bit,
     questions: &mut Vec<Question>,
-) -> Result<(), NoMemory>
-    ensures { IfOk result (λ _. questions.new.items ≡ questions.old.items ++ question_if (is_before domains.now rings.now ring bit) ring bit) }
-{
-    if is_before(domains, rings, ring, bit) {
-        questions.push(Question { ring, bit }).map_err(|_| NoMemory)
-    } else {
-        Ok(())
+) -> Result<(), NoMemory> {
+    if let Some(request) = request_of(rings, ring) {
+        if are_together(domains, bit, request) {
+            questions
+                .push(Question { ring, bit })
+                .map_err(|_| NoMemory)?;
+        }
     }
+    Ok(())
 }
 
-/// Whether the bit has the group of the ring's request.
-fn is_before(domains: &Domains, rings: &[Ring], ring: usize, bit: Bit) -> bool
-    ensures { result ≡ is_before domains.now rings.now ring bit }
-{
-    match request_of(rings, ring) {
-        Some(request) => are_together(domains, bit, request),
-        None => false,
-    }
-}
-
-fn request_of(rings: &[Ring], ring: usize) -> Option<Bit>
-    ensures { result ≡ request_at rings.now ring }
-{
-    match rings.get(ring) {
-        Some(ring) => ring.bits.as_slice().first().copied(),
-        None => None,
-    }
+fn request_of(rings: &[Ring], ring: usize) -> Option<Bit> {
+    rings.get(ring)?.bits.as_slice().first().copied()
 }
 
 /// The tables in which the two ends of a ring differ, for the next values of some bits.
@@ -135,9 +114,7 @@ struct Busy {
 }
 
 impl Busy {
-    fn open(alloc: Global, net: &Net, ring: &Ring, bits: &[Bit]) -> Result<Option<Busy>, NoMemory>
-        ensures { IfOk result (λ busy. IsNet net.now → HasNextCells net.now → ShowsBusy net.now ring.now bits.now busy) }
-    {
+    fn open(alloc: Global, net: &Net, ring: &Ring, bits: &[Bit]) -> Result<Option<Busy>, NoMemory> {
         let ends = ring.bits.as_slice();
         let (Some(request), Some(last)) = (ends.first(), ends.last()) else {
             return Ok(None);
@@ -148,23 +125,10 @@ impl Busy {
         }))
     }
 
-    /// Adds what is asked for, if the bit keeps its value.
-    fn add_held(&self, net: &Net, question: Question, pairs: &mut Vec<Part>) -> Result<(), NoMemory>
-        ensures { IfOk result (λ _. (request last : Bit) (bits : List Bit) → IsNet net.now → HasNextCells net.now →
-            ShowsNext net.now (differing request last true) self.now.rising bits → ShowsNext net.now (differing request last false) self.now.falling bits →
-            Contains bits question.bit → question.bit.at < bit_count net.now.graph.signals question.bit.sig →
-            pairs.new.items ≡ pairs.old.items ++ part_if (keeps_between net.now request last question.bit) question) }
-    {
-        add_if(self.keeps(net, question.bit), question, pairs)
-    }
-
     /// Whether the bit keeps its value in both tables.
-    fn keeps(&self, net: &Net, bit: Bit) -> bool
-        ensures { (request last : Bit) (bits : List Bit) → IsNet net.now → HasNextCells net.now → ShowsNext net.now (differing request last true) self.now.rising bits →
-            ShowsNext net.now (differing request last false) self.now.falling bits → Contains bits bit → bit.at < bit_count net.now.graph.signals bit.sig →
-            result ≡ keeps_between net.now request last bit }
-    {
-        keeps_value(net, &self.rising, bit) && keeps_value(net, &self.falling, bit)
+    fn keeps(&self, net: &Net, bit: Bit) -> bool {
+        copied_bit(net, &self.rising, bit) == Some(bit)
+            && copied_bit(net, &self.falling, bit) == Some(bit)
     }
 }
 
@@ -175,9 +139,7 @@ fn differing(
     last: Bit,
     value: bool,
     bits: &[Bit],
-) -> Result<Table, NoMemory>
-    ensures { IfOk result (λ table. IsNet net.now → HasNextCells net.now → ShowsNext net.now (differing request last value) table bits.now) }
-{
+) -> Result<Table, NoMemory> {
     let request = Fixed {
         bit: request,
         value,
@@ -221,34 +183,25 @@ fn answer(
     ring: &Ring,
     questions: &[Question],
     pairs: &mut Vec<Part>,
-) -> Result<(), NoMemory>
-    ensures { IfOk result (λ _. IsNet net.now → HasNextCells net.now → AreWithin net.now questions.now → pairs.new.items ≡ pairs.old.items ++ held_in net.now ring.now questions.now) }
-{
+) -> Result<(), NoMemory> {
     let bits = asked_bits(alloc, questions)?;
     let Some(busy) = Busy::open(alloc, net, ring, bits.as_slice())? else {
         return Ok(());
     };
     for question in questions {
-        busy.add_held(net, *question, pairs)?;
+        if busy.keeps(net, question.bit) {
+            pairs
+                .push(Part {
+                    bit: question.bit,
+                    ring: question.ring,
+                })
+                .map_err(|_| NoMemory)?;
+        }
     }
     Ok(())
 }
 
-/// Adds what is asked for, if the answer is yes.
-fn add_if(holds: bool, question: Question, pairs: &mut Vec<Part>) -> Result<(), NoMemory>
-    ensures { IfOk result (λ _. pairs.new.items ≡ pairs.old.items ++ part_if holds question) }
-{
-    if holds {
-        let Question { ring, bit } = question;
-        pairs.push(Part { bit, ring }).map_err(|_| NoMemory)
-    } else {
-        Ok(())
-    }
-}
-
-fn asked_bits(alloc: Global, questions: &[Question]) -> Result<Vec<Bit>, NoMemory>
-    ensures { IfOk result (λ bits. bits.items ≡ map (λ (q : QuestionOf). q.bit) questions.now) }
-{
+fn asked_bits(alloc: Global, questions: &[Question]) -> Result<Vec<Bit>, NoMemory> {
     let mut bits = Vec::new(alloc);
     for question in questions {
         bits.push(question.bit).map_err(|_| NoMemory)?;

@@ -5,7 +5,6 @@ pub mod blind;
 pub mod guards;
 pub mod held;
 pub mod parts;
-pub mod shown;
 
 use cdc_base::{List, NoMemory};
 use cdc_model::view::plain_table;

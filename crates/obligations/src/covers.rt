@@ -1,35 +1,22 @@
 //! Which crossings the schemes guard.
-ghost use Rattle.std.specs.Prelude.{◌≡◌, ◌++◌, ◌∷◌, [], Some, List, map, length, ◌≤◌, IfOk, OnOk};
-ghost use Rattle.cdc_model.specs.Listed.{sync_entry};
-ghost use Rattle.cdc_model.specs.Ordered.{IsAll, IsAscending};
-ghost use Rattle.cdc_model.specs.Schemes.{Sync as Synchronizer, flops};
-ghost use Rattle.cdc_model.specs.Verdict.{IsCover, cover_key, gray_key, is_code};
-ghost use Rattle.obligations.specs.Covers.{GoTogether, cover_by_load, cover_by_sync, covers_by};
-
 use crate::Found;
 use cdc_base::{Bit, List, NoMemory};
 use cdc_model::{Cover, GrayReg, Load, Scheme, Sync};
 use std::alloc::Global;
 
 /// Whether the word is the code of a Gray register. The registers ascend by it.
-pub fn is_code(grays: &[GrayReg], word: u32) -> bool
-    ensures { IsAscending gray_key grays.now → result ≡ is_code grays.now word }
-{
+pub fn is_code(grays: &[GrayReg], word: u32) -> bool {
     grays
         .binary_search_by_key(&word, |register| register.gray)
         .is_ok()
 }
 
-pub fn first_flop(sync: &Sync) -> Option<Bit>
-    ensures { (s : Synchronizer) → sync.now ≡ sync_entry s → result ≡ Some s.first }
-{
+pub fn first_flop(sync: &Sync) -> Option<Bit> {
     sync.flops.as_slice().first().copied()
 }
 
 /// The cover of a synchronizer's first flop.
-fn cover_of_sync(grays: &[GrayReg], sync: &Sync) -> Option<Cover>
-    ensures { (s : Synchronizer) → IsAscending gray_key grays.now → sync.now ≡ sync_entry s → length (flops s) ≤ 255 → result ≡ Some (cover_by_sync grays.now s) }
-{
+fn cover_of_sync(grays: &[GrayReg], sync: &Sync) -> Option<Cover> {
     let stages = u8::try_from(sync.flops.len()).unwrap_or(u8::MAX);
     let scheme = if is_code(grays, sync.from.sig) {
         Scheme::Gray { stages }
@@ -44,9 +31,7 @@ fn cover_of_sync(grays: &[GrayReg], sync: &Sync) -> Option<Cover>
     })
 }
 
-fn cover_of_load(load: &Load) -> Cover
-    ensures { result ≡ cover_by_load load.now }
-{
+fn cover_of_load(load: &Load) -> Cover {
     let ring = load.ring;
     let scheme = if load.recirculating {
         Scheme::Recirc { ring }
@@ -60,41 +45,17 @@ fn cover_of_load(load: &Load) -> Cover
     }
 }
 
-/// Adds the covers of synchronizers.
-fn add_sync_covers(
-    syncs: &[Sync],
-    grays: &[GrayReg],
-    covers: &mut Vec<Cover>,
-) -> Result<(), NoMemory>
-    ensures { OnOk result ((list : List Synchronizer) (loads : List Load) → syncs.now ≡ map sync_entry list → GoTogether grays.now list loads →
-        covers.new.items ≡ covers.old.items ++ map (cover_by_sync grays.now) list) }
-{
-    for sync in syncs {
-        if let Some(cover) = cover_of_sync(grays, sync) {
+/// The crossings that synchronizers and rings guard, by `to`, then `from`.
+pub fn covers(alloc: Global, found: &Found<'_>) -> Result<List<Cover>, NoMemory> {
+    let mut covers = Vec::new(alloc);
+    for sync in found.syncs {
+        if let Some(cover) = cover_of_sync(found.grays, sync) {
             covers.push(cover).map_err(|_| NoMemory)?;
         }
     }
-    Ok(())
-}
-
-/// Adds the covers of loads.
-fn add_load_covers(loads: &[Load], covers: &mut Vec<Cover>) -> Result<(), NoMemory>
-    ensures { OnOk result (covers.new.items ≡ covers.old.items ++ map cover_by_load loads.now) }
-{
-    for load in loads {
+    for load in found.loads {
         covers.push(cover_of_load(load)).map_err(|_| NoMemory)?;
     }
-    Ok(())
-}
-
-/// The crossings that synchronizers and rings guard, by `to`, then `from`.
-pub fn covers(alloc: Global, found: &Found<'_>) -> Result<List<Cover>, NoMemory>
-    ensures exact { IfOk result (λ covers. (syncs : List Synchronizer) → found.now.syncs.now ≡ map sync_entry syncs → GoTogether found.now.grays.now syncs found.now.loads.now →
-        IsAll (IsCover found.now.grays.now syncs found.now.loads.now) cover_key covers) }
-{
-    let mut covers = Vec::new(alloc);
-    add_sync_covers(found.syncs, found.grays, &mut covers)?;
-    add_load_covers(found.loads, &mut covers)?;
     covers.sort_unstable_by_key(|cover| (cover.to, cover.from));
     Ok(List::from_vec(covers))
 }

@@ -1,7 +1,4 @@
 //! Words and bits that enter a group by several first flops.
-ghost use Rattle.std.specs.Prelude.{IfOk, map};
-ghost use Rattle.obligations.specs.Words.{crossing_of};
-
 use crate::Found;
 use crate::covers::{first_flop, is_code};
 use cdc_base::{Bit, List, NoMemory};
@@ -77,9 +74,7 @@ fn have_many_clocks(lot: &[Entry]) -> bool {
         .any(|(entry, next)| entry.clock != next.clock)
 }
 
-fn crossings_of(alloc: Global, lot: &[Entry]) -> Result<List<Crossing>, NoMemory>
-    ensures { IfOk result (λ crossings. crossings ≡ map crossing_of lot.now) }
-{
+fn crossings_of(alloc: Global, lot: &[Entry]) -> Result<List<Crossing>, NoMemory> {
     let mut crossings = List::new(alloc);
     for entry in lot {
         crossings.push(Crossing {

