@@ -1,5 +1,5 @@
 -- Where no other group stands below a next value, no crossing leads into it.
-use Rattle.std.proofs.Common.{◌≡◌, ◌∙◌, refl, sym, ap, subst, arith, ℕ, ◌+◌, ◌<◌, ◌≤◌, ◌==◌, not, eq-eqb, Bool, true, false, Option, Some, None, option_map, List, [], ◌∷◌, ◌++◌, map, length, length-append, append_assoc, drop, get_or, Contains, slice_get, unwrap_or, Result, Ok, Err}
+use Rattle.std.proofs.Common.{◌≡◌, ◌∙◌, refl, sym, ap, subst, arith, ℕ, ◌+◌, ◌<◌, not, eq-eqb, true, false, Option, Some, None, option_map, List, [], ◌++◌, map, length, length-append, append_assoc, drop, get_or, Contains, slice_get, unwrap_or, Result, Ok, Err}
 use Rattle.std.specs.Prelude.{option_and_then, filter, IfErr}
 use Rattle.std.proofs.lemmas.List.{drop_more}
 use Rattle.std.proofs.lemmas.List.Elements.{Contains-get_or}
@@ -12,13 +12,12 @@ use Rattle.cell_graph.specs.declared.cell.Node.{Node}
 use Rattle.cell_graph.specs.declared.net.Net.{Net}
 use Rattle.cell_graph.specs.Cells.{HasCause}
 use Rattle.cell_graph.specs.Cofactor.{reads}
-use Rattle.cell_graph.specs.Unfolded.{tree_of}
 use Rattle.domains.specs.declared.Domains.{Domains}
 use Rattle.domains.specs.Assignment.{group_of}
 use Rattle.domains.specs.Fit.{Fit}
 use Rattle.domains.specs.Nets.{IsNet}
 use Rattle.cdc_model.specs.declared.below.Marks.{Marks}
-use Rattle.cdc_model.specs.declared.below.Marks.TheVariants.{Nothing, One, Several}
+use Rattle.cdc_model.specs.declared.below.Marks.TheVariants.{Nothing, One}
 use Rattle.cdc_model.specs.declared.scheme.Crossing.{Crossing}
 use Rattle.cdc_model.specs.Design.{differ, are_async}
 use Rattle.cdc_model.specs.Found.{bits_of_signals, bits_read_by, crossings_from, crossings_into, crossings_among}

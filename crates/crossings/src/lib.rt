@@ -2,11 +2,13 @@
 #![tactic(auto)]
 
 ghost use Rattle.std.specs.Prelude.{◌≡◌, false, Some, [], ◌++◌, ◌<◌, ◌≤◌, List, length, map, option_and_then, slice_get, IfOk, IfErr};
+ghost use Rattle.std.specs.List.{Contains};
 ghost use Rattle.cell_graph.specs.Cells.{HasCause};
 ghost use Rattle.cell_graph.specs.Unfolded.{IsWellFormed};
 ghost use Rattle.domains.specs.Fit.{Fit};
 ghost use Rattle.domains.specs.Nets.{IsNet};
 ghost use Rattle.cdc_model.specs.Found.{crossings_from, crossings_into, crossings_of};
+ghost use Rattle.cdc_model.specs.Listed.{IsPathOf};
 ghost use Rattle.cdc_model.specs.Nets.{HasNextCells, bit_count};
 ghost use Rattle.cdc_model.specs.Tables.{ShowsNet};
 ghost use Rattle.crossings.specs.Groups.{ShowsGroups};
@@ -190,9 +192,13 @@ fn too_many(alloc: Global) -> Stop
 pub fn path(
     alloc: Global,
     net: &Net,
-    _domains: &Domains,
+    domains: &Domains,
     crossing: &Crossing,
-) -> Result<List<Node>, NoMemory> {
+) -> Result<List<Node>, NoMemory>
+    ensures { IfOk result (λ path. IsNet net.now → HasNextCells net.now → Contains (crossings_of net.now domains.now) crossing.now →
+        IsPathOf net.now crossing.now.from crossing.now.to path) }
+{
     let plain = plain_table(alloc, net)?;
-    Paths::open(alloc, net)?.path(alloc, net, &plain, crossing)
+    let mut paths = Paths::open(alloc, net)?;
+    paths.path(alloc, net, &plain, crossing)
 }
