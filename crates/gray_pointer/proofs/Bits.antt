@@ -5,7 +5,7 @@ use Rattle.cell_graph.specs.Origin.{TreeBit, origin}
 use Rattle.cdc_model.specs.Word.{cells, origins, IsXorOf, IsTopOf, IsGrayWord}
 
 -- n bits from bit i on
-abbrev pub bits : (ℕ → TreeBit) → ℕ → ℕ → List TreeBit
+abbrev pub bits : {A : Type 0} → (ℕ → A) → ℕ → ℕ → List A
 bits f i zero = []
 bits f i (suc n) = f i ∷ bits f (suc i) n
 
@@ -32,7 +32,7 @@ first_or_later (suc a) (suc b) l = later (first_or_later a b (omega arith))
     later (inl e) = inl (ap suc e)
     later (inr k) = inr (omega arith)
 
-pub each_same : (f h : ℕ → TreeBit) (i n : ℕ) → bits f i n ≡ bits h i n → (j : ℕ) → i ≤ j → j < i + n → f j ≡ h j
+pub each_same : {A : Type 0} (f h : ℕ → A) (i n : ℕ) → bits f i n ≡ bits h i n → (j : ℕ) → i ≤ j → j < i + n → f j ≡ h j
 each_same f h i zero e j l m = absurd (omega arith)
 each_same f h i (suc n) e j l m = go (first_or_later i j l) (λ k. each_same f h (suc i) n (let e : bits f (suc i) n ≡ bits h (suc i) n = cc in e) j k (omega arith))
   where

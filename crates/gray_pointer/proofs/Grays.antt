@@ -13,7 +13,7 @@ use Rattle.cdc_model.proofs.Ascending.{here, parts, nothing_in, Ascends, ascendi
 use Rattle.cdc_model.proofs.Justify.{in_slice}
 use Rattle.cell_graph.specs.Origin.{TreeBit}
 use Rattle.gray_pointer.specs.declared.register.Register.{Register}
-use Rattle.gray_pointer.specs.Grays.{Follows, gray_reg, found_grays, IsFollowed, AreGrays, AreSomeGrays}
+use Rattle.gray_pointer.specs.Grays.{Follows, gray_reg, found_grays, IsFollowed, AreGrays}
 use Rattle.gray_pointer.specs.Registers.{Ascend}
 
 -- a pair has one shape
@@ -71,9 +71,10 @@ module _ (g : Cells) where
     ordered = λ i j x y l e f. cc;
   }
 
-  pub no_register : (counts : List Register) → AreSomeGrays g counts [] []
+  pub no_register : (counts : List Register) → AreGrays g counts [] []
   no_register counts = record {
     only = λ x i. absurd (nothing_in x i);
+    all = λ c r s i j f. absurd (nothing_in r j);
     ordered = λ i j x y l e f. cc;
   }
 
@@ -128,16 +129,23 @@ module _ (g : Cells) where
     }
 
   -- one register more, by its candidates for counters
-  module _ (counts candidates done : List Register) (r : Register) (found more : List GrayReg) (so : AreSomeGrays g counts done found) (own : AreGrays g candidates (r ∷ []) more)
-      (less : (q : Register) → Contains done q → q.sig < r.sig) (only : (c : Register) → Contains candidates c → Contains counts c) where
+  module _ (counts candidates done : List Register) (r : Register) (found more : List GrayReg) (so : AreGrays g counts done found) (own : AreGrays g candidates (r ∷ []) more)
+      (less : (q : Register) → Contains done q → q.sig < r.sig) (only : (c : Register) → Contains candidates c → Contains counts c)
+      (all : (c : Register) (s : Shape) → Contains counts c → Follows g c r s → Contains candidates c) where
     of_one : (q : Register) → Contains (r ∷ []) q → q ≡ r
     of_one q i = elim (parts r [] q i) [ inl e ↦ sym e | inr j ↦ absurd (nothing_in q j) ]
 
-    pub register_more : AreSomeGrays g counts (done ++ r ∷ []) (found ++ more)
+    pub register_more : AreGrays g counts (done ++ r ∷ []) (found ++ more)
     register_more = record {
       only = λ x i. elim (Contains-append_cases found more x i) [
         | inl j ↦ let h = so.only x j in (h.0, h.1, h.2, Contains-append_left done (r ∷ []) h.1 h.3, h.4, h.5)
         | inr j ↦ let h = own.only x j in (h.0, h.1, only h.0 h.2, subst (Contains (done ++ r ∷ [])) (sym (of_one h.1 h.3)) (Contains-push done r), h.4, h.5)
+      ];
+      all = λ c q s i j f. elim (Contains-push_cases done r q j) [
+        | inl k ↦ Contains-append_left found more (gray_reg c q s) (so.all c q s i k f)
+        | inr e ↦ let h = subst (λ (p : Register). Follows g c p s) (sym e) f in
+            subst (λ (p : Register). Contains (found ++ more) (gray_reg c p s)) e
+            (Contains-append_right found more (gray_reg c r s) (own.all c r s (all c s i h) (here r []) h))
       ];
       ordered = joined found more so.ordered own.ordered (λ x y i j.
           let h = so.only x i in
@@ -162,11 +170,11 @@ module _ (g : Cells) (cs : List Register) (r : Register) (i : ℕ) (d : Register
         (counter_more g (take i cs) (get_or cs i d) r more so (before_next cs up i d l) s is),
   )
 
-module _ (g : Cells) (rs candidates : List Register) (i : ℕ) (d : Register) (l : i < length rs) (up : Ascend rs) (found now : List GrayReg) (so : AreSomeGrays g rs (take i rs) found)
-    (only : (c : Register) → Contains candidates c → Contains rs c) where
+module _ (g : Cells) (rs candidates : List Register) (i : ℕ) (d : Register) (l : i < length rs) (up : Ascend rs) (found now : List GrayReg) (so : AreGrays g rs (take i rs) found)
+    (only : (c : Register) → Contains candidates c → Contains rs c) (all : (c : Register) (s : Shape) → Contains rs c → Follows g c (get_or rs i d) s → Contains candidates c) where
   -- one register more of the list
-  pub next_register : (more : List GrayReg) × (now ≡ found ++ more) × AreGrays g candidates (get_or rs i d ∷ []) more → AreSomeGrays g rs (take (i + 1) rs) now
+  pub next_register : (more : List GrayReg) × (now ≡ found ++ more) × AreGrays g candidates (get_or rs i d ∷ []) more → AreGrays g rs (take (i + 1) rs) now
   next_register (more, e, own) =
-      subst (AreSomeGrays g rs (take (i + 1) rs)) (sym e)
-      (subst (λ (l : List Register). AreSomeGrays g rs l (found ++ more)) (sym (take_more rs i d l))
-      (register_more g rs candidates (take i rs) (get_or rs i d) found more so own (before_next rs up i d l) only))
+      subst (AreGrays g rs (take (i + 1) rs)) (sym e)
+      (subst (λ (l : List Register). AreGrays g rs l (found ++ more)) (sym (take_more rs i d l))
+      (register_more g rs candidates (take i rs) (get_or rs i d) found more so own (before_next rs up i d l) only all))

@@ -29,11 +29,11 @@ joint_count b c w n m (Coded k h) = k
 joint_count b c w n m Stay = Own
 joint_count b c w n m (Both s e x y u v same h k) = Choose s x y (joint_count b c w (origins x 0 w) (origins u 0 w) h) (joint_count b c w (origins y 0 w) (origins v 0 w) k)
 
-abbrev IsBoth : ℕ → ℕ → ℕ → List TreeBit → List TreeBit → Type 0
+abbrev pub IsBoth : ℕ → ℕ → ℕ → List TreeBit → List TreeBit → Type 0
 IsBoth b c w n m = (s e x y u v : Tree) × (n ≡ cells (Mux s x y) 0 w) × (m ≡ cells (Mux e u v) 0 w) × (origin s 0 ≡ origin e 0)
     × IsJoint b c w (origins x 0 w) (origins u 0 w) × IsJoint b c w (origins y 0 w) (origins v 0 w)
 
-joint_cases : (b c w : ℕ) (n m : List TreeBit) → IsJoint b c w n m → IsGrayWord m n ⊎ (((n ≡ own_word b w) × (m ≡ own_word c w)) ⊎ IsBoth b c w n m)
+pub joint_cases : (b c w : ℕ) (n m : List TreeBit) → IsJoint b c w n m → IsGrayWord m n ⊎ (((n ≡ own_word b w) × (m ≡ own_word c w)) ⊎ IsBoth b c w n m)
 joint_cases b c w n m (Coded k h) = inl h
 joint_cases b c w n m Stay = inr (inl (refl, refl))
 joint_cases b c w n m (Both s e x y u v same h k) = inr (inr (s, e, x, y, u, v, refl, refl, same, h, k))

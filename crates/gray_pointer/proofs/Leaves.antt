@@ -17,7 +17,7 @@ use Rattle.gray_pointer.proofs.Counts.{IsChosen, count_cases}
 use Rattle.gray_pointer.proofs.Wholes.{bit_signal}
 use Rattle.gray_pointer.proofs.Trees.{tree_there, is_cell, is_var, is_add, is_mux}
 
-count_cells : (sig w : ℕ) (n : List TreeBit) → IsCount sig w n → (t : Tree) × (n ≡ cells t 0 w)
+pub count_cells : (sig w : ℕ) (n : List TreeBit) → IsCount sig w n → (t : Tree) × (n ≡ cells t 0 w)
 count_cells sig w n Own = (tree.Var sig w, refl)
 count_cells sig w n (Plus a b k) = (tree.Add a b, refl)
 count_cells sig w n (Choose c x y h k) = (tree.Mux c x y, refl)

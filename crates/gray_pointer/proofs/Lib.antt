@@ -1,8 +1,12 @@
 pub mod Adding
 pub mod Bits
+pub mod Changes
 pub mod Codes
 pub mod Counts
+pub mod Decoded
+pub mod Every
 pub mod Grays
+pub mod Idle
 pub mod Joints
 pub mod Leaves
 pub mod Places

@@ -6,6 +6,7 @@ use Rattle.std.specs.Int as int
 use Rattle.std.proofs.lemmas.Bool.{and_parts}
 use Rattle.std.proofs.lemmas.Nat.Bits.{bit_at_ones, bit_at_xor, bit_at-lt, bit_at-suc}
 use Rattle.std.proofs.Math.Nat.{div-eq_of_lt}
+use Rattle.std.proofs.Math.Pow.{pow_mono}
 use Rattle.cdc_base.specs.declared.bit.Bit.{Bit}
 use Rattle.cdc_base.specs.declared.signal.Signal.{Signal}
 use Rattle.cell_graph.specs.declared.net.Net.{Net}
@@ -25,9 +26,11 @@ use Rattle.cdc_model.proofs.Ascending.{here, later, parts, nothing_in}
 use Rattle.cdc_model.proofs.Found.{net_ascends}
 use Rattle.cdc_model.proofs.Justify.{in_slice, slice_in}
 use Rattle.gray_pointer.specs.declared.register.Register.{Register}
+use Rattle.gray_pointer.specs.Counters.{AreRegistersIn}
 use Rattle.gray_pointer.specs.Registers.{AreStartsNarrow, is_wide, register_of, register_at, in_front, registers_among, Ascend, taken_at, number_code, Fits}
 use Rattle.gray_pointer.specs.Shapes.{IsRegisterIn}
 use Rattle.gray_pointer.specs.Words.{word_of}
+use Rattle.gray_pointer.proofs.Bits.{bits}
 
 -- ---- a register that was found
 
@@ -169,8 +172,7 @@ taken_ascend rs h (p ∷ places) up = go (slice_get rs p) refl (taken_ascend rs 
 -- ---- start values
 
 abbrev pub bools : ℕ → ℕ → ℕ → List Bool
-bools n i zero = []
-bools n i (suc k) = bit_at n i ∷ bools n (suc i) k
+bools n i k = bits (bit_at n) i k
 
 code_bit : (n i : ℕ) → bit_at (number_code n) i ≡ exclusive_or (bit_at n i) (bit_at n (suc i))
 code_bit n i = ap (λ k. k == 1) (bit_at_xor n (n / 2) i ∙ ap (λ k. (int.bit_at n i + k) % 2) (sym (bit_at-suc n i))) ∙ go (int.bit_at n i) (int.bit_at n (suc i)) (bit_at-lt n i) (bit_at-lt n (suc i))
@@ -260,7 +262,7 @@ module _ (net : Net) (domains : Domains) (is : IsNet net) (has : HasNextCells ne
       let n = narrow.start r.sig f.signal.0 at in
       subst (λ w. r.start < 2 ^ w) (sym f.signal.2) (subst (λ s. s < 2 ^ f.signal.0.width) (sym f.signal.3) n)
 
-moved : (s : Shape) (b c w v : ℕ) (t u t' u' : Tree) → w ≡ v → t ≡ t' → u ≡ u' → HasShape s b c w (origins t 0 w) (origins u 0 w) → HasShape s b c v (origins t' 0 v) (origins u' 0 v)
+pub moved : (s : Shape) (b c w v : ℕ) (t u t' u' : Tree) → w ≡ v → t ≡ t' → u ≡ u' → HasShape s b c w (origins t 0 w) (origins u 0 w) → HasShape s b c v (origins t' 0 v) (origins u' 0 v)
 moved s b c w v t u t' u' e f g h =
     subst (λ (k : ℕ). HasShape s b c k (origins t' 0 k) (origins u' 0 k)) e
     (subst (λ (x : Tree). HasShape s b c w (origins x 0 w) (origins u' 0 w)) f (subst (λ (x : Tree). HasShape s b c w (origins t 0 w) (origins x 0 w)) g h))
@@ -300,5 +302,10 @@ module _ (net : Net) (domains : Domains) (is : IsNet net) (has : HasNextCells ne
             (sym (next_is net domains is has narrow a.0 a.1 count f)) (sym (next_is net domains is has narrow b.0 b.1 gray g)) h;
       }
 
-  pub register_in : (r : Register) → Contains (registers_among net domains net.regs) r → IsRegisterIn net.graph r
-  register_in r i = let a = from_among net domains net.regs r i in is_register_in net domains is has narrow a.0 a.1 r (found net domains a.0 r a.2)
+  pub registers_in : AreRegistersIn net.graph (registers_among net domains net.regs)
+  registers_in r i =
+      let a = from_among net domains net.regs r i in
+      let f = found net domains a.0 r a.2 in
+      let start = start_narrow net domains is has narrow a.0 a.1 r f in
+      let most : 2 ^ r.width ≤ 2 ^ 64 = pow_mono f.wide.1 in
+      (is_register_in net domains is has narrow a.0 a.1 r f, f.wide.0, (omega arith))

@@ -32,8 +32,3 @@ pub record AreGrays (g : Cells) (counts grays : List Register) (found : List Gra
   pub only : (x : GrayReg) → Contains found x → (c r : Register) × Contains counts c × Contains grays r × Follows g c r x.shape × (x ≡ gray_reg c r x.shape)
   pub all : (c r : Register) (s : Shape) → Contains counts c → Contains grays r → Follows g c r s → Contains found (gray_reg c r s)
   pub ordered : IsAscending gray_key found
-
--- Gray registers of some of these counters and registers, each once, ascending.
-pub record AreSomeGrays (g : Cells) (counts grays : List Register) (found : List GrayReg) : Type 0 where
-  pub only : (x : GrayReg) → Contains found x → (c r : Register) × Contains counts c × Contains grays r × Follows g c r x.shape × (x ≡ gray_reg c r x.shape)
-  pub ordered : IsAscending gray_key found

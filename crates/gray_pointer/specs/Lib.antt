@@ -1,3 +1,4 @@
+pub mod Counters
 pub mod Grays
 pub mod Leaves
 pub mod Registers

@@ -1,16 +1,22 @@
 //! Counters whose code a register may hold, found by what the register takes and not by going through all pairs.
-ghost use Rattle.std.specs.Prelude.{◌≡◌, ◌<◌, ℕ, Some, length, Contains, IfOk, slice_get};
+ghost use Rattle.std.specs.Prelude.{◌≡◌, ◌<◌, ◌≤◌, ℕ, Some, length, Contains, IfOk, slice_get};
+ghost use Rattle.std.specs.HashMap as hash;
 ghost use Rattle.cell_graph.specs.declared.cell.Cell.TheVariants.{Var};
 ghost use Rattle.cell_graph.specs.declared.cell.Node.{Node};
 ghost use Rattle.cell_graph.specs.Cells.{cell_at, cell_width};
 ghost use Rattle.cell_graph.specs.Origin.{origin as tree_origin};
 ghost use Rattle.cell_graph.specs.Tree as tree;
 ghost use Rattle.cell_graph.specs.Unfolded.{IsNodeOf, tree_of};
+ghost use Rattle.cdc_model.specs.declared.scheme.Shape.{Shape};
+ghost use Rattle.gray_pointer.specs.contracts.candidates.KeyPartialEq.TheImpl as equality;
+ghost use Rattle.gray_pointer.specs.Counters.{AreRegistersIn, IsCodeOf, IsKey, IsAmong, HasIdle, HasCounters};
+ghost use Rattle.gray_pointer.specs.Grays.{Follows};
 ghost use Rattle.gray_pointer.specs.Leaves.{CountsItself, IsLeaf};
 ghost use Rattle.gray_pointer.specs.Registers.{Ascend, taken_at};
 ghost use Rattle.gray_pointer.specs.Shapes.{IsRegisterIn};
 ghost use Rattle.gray_pointer.specs.Taken.{IsChange};
-ghost use Rattle.gray_pointer.specs.Words.{IsPlain};
+ghost use Rattle.gray_pointer.specs.Words.{IsPlain, HasWord};
+ghost use Rattle.gray_pointer.specs.declared.candidates.Key.{Key as KeyOf};
 ghost use Rattle.gray_pointer.specs.declared.register.Register.{Register};
 
 use crate::register::{Register, decoded};
@@ -20,24 +26,18 @@ use cdc_base::NoMemory;
 use cell_graph::{Cell, CellId, Net, Node};
 use cofactor::origin;
 use std::alloc::Global;
+use std::collections::HashMap;
 
 /// The outermost form of the next value of a register that never changes.
-#[derive(Clone, Copy, PartialEq, Eq, PartialOrd, Ord, Debug, Drop)]
+#[derive(Clone, Copy, PartialEq, Eq, Hash, Debug, Drop)]
 enum Form {
     Own,
     /// A choice by a condition with this origin.
     Choice(Option<Node>),
 }
 
-/// A register that never changes: it takes its own value alone. `place` is its place in the list of registers.
-#[derive(Clone, Copy, PartialEq, Eq, PartialOrd, Ord, Debug, Drop)]
-struct Idle {
-    key: Key,
-    place: usize,
-}
-
 /// What a register that never changes and one that holds its code have in common.
-#[derive(Clone, Copy, PartialEq, Eq, PartialOrd, Ord, Debug, Drop)]
+#[derive(Clone, Copy, PartialEq, Eq, Hash, Debug, Drop)]
 struct Key {
     clock: u32,
     width: u8,
@@ -45,22 +45,27 @@ struct Key {
     form: Form,
 }
 
-/// What is known of all registers before any pair is looked at.
+/// The places of registers, by what each has in common with one that holds its code.
+type Places = HashMap<Key, Vec<usize>>;
+
+/// What is known of all registers before any pair is looked at: those that never change, which take their own values
+/// alone.
 #[derive(Drop)]
 pub struct Candidates {
-    idle: Vec<Idle>,
+    idle: Places,
 }
 
 impl Candidates {
-    pub fn find(alloc: Global, net: &Net, registers: &[Register]) -> Result<Candidates, NoMemory> {
-        let mut idle = Vec::new(alloc);
+    pub fn find(alloc: Global, net: &Net, registers: &[Register]) -> Result<Candidates, NoMemory>
+        ensures { IfOk result (λ candidates. IsPlain net.now.graph → AreRegistersIn net.now.graph registers.now → HasIdle net.now.graph registers.now candidates.idle) }
+    {
+        let mut idle = HashMap::new(alloc);
         for (place, register) in registers.iter().enumerate() {
             if changed_word(alloc, net, register)?.is_none() {
                 let key = key_of(net, register, register.start);
-                idle.push(Idle { key, place }).map_err(|_| NoMemory)?;
+                add_place(alloc, &mut idle, key, place)?;
             }
         }
-        idle.sort_unstable();
         Ok(Candidates { idle })
     }
 
@@ -75,6 +80,9 @@ impl Candidates {
         gray: &Register,
     ) -> Result<Vec<Register>, NoMemory>
         ensures only { IfOk result (λ counters. (r : Register) → Contains counters.items r → Contains registers.now r) }
+        ensures all { IfOk result (λ counters. IsPlain net.now.graph → AreRegistersIn net.now.graph registers.now → Ascend registers.now → IsRegisterIn net.now.graph gray.now →
+            HasIdle net.now.graph registers.now self.now.idle → (count : Register) (s : Shape) → Contains registers.now count → Follows net.now.graph count gray.now s →
+            Contains counters.items count) }
         ensures ordered { IfOk result (λ counters. Ascend registers.now → Ascend counters.items) }
     {
         let mut places = self.places(alloc, net, registers, gray)?;
@@ -90,33 +98,51 @@ impl Candidates {
         net: &Net,
         registers: &[Register],
         gray: &Register,
-    ) -> Result<Vec<usize>, NoMemory> {
+    ) -> Result<Vec<usize>, NoMemory>
+        ensures { IfOk result (λ places. IsPlain net.now.graph → AreRegistersIn net.now.graph registers.now → Ascend registers.now → IsRegisterIn net.now.graph gray.now →
+            HasIdle net.now.graph registers.now self.now.idle → HasCounters net.now.graph registers.now gray.now places.items) }
+    {
         match changed_word(alloc, net, gray)? {
-            Some(word) => places_by_word(alloc, net, registers, word),
-            None => self.idle_places(alloc, net, gray),
-        }
-    }
-
-    fn idle_places(
-        &self,
-        alloc: Global,
-        net: &Net,
-        gray: &Register,
-    ) -> Result<Vec<usize>, NoMemory> {
-        let key = key_of(net, gray, decoded(gray.start));
-        let first = self.idle.partition_point(|idle| idle.key < key);
-        let mut places = Vec::new(alloc);
-        for number in first..self.idle.len() {
-            let Some(idle) = self.idle.get(number) else {
-                break;
-            };
-            if idle.key != key {
-                break;
+            Some(word) => {
+                let places = places_by_word(alloc, net, registers, word)?;
+                Ok(places)
             }
-            places.push(idle.place).map_err(|_| NoMemory)?;
+            None => {
+                let key = key_of(net, gray, decoded(gray.start));
+                let places = places_at(alloc, &self.idle, key)?;
+                Ok(places)
+            }
         }
-        Ok(places)
     }
+}
+
+/// Adds a place to those at a key.
+fn add_place(alloc: Global, places: &mut Places, key: Key, place: usize) -> Result<(), NoMemory>
+    ensures added { IfOk result (λ _. IsAmong (hash.get equality.ghosts.eq places.new key) place) }
+    ensures kept { IfOk result (λ _. (other : KeyOf) (p : ℕ) → IsAmong (hash.get equality.ghosts.eq places.old other) p →
+        IsAmong (hash.get equality.ghosts.eq places.new other) p) }
+{
+    if let Some(there) = places.get_mut(&key) {
+        there.push(place).map_err(|_| NoMemory)?;
+        return Ok(());
+    }
+    let mut first = Vec::new(alloc);
+    first.push(place).map_err(|_| NoMemory)?;
+    places.insert(key, first).map_err(|_| NoMemory)?;
+    Ok(())
+}
+
+/// The places at a key.
+fn places_at(alloc: Global, places: &Places, key: Key) -> Result<Vec<usize>, NoMemory>
+    ensures { IfOk result (λ found. (p : ℕ) → IsAmong (hash.get equality.ghosts.eq places.now key) p → Contains found.items p) }
+{
+    let mut found = Vec::new(alloc);
+    if let Some(there) = places.get(&key) {
+        for place in there.as_slice() {
+            found.push(*place).map_err(|_| NoMemory)?;
+        }
+    }
+    Ok(found)
 }
 
 /// The registers at these places.
@@ -142,7 +168,10 @@ fn register_at(registers: &[Register], place: usize) -> Option<Register>
     registers.get(place).copied()
 }
 
-fn key_of(net: &Net, register: &Register, start: u64) -> Key {
+/// What a register that counts from `start` and the one that holds its code have in common.
+fn key_of(net: &Net, register: &Register, start: u64) -> Key
+    ensures { IsPlain net.now.graph → IsRegisterIn net.now.graph register.now → IsKey net.now.graph register.now start result }
+{
     let form = match choice_of(net, register.next, register.width) {
         Some(choice) => Form::Choice(choice.cond),
         None => Form::Own,
@@ -184,17 +213,24 @@ fn places_by_word(
     net: &Net,
     registers: &[Register],
     code: CellId,
-) -> Result<Vec<usize>, NoMemory> {
+) -> Result<Vec<usize>, NoMemory>
+    ensures { IfOk result (λ places. IsPlain net.now.graph → Ascend registers.now → (w : ℕ) → 2 ≤ w → HasWord net.now.graph code w → (place : ℕ) (count : Register) →
+        slice_get registers.now place ≡ Some count → IsCodeOf net.now.graph count.sig w code → Contains places.items place) }
+{
     let mut found = Vec::new(alloc);
     if let Some(code) = exclusive_of(net, code, 0) {
         add_counted(net, code.one, &mut found)?;
         add_counted(net, code.another, &mut found)?;
     }
-    places_of(alloc, registers, found.as_slice())
+    let places = places_of(alloc, registers, found.as_slice())?;
+    Ok(places)
 }
 
 /// The places of the registers with these signals.
-fn places_of(alloc: Global, registers: &[Register], sigs: &[u32]) -> Result<Vec<usize>, NoMemory> {
+fn places_of(alloc: Global, registers: &[Register], sigs: &[u32]) -> Result<Vec<usize>, NoMemory>
+    ensures { IfOk result (λ places. Ascend registers.now → (place : ℕ) (r : Register) → slice_get registers.now place ≡ Some r → Contains sigs.now r.sig →
+        Contains places.items place) }
+{
     let mut places = Vec::new(alloc);
     for sig in sigs {
         if let Some(place) = place_of(registers, *sig) {

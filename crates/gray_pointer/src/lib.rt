@@ -8,7 +8,7 @@ ghost use Rattle.cdc_model.specs.declared.scheme.GrayReg.{GrayReg};
 ghost use Rattle.cdc_model.specs.declared.scheme.Shape.{Shape};
 ghost use Rattle.cdc_model.specs.GrayShape.{IsGrayReg};
 ghost use Rattle.cdc_model.specs.Nets.{HasNextCells, design_of, next_tree};
-ghost use Rattle.cdc_model.specs.Ordered.{IsAscending};
+ghost use Rattle.cdc_model.specs.Ordered.{IsAll};
 ghost use Rattle.cdc_model.specs.Tables.{ShowsNet};
 ghost use Rattle.cdc_model.specs.Verdict.{gray_key};
 ghost use Rattle.gray_pointer.specs.Grays.{found_grays, IsFollowed, AreGrays};
@@ -36,9 +36,8 @@ use std::alloc::Global;
 
 /// All Gray registers of the net, by the register, then the counter.
 pub fn gray_regs(alloc: Global, net: &Net, domains: &Domains) -> Result<List<GrayReg>, NoMemory>
-    ensures only { IfOk result (λ grays. IsNet net.now → HasNextCells net.now → IsShared net.now.graph → AreStartsNarrow net.now →
-        (g : GrayReg) → Contains grays g → IsGrayReg (design_of net.now domains.now) (next_tree net.now) g) }
-    ensures ordered { IfOk result (λ grays. IsNet net.now → HasNextCells net.now → IsShared net.now.graph → AreStartsNarrow net.now → IsAscending gray_key grays) }
+    ensures exact { IfOk result (λ grays. IsNet net.now → HasNextCells net.now → IsShared net.now.graph → AreStartsNarrow net.now →
+        IsAll (IsGrayReg (design_of net.now domains.now) (next_tree net.now)) gray_key grays) }
 {
     let plain = plain_table(alloc, net)?;
     gray_regs_with(alloc, net, domains, &plain)
@@ -51,16 +50,15 @@ pub fn gray_regs_with(
     domains: &Domains,
     plain: &Table,
 ) -> Result<List<GrayReg>, NoMemory>
-    ensures only { IfOk result (λ grays. IsNet net.now → HasNextCells net.now → IsShared net.now.graph → AreStartsNarrow net.now → ShowsNet net.now [] plain.now →
-        (g : GrayReg) → Contains grays g → IsGrayReg (design_of net.now domains.now) (next_tree net.now) g) }
-    ensures ordered { IfOk result (λ grays. IsNet net.now → HasNextCells net.now → IsShared net.now.graph → AreStartsNarrow net.now → ShowsNet net.now [] plain.now →
-        IsAscending gray_key grays) }
+    ensures exact { IfOk result (λ grays. IsNet net.now → HasNextCells net.now → IsShared net.now.graph → AreStartsNarrow net.now → ShowsNet net.now [] plain.now →
+        IsAll (IsGrayReg (design_of net.now domains.now) (next_tree net.now)) gray_key grays) }
 {
-    let registers = registers(alloc, net, domains)?;
-    let candidates = Candidates::find(alloc, net, registers.as_slice())?;
+    let listed = registers(alloc, net, domains)?;
+    let registers = listed.as_slice();
+    let candidates = Candidates::find(alloc, net, registers)?;
     let mut grays = List::new(alloc);
-    for gray in registers.as_slice() {
-        let counters = candidates.counters_of(alloc, net, registers.as_slice(), gray)?;
+    for gray in registers {
+        let counters = candidates.counters_of(alloc, net, registers, gray)?;
         add_grays(alloc, net, plain, counters.as_slice(), gray, &mut grays)?;
     }
     Ok(grays)

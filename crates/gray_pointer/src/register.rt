@@ -1,5 +1,5 @@
 //! Registers that may count or hold a Gray code.
-ghost use Rattle.std.specs.Prelude.{◌≡◌, ◌↔◌, true, IfOk};
+ghost use Rattle.std.specs.Prelude.{◌≡◌, ◌↔◌, ◌<◌, ◌^◌, ℕ, true, IfOk};
 ghost use Rattle.gray_pointer.specs.Registers.{is_wide, register_at, registers_among, number_code, Fits};
 
 use cdc_base::{Bit, NoMemory, Signal};
@@ -77,7 +77,9 @@ pub fn gray_code(word: u64) -> u64
 }
 
 /// The word that has this Gray code: each of its bits is the exclusive or of the code's bits from there on.
-pub fn decoded(code: u64) -> u64 {
+pub fn decoded(code: u64) -> u64
+    ensures { (word : ℕ) → word < 2 ^ 64 → code ≡ number_code word → result ≡ word }
+{
     let mut word = code;
     for distance in [1u32, 2, 4, 8, 16, 32] {
         word ^= word >> distance;
