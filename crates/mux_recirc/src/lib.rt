@@ -1,10 +1,20 @@
 //! Loads of data under a handshake.
 #![tactic(auto)]
 
+ghost use Rattle.std.specs.Prelude.{◌≡◌, [], Bool, List, IfOk};
+ghost use Rattle.cdc_model.specs.declared.scheme.GrayReg.{GrayReg as GrayRegOf};
+ghost use Rattle.cdc_model.specs.Nets.{design_of, net_trees};
+ghost use Rattle.cdc_model.specs.Ordered.{IsAll};
+ghost use Rattle.cdc_model.specs.Schemes.{Ring as RingOf};
+ghost use Rattle.cdc_model.specs.Verdict.{IsFirstLoad, load_key};
+ghost use Rattle.mux_recirc.specs.Given.{AreGiven};
+
 pub mod blind;
 pub mod guards;
 pub mod held;
 pub mod parts;
+pub mod questions;
+pub mod shown;
 
 use cdc_base::{List, NoMemory};
 use cdc_model::view::plain_table;
@@ -21,7 +31,11 @@ pub fn loads(
     domains: &Domains,
     crossings: &[Crossing],
     rings: &[Ring],
-) -> Result<List<Load>, NoMemory> {
+) -> Result<List<Load>, NoMemory>
+    ensures exact { IfOk result (λ loads. (grays : GrayRegOf → Bool) (list : List RingOf) → AreGiven net.now domains.now grays crossings.now list rings.now →
+        IsAll (IsFirstLoad (design_of net.now domains.now) (net_trees net.now grays) list) load_key loads) }
+{
     let mut plain = plain_table(alloc, net)?;
-    Guards::find(alloc, net, domains, crossings, rings, &mut plain)?.loads(alloc, crossings)
+    let guards = Guards::find(alloc, net, domains, crossings, rings, &mut plain)?;
+    guards.loads(alloc, crossings)
 }
