@@ -1,9 +1,10 @@
--- The tokens of a text end with their one end.
-use Rattle.std.proofs.Common.{◌≡◌, ℕ, zero, suc, ◌+◌, ◌-◌, ◌==◌, ◌&&◌, ◌||◌, ◌^◌, Bool, true, false, not, List, [], ◌∷◌, length, take, drop, codes, Option, Some, None, refl, ap, subst, if◌then◌else◌}
-use Rattle.std.specs.Prelude.{Ok, Err, nat_lt}
+-- The tokens of a text end with their one end, and can be written.
+use Rattle.std.proofs.Common.{◌≡◌, ℕ, zero, suc, ◌+◌, ◌-◌, ◌==◌, ◌&&◌, ◌||◌, ◌^◌, Bool, true, false, not, List, [], ◌∷◌, length, take, drop, codes, Option, Some, None, refl, sym, ap, subst, ◌∙◌, ◌≢◌, ◌<◌, ◌≤◌, cond, arith, rules, if◌then◌else◌}
+use Rattle.std.specs.Prelude.{Ok, Err, nat_lt, nat_le}
 use Rattle.std.specs.List.{starts_with}
 use Rattle.std.specs.Char.{is_ascii_digit}
 use Rattle.cdc_base.specs.Bytes.{front, is_blank, is_word_start, in_class}
+use Rattle.cdc_base.specs.declared.bytes.Class.{Class}
 use Rattle.cdc_base.specs.declared.bytes.Class.TheVariants as class
 use Rattle.cdc_base.specs.declared.fault.Place.{Place}
 use Rattle.cdc_base.specs.declared.words.Keyword.{Keyword}
@@ -12,94 +13,161 @@ use Rattle.verilog_lex.specs.declared.marks.MarkKind.{MarkKind}
 use Rattle.verilog_lex.specs.declared.token.Piece.{Piece}
 use Rattle.verilog_lex.specs.declared.token.Piece.TheVariants as piece
 use Rattle.verilog_lex.specs.declared.token.Token.{Token}
+use Rattle.verilog_lex.specs.declared.token.TokenKind.{TokenKind}
 use Rattle.verilog_lex.specs.declared.token.TokenKind.TheVariants as kind
+use Rattle.verilog_lex.specs.Laws.{AllOf}
 use Rattle.verilog_lex.specs.Marks.{is_directive, mark_of}
-use Rattle.verilog_lex.specs.Numbers.{value_in, small, width_of, based_value}
+use Rattle.verilog_lex.specs.Numbers.{value_in, small, width_of, allowed_width, based_value}
 use Rattle.verilog_lex.specs.Spans.{behind_comment, attribute_end}
 use Rattle.verilog_lex.specs.Pieces.{piece_of, run, word_or, word_piece, escaped_piece, plain_or, plain_piece, based_or, based_piece, number_piece, directive_piece, mark_or, mark_piece, closed, comment_piece, attribute_piece, is_event, extent}
 use Rattle.verilog_lex.specs.Tokens.{tokens_from, tokens_of, joined, Lexed, next_place}
 use Rattle.verilog_reading.specs.Lexemes.{Spot, end_of, end_in}
 use Rattle.verilog_reading.specs.Refusals.{IsEnded}
+use Rattle.std.proofs.Math.Nat.{mod-lt}
+use Rattle.std.proofs.lemmas.Nat.{pow_pos}
+use Rattle.verilog_parse.specs.Written.{IsWritable}
+use Rattle.verilog_parse.proofs.Kept.{CanStand, Stand, s_end, s_more}
 
--- no piece of a text is the end
-abbrev NotEnd : Piece → Type 0
-NotEnd (piece.Token k n) = (s : Spot) → end_of k s ≡ None
-NotEnd (piece.Blank n) = Unit {0}
-NotEnd (piece.Broken e w) = Unit {0}
+-- a token that begins a text can be written
+abbrev pub Holds : Piece → Type 0
+Holds (piece.Token k n) = IsWritable k
+Holds (piece.Blank n) = Unit {0}
+Holds (piece.Broken e w) = Unit {0}
 
-either : (c : Bool) (p q : Piece) → NotEnd p → NotEnd q → NotEnd (if c then p else q)
-either true p q x y = x
-either false p q x y = y
+either_by : (c : Bool) (p q : Piece) → (c ≡ true → Holds p) → (c ≡ false → Holds q) → Holds (if c then p else q)
+either_by true p q x y = x refl
+either_by false p q x y = y refl
 
-word_not : (k : Option Keyword) (w : List ℕ) (n : ℕ) → NotEnd (word_or k w n)
-word_not (Some k) w n = λ s. refl
-word_not None w n = either (is_left_out w) (piece.Broken 105 w) (piece.Token (kind.Ident w) n) tt (λ s. refl)
+either : (c : Bool) (p q : Piece) → Holds p → Holds q → Holds (if c then p else q)
+either c p q x y = either_by c p q (λ e. x) (λ e. y)
 
-words_not : (text : List ℕ) → NotEnd (word_piece text)
+-- the bytes of a run, and its first
+run_first : (c : Class) (b : ℕ) (bs : List ℕ) → in_class c b ≡ true → take (run c (b ∷ bs)) (b ∷ bs) ≡ b ∷ take (run c bs) bs
+run_first c b bs h = ap (λ t. take (cond t (1 + run c bs) 0) (b ∷ bs)) h ∙ ap (λ n. take n (b ∷ bs)) (let e : 1 + run c bs ≡ suc (run c bs) = omega arith in e)
+
+run_all : (c : Class) (text : List ℕ) → AllOf c (take (run c text) text)
+run_all c [] = tt
+run_all c (b ∷ bs) = by (in_class c b) refl (run_all c bs)
+  where
+    by : (t : Bool) → in_class c b ≡ t → AllOf c (take (run c bs) bs) → AllOf c (take (run c (b ∷ bs)) (b ∷ bs))
+    by true e r = subst (AllOf c) (sym (run_first c b bs e)) (e, r)
+    by false e r = subst (λ t. AllOf c (take (cond t (1 + run c bs) 0) (b ∷ bs))) (sym e) tt
+
+some_first : (c : Class) (b : ℕ) (bs : List ℕ) → in_class c b ≡ true → take (run c (b ∷ bs)) (b ∷ bs) ≢ []
+some_first c b bs h e = absurd (search (rules, sym (run_first c b bs h) ∙ e))
+
+some_run : (c : Class) (text : List ℕ) → (run c text == 0) ≡ false → take (run c text) text ≢ []
+some_run c [] h = absurd (search (rules, h))
+some_run c (b ∷ bs) h = by (in_class c b) refl
+  where
+    by : (t : Bool) → in_class c b ≡ t → take (run c (b ∷ bs)) (b ∷ bs) ≢ []
+    by true e = some_first c b bs e
+    by false e = absurd (search (rules, subst (λ t. (cond t (1 + run c bs) 0 == 0) ≡ false) e h))
+
+visible_byte : (b : ℕ) → in_class class.Word b ≡ true → in_class class.Visible b ≡ true
+visible_byte b h = grind (arith, h)
+
+visible : (bs : List ℕ) → AllOf class.Word bs → AllOf class.Visible bs
+visible [] a = tt
+visible (b ∷ bs) a = (visible_byte b a.0, visible bs a.1)
+
+start_word : (b : ℕ) → is_word_start b ≡ true → in_class class.Word b ≡ true
+start_word b h = grind (arith, h)
+
+word_hold : (k : Option Keyword) (w : List ℕ) (n : ℕ) → w ≢ [] → AllOf class.Visible w → Holds (word_or k w n)
+word_hold (Some k) w n h a = tt
+word_hold None w n h a = either (is_left_out w) (piece.Broken 105 w) (piece.Token (kind.Ident w) n) tt (h, a)
+
+words_hold : (text : List ℕ) → is_word_start (front text) ≡ true → Holds (word_piece text)
 unfolding word_piece
-words_not text = word_not (keyword_of (take (run class.Word text) text)) (take (run class.Word text) text) (run class.Word text)
+words_hold [] h = absurd (search (rules, h))
+words_hold (b ∷ bs) h = let text = b ∷ bs in
+    word_hold (keyword_of (take (run class.Word text) text)) (take (run class.Word text) text) (run class.Word text) (some_first class.Word b bs (start_word b h)) (visible (take (run class.Word text) text) (run_all class.Word text))
 
-escaped_not : (text : List ℕ) → NotEnd (escaped_piece text)
+neither : (x y : Bool) → (x || y) ≡ false → x ≡ false
+neither true y h = absurd (search (rules, h))
+neither false y h = refl
+
+escaped_hold : (text : List ℕ) → Holds (escaped_piece text)
 unfolding escaped_piece
-escaped_not text =
+escaped_hold text =
     let n = run class.Visible (drop 1 text) in
-    either (n == 0 || not (is_blank (front (drop n (drop 1 text))))) (piece.Broken 101 []) (piece.Token (kind.Ident (take n (drop 1 text))) (n + 1)) tt (λ s. refl)
+    either_by (n == 0 || not (is_blank (front (drop n (drop 1 text))))) (piece.Broken 101 []) (piece.Token (kind.Ident (take n (drop 1 text))) (n + 1)) (λ e. tt)
+    (λ e. (some_run class.Visible (drop 1 text) (neither (n == 0) (not (is_blank (front (drop n (drop 1 text))))) e), run_all class.Visible (drop 1 text)))
 
-plain_not : (v : Option ℕ) (n : ℕ) → NotEnd (plain_or v n)
-plain_not None n = tt
-plain_not (Some v) n = either (nat_lt v (2 ^ 31)) (piece.Token (kind.Number v 32 true) n) (piece.Broken 103 []) (λ s. refl) tt
+less : (a b : ℕ) → nat_lt a b ≡ true → a < b
+less a b h = grind (arith, h)
 
-plains_not : (digits : List ℕ) → NotEnd (plain_piece digits)
+plain_hold : (v : Option ℕ) (n : ℕ) → Holds (plain_or v n)
+plain_hold None n = tt
+plain_hold (Some v) n = either_by (nat_lt v (2 ^ 31)) (piece.Token (kind.Number v 32 true) n) (piece.Broken 103 []) (λ e. (refl, less v (2 ^ 31) e)) (λ e. tt)
+
+plains_hold : (digits : List ℕ) → Holds (plain_piece digits)
 unfolding plain_piece
-plains_not digits = plain_not (small (value_in 10 0 digits)) (length digits)
+plains_hold digits = plain_hold (small (value_in 10 0 digits)) (length digits)
 
-based_not : (w v : Option ℕ) (n : ℕ) → NotEnd (based_or w v n)
-based_not None v n = tt
-based_not (Some w) None n = tt
-based_not (Some w) (Some v) n = λ s. refl
+based_hold : (w v : Option ℕ) (n : ℕ) → ((m : ℕ) → w ≡ Some m → (1 ≤ m) × (m ≤ 64)) → Holds (based_or w v n)
+based_hold None v n h = tt
+based_hold (Some w) None n h = tt
+based_hold (Some w) (Some v) n h = ((h w refl).0, (h w refl).1, mod-lt v (pow_pos w))
 
-sized_not : (size : List ℕ) (before : ℕ) (rest : List ℕ) → NotEnd (based_piece size before rest)
+within : (m : ℕ) → (nat_le 1 m && nat_le m 64) ≡ true → (1 ≤ m) × (m ≤ 64)
+within m h = (grind (arith, h), grind (arith, h))
+
+allowed : (o : Option ℕ) (m : ℕ) → allowed_width o ≡ Some m → (1 ≤ m) × (m ≤ 64)
+allowed None m e = absurd (search (rules, e))
+allowed (Some w) m e = by (nat_le 1 w && nat_le w 64) (λ h. within w h) e
+  where
+    by : (t : Bool) → (t ≡ true → (1 ≤ w) × (w ≤ 64)) → (if t then Some w else None) ≡ Some m → (1 ≤ m) × (m ≤ 64)
+    by true f e = let z : w ≡ m = search (rules, e) in subst (λ z. (1 ≤ z) × (z ≤ 64)) z (f refl)
+    by false f e = absurd (search (rules, e))
+
+width_allowed : (size : List ℕ) (m : ℕ) → width_of size ≡ Some m → (1 ≤ m) × (m ≤ 64)
+width_allowed [] m e = let z : 32 ≡ m = search (rules, e) in subst (λ z. (1 ≤ z) × (z ≤ 64)) z (omega arith, omega arith)
+width_allowed (d ∷ ds) m e = allowed (small (value_in 10 0 (d ∷ ds))) m e
+
+sized_hold : (size : List ℕ) (before : ℕ) (rest : List ℕ) → Holds (based_piece size before rest)
 unfolding based_piece
-sized_not size before rest =
+sized_hold size before rest =
     let blanks = run class.Blank (drop 2 rest) in
     let figures = drop blanks (drop 2 rest) in
     let count = run class.Figure figures in
-    based_not (width_of size) (based_value (front (drop 1 rest)) (take count figures)) (before + 2 + blanks + count)
+    based_hold (width_of size) (based_value (front (drop 1 rest)) (take count figures)) (before + 2 + blanks + count) (width_allowed size)
 
-numbers_not : (text : List ℕ) → NotEnd (number_piece text)
+numbers_hold : (text : List ℕ) → Holds (number_piece text)
 unfolding number_piece
-numbers_not text =
+numbers_hold text =
     let count = run class.Decimal text in
     let behind = drop count text in
     let blanks = run class.Blank behind in
     either (front (drop blanks behind) == 39) (based_piece (take count text) (count + blanks) (drop blanks behind)) (if in_class class.Word (front behind) then piece.Broken 103 [] else plain_piece (take count text))
-    (sized_not (take count text) (count + blanks) (drop blanks behind)) (either (in_class class.Word (front behind)) (piece.Broken 103 []) (plain_piece (take count text)) tt (plains_not (take count text)))
+    (sized_hold (take count text) (count + blanks) (drop blanks behind)) (either (in_class class.Word (front behind)) (piece.Broken 103 []) (plain_piece (take count text)) tt (plains_hold (take count text)))
 
-directives_not : (text : List ℕ) → NotEnd (directive_piece text)
+directives_hold : (text : List ℕ) → Holds (directive_piece text)
 unfolding directive_piece
-directives_not text =
+directives_hold text =
     let name = take (run class.Named (drop 1 text)) (drop 1 text) in
     either (is_directive name) (piece.Blank (run class.InLine text)) (piece.Broken 104 name) tt tt
 
-mark_not : (m : Option MarkKind) (n : ℕ) (p : Piece) → NotEnd p → NotEnd (mark_or m n p)
-mark_not (Some m) n p x = λ s. refl
-mark_not None n p x = x
+mark_hold : (m : Option MarkKind) (n : ℕ) (p : Piece) → Holds p → Holds (mark_or m n p)
+mark_hold (Some m) n p x = tt
+mark_hold None n p x = x
 
-marks_not : (text : List ℕ) → NotEnd (mark_piece text)
+marks_hold : (text : List ℕ) → Holds (mark_piece text)
 unfolding mark_piece
-marks_not text = mark_not (mark_of (take 2 text)) (length (take 2 text)) (mark_or (mark_of (take 1 text)) 1 (piece.Broken 101 [])) (mark_not (mark_of (take 1 text)) 1 (piece.Broken 101 []) tt)
+marks_hold text = mark_hold (mark_of (take 2 text)) (length (take 2 text)) (mark_or (mark_of (take 1 text)) 1 (piece.Broken 101 [])) (mark_hold (mark_of (take 1 text)) 1 (piece.Broken 101 []) tt)
 
-closed_not : (o : Option ℕ) → NotEnd (closed o)
-closed_not None = tt
-closed_not (Some n) = tt
+closed_hold : (o : Option ℕ) → Holds (closed o)
+closed_hold None = tt
+closed_hold (Some n) = tt
 
-comments_not : (text : List ℕ) → NotEnd (comment_piece text)
+comments_hold : (text : List ℕ) → Holds (comment_piece text)
 unfolding comment_piece
-comments_not text = closed_not (behind_comment (drop 2 text))
+comments_hold text = closed_hold (behind_comment (drop 2 text))
 
-attributes_not : (text : List ℕ) → NotEnd (attribute_piece text)
+attributes_hold : (text : List ℕ) → Holds (attribute_piece text)
 unfolding attribute_piece
-attributes_not text = closed_not (attribute_end None (drop 2 text))
+attributes_hold text = closed_hold (attribute_end None (drop 2 text))
 
 -- the forms of a piece, each before those that are tried behind it
 abbrev attribute_or_mark : List ℕ → Piece
@@ -126,44 +194,66 @@ from_number text = if is_ascii_digit (front text) then number_piece text else fr
 abbrev from_word : List ℕ → Piece
 from_word text = if is_word_start (front text) then word_piece text else from_number text
 
-attribute_or_mark_not : (text : List ℕ) → NotEnd (attribute_or_mark text)
-attribute_or_mark_not text = either (starts_with ◌==◌ text (codes "(*") && not (is_event text)) (attribute_piece text) (mark_piece text) (attributes_not text) (marks_not text)
+attribute_or_mark_hold : (text : List ℕ) → Holds (attribute_or_mark text)
+attribute_or_mark_hold text = either (starts_with ◌==◌ text (codes "(*") && not (is_event text)) (attribute_piece text) (mark_piece text) (attributes_hold text) (marks_hold text)
 
-from_line_comment_not : (text : List ℕ) → NotEnd (from_line_comment text)
-from_line_comment_not text = either (starts_with ◌==◌ text (codes "//")) (piece.Blank (run class.InLine text)) (from_comment text) tt
-    (either (starts_with ◌==◌ text (codes "/*")) (comment_piece text) (attribute_or_mark text) (comments_not text) (attribute_or_mark_not text))
+from_line_comment_hold : (text : List ℕ) → Holds (from_line_comment text)
+from_line_comment_hold text = either (starts_with ◌==◌ text (codes "//")) (piece.Blank (run class.InLine text)) (from_comment text) tt
+    (either (starts_with ◌==◌ text (codes "/*")) (comment_piece text) (attribute_or_mark text) (comments_hold text) (attribute_or_mark_hold text))
 
-from_escaped_not : (text : List ℕ) → NotEnd (from_escaped text)
-from_escaped_not text = either (front text == 92) (escaped_piece text) (from_directive text) (escaped_not text)
-    (either (front text == 96) (directive_piece text) (from_line_comment text) (directives_not text) (from_line_comment_not text))
+from_escaped_hold : (text : List ℕ) → Holds (from_escaped text)
+from_escaped_hold text = either (front text == 92) (escaped_piece text) (from_directive text) (escaped_hold text)
+    (either (front text == 96) (directive_piece text) (from_line_comment text) (directives_hold text) (from_line_comment_hold text))
 
-from_number_not : (text : List ℕ) → NotEnd (from_number text)
-from_number_not text = either (is_ascii_digit (front text)) (number_piece text) (from_based text) (numbers_not text)
-    (either (front text == 39) (based_piece [] 0 text) (from_escaped text) (sized_not [] 0 text) (from_escaped_not text))
+from_number_hold : (text : List ℕ) → Holds (from_number text)
+from_number_hold text = either (is_ascii_digit (front text)) (number_piece text) (from_based text) (numbers_hold text)
+    (either (front text == 39) (based_piece [] 0 text) (from_escaped text) (sized_hold [] 0 text) (from_escaped_hold text))
 
-piece_not : (text : List ℕ) → NotEnd (piece_of text)
+piece_hold : (text : List ℕ) → Holds (piece_of text)
 unfolding piece_of
-piece_not text = either (is_blank (front text)) (piece.Blank (run class.Blank text)) (from_word text) tt (either (is_word_start (front text)) (word_piece text) (from_number text) (words_not text) (from_number_not text))
+piece_hold text = either (is_blank (front text)) (piece.Blank (run class.Blank text)) (from_word text) tt (either_by (is_word_start (front text)) (word_piece text) (from_number text) (λ e. words_hold text e) (λ e. from_number_hold text))
 
--- a token that isn't the end stands before tokens that end so
+-- a token that is no end stands before tokens that end so
 one_before : (t : Token) (ts : List Token) → end_in t ≡ None → IsEnded ts → IsEnded (t ∷ ts)
 one_before t ts e w = (t ∷ w.0, w.1, ap (λ z. t ∷ z) w.2, (e, w.3))
 
-abbrev EndedIf : Lexed → Type 0
-EndedIf (Ok ts) = IsEnded ts
-EndedIf (Err f) = Unit {0}
+no_end : (k : TokenKind) (s : Spot) → IsWritable k → end_of k s ≡ None
+no_end (kind.Word w) s h = refl
+no_end (kind.Ident n) s h = refl
+no_end (kind.Number v w plain) s h = refl
+no_end (kind.Mark m) s h = refl
+no_end kind.End s h = absurd h
 
-joined_ended : (at : ℕ) (p : Place) (q : Piece) (r : Lexed) → NotEnd q → EndedIf r → EndedIf (joined at p q r)
-joined_ended at p (piece.Blank n) r x y = y
-joined_ended at p (piece.Token k n) (Ok us) x y = one_before (record { kind = k; place = p; start = at; «end» = at + n }) us (x (record { place = p; start = at; stop = at + n })) y
-joined_ended at p (piece.Token k n) (Err f) x y = tt
-joined_ended at p (piece.Broken e w) r x y = tt
+can_stand : (k : TokenKind) → IsWritable k → CanStand k
+can_stand (kind.Word w) h = tt
+can_stand (kind.Ident n) h = h
+can_stand (kind.Number v w plain) h = h
+can_stand (kind.Mark m) h = tt
+can_stand kind.End h = tt
 
-from_ended : (at : ℕ) (p : Place) (k : ℕ) (text : List ℕ) → EndedIf (tokens_from at p k text)
+-- the tokens of a text end with their one end, and can stand in a text
+abbrev HeldIf : Lexed → Type 0
+HeldIf (Ok ts) = IsEnded ts × Stand ts
+HeldIf (Err f) = Unit {0}
+
+joined_held : (at : ℕ) (p : Place) (q : Piece) (r : Lexed) → Holds q → HeldIf r → HeldIf (joined at p q r)
+joined_held at p (piece.Blank n) r x y = y
+joined_held at p (piece.Token k n) (Ok us) x y =
+    (one_before (record { kind = k; place = p; start = at; «end» = at + n }) us (no_end k (record { place = p; start = at; stop = at + n }) x) y.0, s_more (can_stand k x) y.1)
+joined_held at p (piece.Token k n) (Err f) x y = tt
+joined_held at p (piece.Broken e w) r x y = tt
+
+from_held : (at : ℕ) (p : Place) (k : ℕ) (text : List ℕ) → HeldIf (tokens_from at p k text)
 unfolding tokens_from
-from_ended at p k [] = ([], record { place = p; start = at; stop = at }, refl, tt)
-from_ended at p zero (b ∷ bs) = joined_ended at p (piece_of (b ∷ bs)) (tokens_from (at + 1) (next_place p b) (extent (piece_of (b ∷ bs)) - 1) bs) (piece_not (b ∷ bs)) (from_ended (at + 1) (next_place p b) (extent (piece_of (b ∷ bs)) - 1) bs)
-from_ended at p (suc k) (b ∷ bs) = from_ended (at + 1) (next_place p b) k bs
+from_held at p k [] = (([], record { place = p; start = at; stop = at }, refl, tt), s_more tt s_end)
+from_held at p zero (b ∷ bs) = joined_held at p (piece_of (b ∷ bs)) (tokens_from (at + 1) (next_place p b) (extent (piece_of (b ∷ bs)) - 1) bs) (piece_hold (b ∷ bs)) (from_held (at + 1) (next_place p b) (extent (piece_of (b ∷ bs)) - 1) bs)
+from_held at p (suc k) (b ∷ bs) = from_held (at + 1) (next_place p b) k bs
+
+text_held : (text : List ℕ) (ts : List Token) → tokens_of text ≡ Ok ts → IsEnded ts × Stand ts
+text_held text ts e = subst HeldIf e (from_held 0 (record { line = 1; column = 1 }) 0 text)
 
 pub texts_are_ended : (text : List ℕ) (ts : List Token) → tokens_of text ≡ Ok ts → IsEnded ts
-texts_are_ended text ts e = subst EndedIf e (from_ended 0 (record { line = 1; column = 1 }) 0 text)
+texts_are_ended text ts e = (text_held text ts e).0
+
+pub texts_stand : (text : List ℕ) (ts : List Token) → tokens_of text ≡ Ok ts → Stand ts
+texts_stand text ts e = (text_held text ts e).1

@@ -2,3 +2,17 @@ pub mod EventSteps
 pub mod ModuleSteps
 pub mod ParseSteps
 pub mod Ended
+pub mod TextSteps
+pub mod ExprTexts
+pub mod StmtTexts
+pub mod ItemTexts
+pub mod Numerals
+pub mod Spelled
+pub mod NumberTexts
+pub mod Lexes
+pub mod Kept
+pub mod KeptItems
+pub mod Back
+pub mod StmtBack
+pub mod ItemBack
+pub mod SourceBack

@@ -5,6 +5,7 @@ ghost use Rattle.std.specs.Prelude.{◌≡◌, ◌≤◌, List, IfOk, IfErr};
 ghost use Rattle.refusals.specs.Numbers.{HasNumberIn, grammar_numbers};
 ghost use Rattle.verilog_ast.specs.Depth.{source_depth};
 ghost use Rattle.verilog_parse.specs.Refusals.{RefusesFirst};
+ghost use Rattle.verilog_parse.specs.Texts.{source_text};
 ghost use Rattle.verilog_reading.specs.ItemReading.{IsSource};
 ghost use Rattle.verilog_reading.specs.Refusals.{IsEnded};
 ghost use Rattle.verilog_reading.specs.SourceTree.{ModuleTree, source_of};
@@ -38,8 +39,11 @@ pub fn parse(alloc: Global, tokens: &[Token]) -> Result<Source, Stop>
     }
 }
 
-/// One canonical text of the source.
-pub fn print(alloc: Global, source: &Source) -> Result<List<u8>, NoMemory> {
+/// One canonical text of the source: each token with a blank behind it, and a line for each item, each statement of a
+/// block and each arm of a `case`.
+pub fn print(alloc: Global, source: &Source) -> Result<List<u8>, NoMemory>
+    ensures exact { IfOk result (λ bytes. bytes ≡ source_text source.now) }
+{
     let mut out = Vec::new(alloc);
     text::module::put_source(alloc, &mut out, source)?;
     Ok(List::from_vec(out))

@@ -1,13 +1,19 @@
 //! Expressions and targets as text.
-use crate::text::token::{put_mark, put_name, put_number};
+ghost use Rattle.std.specs.Prelude.{IfOk, map};
+ghost use Rattle.verilog_parse.specs.Texts.{printed_expr, printed_target};
+ghost use Rattle.verilog_parse.specs.Printed.{Adds, with_commas};
+
+use crate::text::spelling::{binary_mark, unary_mark};
+use crate::text::token::{put_comma, put_mark, put_name, put_number};
 use cdc_base::NoMemory;
 use std::alloc::Global;
 use verilog_ast::{Expr, Target};
-use verilog_exprs::operators::{binary_mark, unary_mark};
 use verilog_lex::MarkKind;
 
 #[cycle(put)]
-pub fn put_expr(alloc: Global, out: &mut Vec<u8>, expr: &Expr) -> Result<(), NoMemory> {
+pub fn put_expr(alloc: Global, out: &mut Vec<u8>, expr: &Expr) -> Result<(), NoMemory>
+    ensures { IfOk result (λ _. Adds out.old.items (printed_expr expr.now) out.new.items) }
+{
     match expr {
         Expr::Number {
             value,
@@ -68,18 +74,20 @@ pub fn put_expr(alloc: Global, out: &mut Vec<u8>, expr: &Expr) -> Result<(), NoM
 
 /// The expressions with commas between them.
 #[cycle(put)]
-pub fn put_exprs(alloc: Global, out: &mut Vec<u8>, exprs: &[Expr]) -> Result<(), NoMemory> {
+pub fn put_exprs(alloc: Global, out: &mut Vec<u8>, exprs: &[Expr]) -> Result<(), NoMemory>
+    ensures { IfOk result (λ _. Adds out.old.items (with_commas (map printed_expr exprs.now)) out.new.items) }
+{
     for (at, expr) in exprs.iter().enumerate() {
-        if at > 0 {
-            put_mark(out, MarkKind::Comma)?;
-        }
+        put_comma(out, at)?;
         put_expr(alloc, out, expr)?;
     }
     Ok(())
 }
 
 #[cycle(put_target)]
-pub fn put_target(alloc: Global, out: &mut Vec<u8>, target: &Target) -> Result<(), NoMemory> {
+pub fn put_target(alloc: Global, out: &mut Vec<u8>, target: &Target) -> Result<(), NoMemory>
+    ensures { IfOk result (λ _. Adds out.old.items (printed_target target.now) out.new.items) }
+{
     match target {
         Target::Whole(name) => put_name(out, name),
         Target::At { name, index } => {
@@ -105,11 +113,11 @@ pub fn put_target(alloc: Global, out: &mut Vec<u8>, target: &Target) -> Result<(
 }
 
 #[cycle(put_target)]
-fn put_targets(alloc: Global, out: &mut Vec<u8>, targets: &[Target]) -> Result<(), NoMemory> {
+fn put_targets(alloc: Global, out: &mut Vec<u8>, targets: &[Target]) -> Result<(), NoMemory>
+    ensures { IfOk result (λ _. Adds out.old.items (with_commas (map printed_target targets.now)) out.new.items) }
+{
     for (at, target) in targets.iter().enumerate() {
-        if at > 0 {
-            put_mark(out, MarkKind::Comma)?;
-        }
+        put_comma(out, at)?;
         put_target(alloc, out, target)?;
     }
     Ok(())

@@ -1,7 +1,14 @@
 //! How words and marks are written.
+ghost use Rattle.std.specs.Prelude.{◌≡◌};
+ghost use Rattle.verilog_parse.specs.Pieces as pieces;
+ghost use Rattle.verilog_parse.specs.Printed.{spelled_word, spelled_mark};
+
+use verilog_ast::{BinaryOp, UnaryOp};
 use verilog_lex::{Keyword, MarkKind};
 
-pub fn word_text(word: Keyword) -> &'static [u8] {
+pub fn word_text(word: Keyword) -> &'static [u8]
+    ensures { result.now ≡ spelled_word word }
+{
     match word {
         Keyword::Always => b"always",
         Keyword::And => b"and",
@@ -34,7 +41,9 @@ pub fn word_text(word: Keyword) -> &'static [u8] {
     }
 }
 
-pub fn mark_text(mark: MarkKind) -> &'static [u8] {
+pub fn mark_text(mark: MarkKind) -> &'static [u8]
+    ensures { result.now ≡ spelled_mark mark }
+{
     match mark {
         MarkKind::ParenOpen => b"(",
         MarkKind::ParenClose => b")",
@@ -74,5 +83,48 @@ pub fn mark_text(mark: MarkKind) -> &'static [u8] {
         MarkKind::BangEqual => b"!=",
         MarkKind::AmpersandAmpersand => b"&&",
         MarkKind::BarBar => b"||",
+    }
+}
+
+/// The mark of the operator.
+pub fn unary_mark(op: UnaryOp) -> MarkKind
+    ensures { result ≡ pieces.unary_mark op }
+{
+    match op {
+        UnaryOp::Not => MarkKind::Tilde,
+        UnaryOp::LogicNot => MarkKind::Bang,
+        UnaryOp::And => MarkKind::Ampersand,
+        UnaryOp::Or => MarkKind::Bar,
+        UnaryOp::Xor => MarkKind::Caret,
+        UnaryOp::Nand => MarkKind::TildeAmpersand,
+        UnaryOp::Nor => MarkKind::TildeBar,
+        UnaryOp::Xnor => MarkKind::TildeCaret,
+    }
+}
+
+/// The mark of the operator.
+pub fn binary_mark(op: BinaryOp) -> MarkKind
+    ensures { result ≡ pieces.binary_mark op }
+{
+    match op {
+        BinaryOp::Mul => MarkKind::Star,
+        BinaryOp::Div => MarkKind::Slash,
+        BinaryOp::Mod => MarkKind::Percent,
+        BinaryOp::Add => MarkKind::Plus,
+        BinaryOp::Sub => MarkKind::Minus,
+        BinaryOp::Shl => MarkKind::ShiftLeft,
+        BinaryOp::Shr => MarkKind::ShiftRight,
+        BinaryOp::Lt => MarkKind::Less,
+        BinaryOp::Le => MarkKind::LessEqual,
+        BinaryOp::Gt => MarkKind::Greater,
+        BinaryOp::Ge => MarkKind::GreaterEqual,
+        BinaryOp::Eq => MarkKind::EqualEqual,
+        BinaryOp::Ne => MarkKind::BangEqual,
+        BinaryOp::And => MarkKind::Ampersand,
+        BinaryOp::Xor => MarkKind::Caret,
+        BinaryOp::Xnor => MarkKind::TildeCaret,
+        BinaryOp::Or => MarkKind::Bar,
+        BinaryOp::LogicAnd => MarkKind::AmpersandAmpersand,
+        BinaryOp::LogicOr => MarkKind::BarBar,
     }
 }

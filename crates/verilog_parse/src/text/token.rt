@@ -1,29 +1,63 @@
 //! Single tokens as text.
+ghost use Rattle.std.specs.Prelude.{◌≡◌, ◌++◌, true, false, IfOk};
+ghost use Rattle.cdc_base.specs.declared.words.Keyword.TheVariants.{Or};
+ghost use Rattle.verilog_lex.specs.declared.marks.MarkKind.TheVariants.{Comma};
+ghost use Rattle.verilog_parse.specs.Printed as printed;
+ghost use Rattle.verilog_parse.specs.Printed.{Adds};
+
 use crate::text::spelling::{mark_text, word_text};
 use cdc_base::words::is_simple;
 use cdc_base::{Name, NoMemory};
 use std::alloc::Global;
 use verilog_lex::{Keyword, MarkKind};
 
-fn put(out: &mut Vec<u8>, piece: &[u8]) -> Result<(), NoMemory> {
+fn put(out: &mut Vec<u8>, piece: &[u8]) -> Result<(), NoMemory>
+    ensures { IfOk result (λ _. out.new.items ≡ out.old.items ++ piece.now) }
+{
     match out.extend_from_slice(piece) {
         Ok(()) => Ok(()),
         Err(_) => Err(NoMemory),
     }
 }
 
-pub fn put_word(out: &mut Vec<u8>, word: Keyword) -> Result<(), NoMemory> {
+pub fn put_word(out: &mut Vec<u8>, word: Keyword) -> Result<(), NoMemory>
+    ensures { IfOk result (λ _. Adds out.old.items (printed.word word) out.new.items) }
+{
     put(out, word_text(word))?;
     put(out, b" ")
 }
 
-pub fn put_mark(out: &mut Vec<u8>, mark: MarkKind) -> Result<(), NoMemory> {
+pub fn put_mark(out: &mut Vec<u8>, mark: MarkKind) -> Result<(), NoMemory>
+    ensures { IfOk result (λ _. Adds out.old.items (printed.mark mark) out.new.items) }
+{
     put(out, mark_text(mark))?;
     put(out, b" ")
 }
 
+/// The comma before an entry of a list, but for the first.
+pub fn put_comma(out: &mut Vec<u8>, at: usize) -> Result<(), NoMemory>
+    ensures { IfOk result (λ _. Adds out.old.items (printed.before_entry at (printed.mark Comma)) out.new.items) }
+{
+    if at > 0 {
+        return put_mark(out, MarkKind::Comma);
+    }
+    Ok(())
+}
+
+/// The `or` before an edge, but for the first.
+pub fn put_or(out: &mut Vec<u8>, at: usize) -> Result<(), NoMemory>
+    ensures { IfOk result (λ _. Adds out.old.items (printed.before_entry at (printed.word Or)) out.new.items) }
+{
+    if at > 0 {
+        return put_word(out, Keyword::Or);
+    }
+    Ok(())
+}
+
 /// The name as it is where it is an identifier, and escaped else.
-pub fn put_name(out: &mut Vec<u8>, name: &Name) -> Result<(), NoMemory> {
+pub fn put_name(out: &mut Vec<u8>, name: &Name) -> Result<(), NoMemory>
+    ensures { IfOk result (λ _. Adds out.old.items (printed.ident name.now) out.new.items) }
+{
     let bytes = name.as_bytes();
     if !is_simple(bytes) {
         put(out, b"\\")?;
@@ -39,18 +73,36 @@ pub fn put_number(
     value: u64,
     width: u8,
     plain: bool,
-) -> Result<(), NoMemory> {
-    let text = if plain {
-        format!(in alloc; "{value} ")
+) -> Result<(), NoMemory>
+    ensures { IfOk result (λ _. Adds out.old.items (printed.numeral value width plain) out.new.items) }
+{
+    if plain {
+        put_plain(alloc, out, value)
     } else {
-        format!(in alloc; "{width}'h{value:x} ")
-    };
-    match text {
+        put_sized(alloc, out, value, width)
+    }
+}
+
+fn put_plain(alloc: Global, out: &mut Vec<u8>, value: u64) -> Result<(), NoMemory>
+    ensures { IfOk result (λ _. Adds out.old.items (printed.numeral value 32 true) out.new.items) }
+{
+    match format!(in alloc; "{value} ") {
         Ok(text) => put(out, text.as_bytes()),
         Err(_) => Err(NoMemory),
     }
 }
 
-pub fn put_line_end(out: &mut Vec<u8>) -> Result<(), NoMemory> {
+fn put_sized(alloc: Global, out: &mut Vec<u8>, value: u64, width: u8) -> Result<(), NoMemory>
+    ensures { IfOk result (λ _. Adds out.old.items (printed.numeral value width false) out.new.items) }
+{
+    match format!(in alloc; "{width}'h{value:x} ") {
+        Ok(text) => put(out, text.as_bytes()),
+        Err(_) => Err(NoMemory),
+    }
+}
+
+pub fn put_line_end(out: &mut Vec<u8>) -> Result<(), NoMemory>
+    ensures { IfOk result (λ _. Adds out.old.items printed.new_line out.new.items) }
+{
     put(out, b"\n")
 }

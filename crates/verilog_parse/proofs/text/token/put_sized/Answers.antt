@@ -1,0 +1,6 @@
+use Rattle.std.proofs.Common.{rules}
+use Rattle.verilog_parse.proofs.TextSteps.{ok_sized}
+use Rattle.verilog_parse.proofs.text.token.put_sized.Goals as goal
+
+pub returns-in-Ok : goal.returns-in-Ok
+returns-in-Ok c = ok_sized _ _ _ _ _ _ (search rules) c.put.ensures
