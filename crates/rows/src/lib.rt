@@ -14,6 +14,8 @@ mod layers;
 #[cfg(test)]
 mod limits;
 #[cfg(test)]
+mod prints;
+#[cfg(test)]
 mod program;
 #[cfg(test)]
 mod refused_texts;
