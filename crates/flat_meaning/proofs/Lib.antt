@@ -1,0 +1,17 @@
+pub mod Words
+pub mod Expressions
+pub mod Full
+pub mod Targets
+pub mod Processes
+pub mod Law
+pub mod Pieces
+pub mod Depth
+pub mod Placed
+pub mod Drivers
+pub mod Selects
+pub mod Held
+pub mod Elaboration
+pub mod Examples
+pub mod Same
+pub mod Unfolded
+pub mod SmallDesign

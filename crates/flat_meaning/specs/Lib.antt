@@ -1,0 +1,15 @@
+pub mod Values
+pub mod Flat
+pub mod Meaning
+pub mod Full
+pub mod Trees
+pub mod Fits
+pub mod Assigned
+pub mod Deps
+pub mod Law
+pub mod Pieces
+pub mod Design
+pub mod SignalTrees
+pub mod Sound
+pub mod Segments
+pub mod Elaboration
