@@ -1,9 +1,11 @@
 -- The net of a graph whose registers fit it.
-use Rattle.std.proofs.Common.{◌≡◌, ◌∙◌, sym, ap, subst, refl, arith, ℕ, zero, suc, ◌+◌, ◌<◌, ◌≤◌, ◌==◌, eqb-true, Bool, true, false, cond, if◌then◌else◌, Some, List, [], ◌∷◌, ◌++◌, map, length, slice_get, All, drop, get_or}
+use Rattle.std.proofs.Common.{◌≡◌, ◌∙◌, sym, ap, subst, refl, arith, ℕ, zero, suc, ◌+◌, ◌<◌, ◌≤◌, ◌^◌, ◌==◌, eqb-true, Bool, true, false, cond, if◌then◌else◌, Some, List, [], ◌∷◌, ◌++◌, map, length, slice_get, All, drop, get_or}
 use Rattle.std.specs.List.{AllByRecursion}
 use Rattle.std.specs.Option.{option_map_or}
 use Rattle.std.proofs.lemmas.List.{append_assoc, drop_more, map-append}
 use Rattle.std.proofs.lemmas.List.Elements.{All-push, All-weaker, recursion_from_All}
+use Rattle.std.proofs.lemmas.Nat.{pow_pos}
+use Rattle.std.proofs.Math.Nat.{mod-lt}
 use Rattle.cdc_base.specs.declared.signal.Signal.{Signal}
 use Rattle.cdc_base.specs.declared.signal.SigKind.{SigKind}
 use Rattle.cdc_base.specs.declared.signal.SigKind.TheVariants.{Input, Register, Wire}
@@ -15,7 +17,7 @@ use Rattle.cell_graph.specs.Feeds.{node}
 use Rattle.cell_graph.specs.Nets.{AreSized, HasNextCells, IsNet, IsWordOf, Keeps, is_register, next_cell, register_signals}
 use Rattle.cell_graph.specs.Unfolded.{IsNodeOf, IsWellFormed}
 use Rattle.elaborate.specs.declared.sketch.Register.{Register as Draft}
-use Rattle.elaborate.specs.Words.{IsRegOf, as_word}
+use Rattle.elaborate.specs.Words.{AreStarted, IsRegOf, as_word, known_bits, word_width}
 use Rattle.cell_graph.proofs.Grown.{keeps-trans}
 
 -- ---- signals as words
@@ -24,6 +26,32 @@ pub words-sized : (ss : List Signal) → AreSized (map as_word ss)
 words-sized [] sig s at = cc
 words-sized (t ∷ ss) zero s at = let e : as_word t ≡ s = cc in subst (λ (x : Signal). (1 ≤ x.width) × (x.width ≤ 64)) e ((omega arith), (omega arith))
 words-sized (t ∷ ss) (suc sig) s at = words-sized ss sig s at
+
+-- start values lie in their words
+known-below : (kind : SigKind) (w known : ℕ) → known_bits kind w known < 2 ^ w
+known-below Input w known = pow_pos w
+known-below Register w known = mod-lt known (pow_pos w)
+known-below Wire w known = pow_pos w
+
+known-none : (kind : SigKind) (w known : ℕ) → is_register kind ≡ false → known_bits kind w known ≡ 0
+known-none Input w known e = refl
+known-none Register w known e = cc
+known-none Wire w known e = refl
+
+word-at : (ss : List Signal) (sig : ℕ) (s : Signal) → slice_get (map as_word ss) sig ≡ Some s → (t : Signal) × (as_word t ≡ s)
+word-at [] sig s at = cc
+word-at (t ∷ ss) zero s at = let e : as_word t ≡ s = cc in (t, e)
+word-at (t ∷ ss) (suc sig) s at = word-at ss sig s at
+
+pub words-started : (ss : List Signal) → AreStarted (map as_word ss)
+words-started ss = record {
+  known = λ sig s at. let (t, e) = word-at ss sig s at in
+      subst (λ (x : Signal). x.known < 2 ^ x.width) e (known-below t.kind (word_width t.width) t.known);
+  start = λ sig s at. let (t, e) = word-at ss sig s at in
+      subst (λ (x : Signal). x.start < 2 ^ x.width) e (mod-lt t.start (pow_pos (word_width t.width)));
+  registers = λ sig s at kind. let (t, e) = word-at ss sig s at in
+      subst (λ (x : Signal). x.known ≡ 0) e (known-none t.kind (word_width t.width) t.known (ap (λ (x : Signal). is_register x.kind) e ∙ kind));
+}
 
 -- they have the same registers
 same-registers : (k : ℕ) (ss : List Signal) → register_signals k (map as_word ss) ≡ register_signals k ss

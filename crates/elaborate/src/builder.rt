@@ -7,6 +7,7 @@ ghost use Rattle.std.specs.Prelude.{◌≡◌, ◌≤◌, ◌<◌, ℕ, length, 
 ghost use Rattle.refusals.specs.Numbers.{HasNumberIn, elaboration_numbers};
 ghost use Rattle.cell_graph.specs.Cells.{cell_width, signal_width as width_in, width_of, widths};
 ghost use Rattle.cell_graph.specs.Nets.{AreSized, IsWordOf, Keeps};
+ghost use Rattle.cell_graph.specs.Shared.{IsShared};
 ghost use Rattle.cell_graph.specs.Unfolded.{AreAlike, IsCellOf, IsWellFormed};
 ghost use Rattle.cell_graph.specs.declared.cell.Cell.TheVariants.{Var, Const, Concat, Slice, Extend};
 ghost use Rattle.elaborate.specs.Words.{word_width};
@@ -25,13 +26,14 @@ pub struct Builder {
 
 impl Model for Builder {
     ghost use Rattle.cell_graph.specs.Cells.{Cells};
+    ghost use Rattle.cell_graph.specs.Shared.{IsShared};
     ghost use Rattle.cell_graph.specs.Unfolded.{IsWellFormed};
 
     ghost Value = { Cells };
 
     ghost view = { λ b. b.graph };
 
-    ghost invariant = { λ b. IsWellFormed b.graph };
+    ghost invariant = { λ b. IsWellFormed b.graph × IsShared b.graph };
 }
 
 /// The bits that a word may have: 1 to 64.
@@ -55,6 +57,7 @@ impl Builder {
     pub fn into_graph(self) -> Graph
         ensures same { result ≡ self }
         ensures well_formed { IsWellFormed result }
+        ensures shared { IsShared result }
     {
         let Builder { graph } = self;
         graph

@@ -11,10 +11,11 @@ ghost use Rattle.cell_graph.specs.declared.net.Reg.{Reg as NetRegister};
 ghost use Rattle.elaborate.specs.declared.sketch.Register.{Register as RegisterDraft};
 ghost use Rattle.cdc_base.specs.declared.limits.TheConstants.{MAX_STATE_BITS};
 ghost use Rattle.cell_graph.specs.Nets.{HasNextCells, IsNet, Keeps, register_signals};
+ghost use Rattle.cell_graph.specs.Shared.{IsShared};
 ghost use Rattle.cell_graph.specs.Unfolded.{IsWellFormed};
 ghost use Rattle.refusals.specs.Numbers.{HasNumberIn, elaboration_numbers};
 ghost use Rattle.elaborate.specs.Limits.{state_bits};
-ghost use Rattle.elaborate.specs.Words.{IsRegOf, as_word};
+ghost use Rattle.elaborate.specs.Words.{AreStarted, IsRegOf, as_word, known_bits};
 
 mod assigned;
 mod builder;
@@ -38,7 +39,8 @@ use crate::lower::Lowering;
 use crate::memory::{filled, numbered, push};
 use crate::sketch::Sketch;
 use cdc_base::limits::MAX_CELLS;
-use cdc_base::{List, NoMemory, Signal, Stop};
+use cdc_base::{List, NoMemory, SigKind, Signal, Stop};
+use cell_graph::word::low_bits;
 use cell_graph::{CellId, Net, Reg};
 use flat_form::Flat;
 use refusals::past_limit;
@@ -56,8 +58,10 @@ pub fn elaborate(alloc: Global, flat: &Flat) -> Result<Net, Stop>
     ensures outputs { IfOk result (λ net. length net.outputs ≡ length flat.now.outputs) }
     ensures state_bits { IfOk result (λ net. state_bits flat.now.signals ≤ MAX_STATE_BITS) }
     ensures signals { IfOk result (λ net. net.graph.signals ≡ map as_word flat.now.signals) }
+    ensures started { IfOk result (λ net. AreStarted net.graph.signals) }
     ensures is_net { IfOk result IsNet }
     ensures next_cells { IfOk result HasNextCells }
+    ensures shared { IfOk result (λ net. IsShared net.graph) }
     ensures outputs_stand { IfOk result (λ net. All (λ (o : Id). o.0 < length net.graph.cells) net.outputs) }
 {
     let signals = flat.signals.as_slice();
@@ -107,6 +111,7 @@ fn make_net(alloc: Global, signals: &[Signal], sketch: &Sketch, links: &Links) -
     ensures outputs { IfOk result (λ net. length net.outputs ≡ vec_len sketch.now.outputs) }
     ensures signals { IfOk result (λ net. net.graph.signals ≡ map as_word signals.now) }
     ensures well_formed { IfOk result (λ net. IsWellFormed net.graph) }
+    ensures shared { IfOk result (λ net. IsShared net.graph) }
     ensures fit { IfOk result (λ net. All (IsRegOf net.graph) net.regs) }
     ensures outputs_stand { IfOk result (λ net. All (λ (o : Id). o.0 < length net.graph.cells) net.outputs) }
 {
@@ -151,6 +156,7 @@ fn finish(alloc: Global, sketch: &Sketch, mut lowering: Lowering) -> Result<Net,
     ensures outputs { IfOk result (λ net. length net.outputs ≡ vec_len sketch.now.outputs) }
     ensures signals { IfOk result (λ net. net.graph.signals ≡ lowering.graph.signals) }
     ensures well_formed { IfOk result (λ net. IsWellFormed net.graph) }
+    ensures shared { IfOk result (λ net. IsShared net.graph) }
     ensures fit { IfOk result (λ net. All (IsRegOf net.graph) net.regs) }
     ensures outputs_stand { IfOk result (λ net. All (λ (o : Id). o.0 < length net.graph.cells) net.outputs) }
 {
@@ -205,17 +211,35 @@ fn copied(alloc: Global, signals: &[Signal]) -> Result<List<Signal>, NoMemory>
 {
     let mut copies = List::new(alloc);
     for signal in signals {
-        copies.push(Signal {
-            name: signal.name.copy(alloc)?,
-            place: signal.place,
-            width: sized(signal.width),
-            ranged: signal.ranged,
-            left: signal.left,
-            right: signal.right,
-            kind: signal.kind,
-            known: signal.known,
-            start: signal.start,
-        })?;
+        copies.push(word_of(alloc, signal)?)?;
     }
     Ok(copies)
+}
+
+/// The signal as a word.
+fn word_of(alloc: Global, signal: &Signal) -> Result<Signal, NoMemory>
+    ensures { IfOk result (λ word. word ≡ as_word signal.now) }
+{
+    let width = sized(signal.width);
+    Ok(Signal {
+        name: signal.name.copy(alloc)?,
+        place: signal.place,
+        width,
+        ranged: signal.ranged,
+        left: signal.left,
+        right: signal.right,
+        kind: signal.kind,
+        known: known_in(signal.kind, width, signal.known),
+        start: low_bits(signal.start, width),
+    })
+}
+
+/// The bits of a signal with a start value, which a register alone has.
+fn known_in(kind: SigKind, width: u8, known: u64) -> u64
+    ensures { result ≡ known_bits kind width known }
+{
+    match kind {
+        SigKind::Register => low_bits(known, width),
+        SigKind::Input | SigKind::Wire => 0,
+    }
 }

@@ -4,12 +4,15 @@ use Rattle.cell_graph.specs.Cells.{Cells}
 use Rattle.cell_graph.specs.Nets.{Keeps}
 use Rattle.cell_graph.specs.Unfolded.{IsCellOf}
 use Rattle.cell_graph.proofs.Grown.{added-keeps, added-well, width-cell}
+use Rattle.elaborate.proofs.Shared.{added-shared}
 use Rattle.elaborate.proofs.builder.Builder.place.Goals as goal
 
 pub invariant_of-self-2 : goal.invariant_of-self-2
-invariant_of-self-2 c =
-    added-well c.self.inside.graph c.add.new.self c.args.cell c.self.invariant
-    (subst (λ (g : Cells). IsCellOf g (length g.cells) c.args.cell) (sym c.self.view_is) c.requires) c.add.ensures.signals c.in_ok-id.ensures.cells
+invariant_of-self-2 c = (
+  added-well c.self.inside.graph c.add.new.self c.args.cell c.self.invariant.0
+      (subst (λ (g : Cells). IsCellOf g (length g.cells) c.args.cell) (sym c.self.view_is) c.requires) c.add.ensures.signals c.in_ok-id.ensures.cells,
+  added-shared c.self.inside.graph c.add.new.self c.args.cell c.self.invariant.1 c.in_ok-id.ensures.cells,
+)
 
 pub returns-clause-kept : goal.returns-clause-kept
 returns-clause-kept c =
@@ -17,7 +20,7 @@ returns-clause-kept c =
 
 pub returns-clause-word : goal.returns-clause-word
 returns-clause-word c =
-    let well = added-well c.self.inside.graph c.add.new.self c.args.cell c.self.invariant
+    let well = added-well c.self.inside.graph c.add.new.self c.args.cell c.self.invariant.0
     (subst (λ (g : Cells). IsCellOf g (length g.cells) c.args.cell) (sym c.self.view_is) c.requires) c.add.ensures.signals c.in_ok-id.ensures.cells in (
       slice_get_within c.add.new.self.cells c.in_ok-id.id.0 c.args.cell c.in_ok-id.ensures.found,
       width-cell c.add.new.self well c.in_ok-id.id c.args.cell c.in_ok-id.ensures.found,
