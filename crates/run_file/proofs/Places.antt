@@ -1,24 +1,22 @@
 -- Places in lists, and bits by their names.
 use Rattle.std.proofs.Common.{◌≡◌, ◌∙◌, ℕ, zero, suc, ◌+◌, ◌*◌, ◌/◌, ◌%◌, ◌^◌, ◌<◌, ◌≤◌, ◌==◌, nat_lt, nat_le, Bool, true, false, not, cond, List, [], ◌∷◌, length, Option, Some, None, refl, sym, ap, subst, arith, ltb-true, ltb-false, rules, ◌⊎◌, inl, inr}
-use Rattle.std.specs.Prelude.{IfSome, IfNone, position, slice_get, option_map, if◌then◌else◌}
+use Rattle.std.specs.Prelude.{IfSome, position, slice_get, option_map, if◌then◌else◌}
 use Rattle.std.specs.List.{position_or_len}
-use Rattle.std.specs.Option.{IsSomeAnd}
 use Rattle.std.specs.Str.{bytes_eq}
 use Rattle.std.proofs.lemmas.Bool.Decides.{nat_tests}
-use Rattle.std.proofs.lemmas.Option.{slice_get_within}
 use Rattle.std.proofs.lemmas.Slice.Eq.{bytes_eq-Decides}
 use Rattle.std.proofs.lemmas.Nat.{pow_pos}
 use Rattle.std.proofs.Math.Nat.{div-eq_of_lt, lt-div-mul-add}
 use Rattle.std.proofs.Math.Pow.{pow_mono}
 use Rattle.cdc_base.specs.declared.bit.Bit.{Bit}
 use Rattle.cdc_base.specs.declared.signal.Signal.{Signal}
-use Rattle.cdc_base.specs.Bits.{bit_text, IsNamed}
+use Rattle.cdc_base.specs.Bits.{bit_text}
 use Rattle.cdc_base.specs.declared.fault.Fault.{Fault}
 use Rattle.cdc_base.specs.declared.fault.Stop.{Stop}
 use Rattle.cdc_base.specs.declared.fault.Stop.TheVariants.{Refused, Memory}
 use Rattle.clock_constraints.specs.Refusals.{Text, IsStop}
 use Rattle.refusals.specs.Numbers.{is_listed, HasNumberIn}
-use Rattle.run_file.specs.Names.{or_other, offset_named, bit_from, bit_named, AreApart}
+use Rattle.run_file.specs.Names.{or_other, offset_named, bit_from}
 
 -- a place lies in its list
 pub place-few : {A : Type 0} (p : A → Bool) (xs : List A) (n : ℕ) → length xs ≤ n → IfSome (position p xs) (λ k. k < n)
@@ -90,25 +88,6 @@ bit-found k (s ∷ ss) t b e = go (offset_named s t s.width) refl e (bit-found (
         let made : Bit = record { sig = k; at = at } in
         let is : made ≡ b = cc in
         subst (λ (c : Bit). IsFoundAt k (s ∷ ss) t c) is (record { place = zero; sig = omega arith; signal = s; there = refl; within = p.0; named = p.1 })
-
--- where no bit has the name none is found
-pub none-named : (signals : List Signal) (t : List ℕ) → AreApart signals → ((b : Bit) → b.sig < 2 ^ 32 → IsNamed signals t b → ⊥) → None ≡ bit_named signals t
-none-named signals t apart none = go (bit_named signals t) refl
-  where
-    go : (o : Option Bit) → bit_named signals t ≡ o → None ≡ o
-    go None e = refl
-    go (Some b) e =
-        let f = bit-found 0 signals t b e in
-        let there = slice_get_within signals f.place f.signal f.there in
-        let at : b.sig ≡ f.place = (let l = f.sig in omega arith) in
-        absurd (none b (omega (arith, there, at, apart.numbered))
-        (subst (λ (k : ℕ). IsSomeAnd (slice_get signals k) (λ signal. (b.at < signal.width) × (t ≡ bit_text signal b.at))) (sym at)
-        (subst (λ (o : Option Signal). IsSomeAnd o (λ signal. (b.at < signal.width) × (t ≡ bit_text signal b.at))) (sym f.there) (f.within, f.named))))
-
--- what is named is what is found
-pub found-is : (signals : List Signal) (t : List ℕ) (o : Option Bit) → AreApart signals → IfSome o (λ b. IsNamed signals t b) → IfNone o ((b : Bit) → b.sig < 2 ^ 32 → IsNamed signals t b → ⊥) → o ≡ bit_named signals t
-found-is signals t None apart some none = none-named signals t apart none
-found-is signals t (Some b) apart some none = sym (apart.named t b some)
 
 -- a refusal with a listed number
 pub stop-listed : (numbers : List ℕ) (number : ℕ) (name : Text) (s : Stop) → is_listed numbers number ≡ true → IsStop number name s → HasNumberIn numbers s

@@ -7,7 +7,7 @@ use Rattle.std.specs.List.Sorted.{IsStrictlyIncreasing}
 use Rattle.cdc_base.specs.declared.bit.Bit.{Bit}
 use Rattle.cdc_base.specs.declared.fault.Fault.{Fault}
 use Rattle.cdc_base.specs.declared.signal.Signal.{Signal}
-use Rattle.cdc_base.specs.Bits.{IsNamed, bit_text}
+use Rattle.cdc_base.specs.Bits.{bit_text}
 use Rattle.cell_graph.specs.declared.net.Net.{Net}
 use Rattle.clock_constraints.specs.declared.ClockPin.{ClockPin}
 use Rattle.clock_constraints.specs.Refusals.{Text, broken, ◌>>=◌, required}
@@ -46,14 +46,9 @@ bit_from k (s ∷ ss) t = or_other (option_map (λ at. record { sig = k; at = at
 abbrev pub bit_named : List Signal → Text → Option Bit
 bit_named signals t = bit_from 0 signals t
 
--- no two bits have one printed name, and each signal has a number
-pub record AreApart (signals : List Signal) : Type 0 where
-  pub named : (t : Text) (b : Bit) → IsNamed signals t b → bit_named signals t ≡ Some b
-  pub numbered : length signals ≤ 2 ^ 32
-
--- a net and domains of which records can speak: bits are told apart by their names, clocks have numbers, and static inputs ascend
+-- a net and domains of which records can speak: signals and clocks have numbers, and static inputs ascend
 pub record CanRead (net : Net) (domains : Domains) : Type 0 where
-  pub apart : AreApart net.graph.signals
+  pub signals : length net.graph.signals ≤ 2 ^ 32
   pub clocks : length domains.clocks ≤ 2 ^ 32
   pub statics : IsStrictlyIncreasing domains.statics
 
