@@ -1,7 +1,21 @@
 //! The verdict on a net.
 #![tactic(auto)]
 
-ghost use Rattle.std.specs.Prelude.{IfErr};
+ghost use Rattle.std.specs.Prelude.{◌≡◌, ℕ, [], Bool, true, List, map, IfOk, IfErr};
+ghost use Rattle.cdc_base.specs.declared.bit.Bit.{Bit};
+ghost use Rattle.cdc_model.specs.declared.scheme.GrayReg.{GrayReg as GrayRegOf};
+ghost use Rattle.cdc_model.specs.declared.scheme.Ring.{Ring as RingEntry};
+ghost use Rattle.cdc_model.specs.Facts.{none_extra};
+ghost use Rattle.cdc_model.specs.Listed.{IsVerdictOf};
+ghost use Rattle.cdc_model.specs.Nets.{design_of, is_register_bit, net_trees};
+ghost use Rattle.cdc_model.specs.Runs.{Trace, IsRun};
+ghost use Rattle.cdc_model.specs.Schemes.{Ring as RingOf};
+ghost use Rattle.cdc_model.specs.Sound.{Sound};
+ghost use Rattle.cdc_model.specs.Tables.{ShowsNet};
+ghost use Rattle.cdc_model.specs.Together.{IsTogether};
+ghost use Rattle.obligations.specs.Bare.{AreHanded};
+ghost use Rattle.obligations.specs.Findings.{AreFindingsIn, HavePaths};
+ghost use Rattle.obligations.specs.Judged.{CanAudit};
 ghost use Rattle.refusals.specs.Numbers.{HasNumberIn, crossing_numbers};
 
 pub mod arrivals;
@@ -10,8 +24,9 @@ pub mod covers;
 pub mod words;
 
 use arrivals::add_v6;
-use bare::{add_v1, add_v2, add_v7, add_v8, find_uncovered};
+use bare::{add_crossings, find_uncovered};
 use cdc_base::{List, NoMemory, Stop};
+use cdc_model::laws::clean_net_is_sound;
 use cdc_model::view::plain_table;
 use cdc_model::{Cover, Crossing, Extra, Finding, GrayReg, Load, NoExtra, Sync, Verdict};
 use cell_graph::Net;
@@ -42,45 +57,52 @@ fn findings(
     covers: &[Cover],
     extra: &[Crossing],
     plain: &mut Table,
-) -> Result<List<Finding>, NoMemory> {
+) -> Result<List<Finding>, NoMemory>
+    ensures exact { IfOk result (λ findings. (grays : GrayRegOf → Bool) (rings : List RingOf) (is_extra : Bit → Bit → Bool) → AreHanded grays rings is_extra found.now covers.now extra.now →
+        ShowsNet found.now.net.now [] plain.old → AreFindingsIn grays rings is_extra found.now findings × HavePaths found.now.net.now findings) }
+{
     let uncovered = find_uncovered(alloc, found, covers, extra, plain)?;
     let entries = entries(alloc, found)?;
     let mut paths = Paths::open(alloc, found.net)?;
     let mut findings = List::new(alloc);
-    add_v1(
+    add_crossings(
         alloc,
         found,
         &mut paths,
         plain,
         uncovered.as_slice(),
+        1,
         &mut findings,
     )?;
-    add_v2(
+    add_crossings(
         alloc,
         found,
         &mut paths,
         plain,
         uncovered.as_slice(),
+        2,
         &mut findings,
     )?;
     add_v3(alloc, found, entries.as_slice(), &mut findings)?;
     add_v4(alloc, entries.as_slice(), &mut findings)?;
     add_v5(alloc, entries.as_slice(), &mut findings)?;
     add_v6(alloc, found, plain, &mut findings)?;
-    add_v7(
+    add_crossings(
         alloc,
         found,
         &mut paths,
         plain,
         uncovered.as_slice(),
+        7,
         &mut findings,
     )?;
-    add_v8(
+    add_crossings(
         alloc,
         found,
         &mut paths,
         plain,
         uncovered.as_slice(),
+        8,
         &mut findings,
     )?;
     Ok(findings)
@@ -95,7 +117,16 @@ pub fn audit_with<E: Extra>(
     extra: &E,
 ) -> Result<Verdict, Stop>
     ensures numbered { IfErr result (HasNumberIn crossing_numbers) }
+    ensures exact { IfOk result (λ verdict. CanAudit net.now domains.now → IsVerdictOf net.now domains.now (E.is_extra extra.now) verdict) }
+    ensures sound { IfOk result (λ verdict. CanAudit net.now domains.now → (is : IsVerdictOf net.now domains.now (E.is_extra extra.now) verdict) →
+        E.fits extra.now (design_of net.now domains.now) (net_trees net.now is.grays) is.syncs verdict.grays → verdict.findings ≡ [] →
+        Sound (design_of net.now domains.now) verdict.covers (map (λ (r : RingEntry). r.bits) verdict.rings) (E.is_extra extra.now)) }
+    ensures together { IfOk result (λ verdict. CanAudit net.now domains.now → (is : IsVerdictOf net.now domains.now (E.is_extra extra.now) verdict) →
+        E.fits extra.now (design_of net.now domains.now) (net_trees net.now is.grays) is.syncs verdict.grays → verdict.findings ≡ [] →
+        (run : Trace) → IsRun (design_of net.now domains.now) run → (x : Bit) → is_register_bit net.now x ≡ true → (group depth : ℕ) →
+        IsTogether (design_of net.now domains.now) (net_trees net.now is.grays) is.syncs run x group depth) }
 {
+    clean_net_is_sound(extra);
     let mut plain = plain_table(alloc, net)?;
     let crossings = crossings::find_with(alloc, net, domains, &mut plain)?;
     let syncs = two_flop::syncs_with(alloc, net, domains, crossings.as_slice(), &mut plain)?;
@@ -133,6 +164,12 @@ pub fn audit_with<E: Extra>(
 /// The verdict on the net.
 pub fn audit(alloc: Global, net: &Net, domains: &Domains) -> Result<Verdict, Stop>
     ensures numbered { IfErr result (HasNumberIn crossing_numbers) }
+    ensures exact { IfOk result (λ verdict. CanAudit net.now domains.now → IsVerdictOf net.now domains.now none_extra verdict) }
+    ensures sound { IfOk result (λ verdict. CanAudit net.now domains.now → verdict.findings ≡ [] →
+        Sound (design_of net.now domains.now) verdict.covers (map (λ (r : RingEntry). r.bits) verdict.rings) none_extra) }
+    ensures together { IfOk result (λ verdict. CanAudit net.now domains.now → (is : IsVerdictOf net.now domains.now none_extra verdict) → verdict.findings ≡ [] →
+        (run : Trace) → IsRun (design_of net.now domains.now) run → (x : Bit) → is_register_bit net.now x ≡ true → (group depth : ℕ) →
+        IsTogether (design_of net.now domains.now) (net_trees net.now is.grays) is.syncs run x group depth) }
 {
     audit_with(alloc, net, domains, &NoExtra)
 }

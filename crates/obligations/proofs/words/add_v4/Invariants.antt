@@ -1,0 +1,10 @@
+-- The findings of all lots are those so far, then those of the lots that are left.
+use Rattle.std.proofs.Common.{◌≡◌, ◌++◌}
+use Rattle.std.specs.List.{flat_map}
+use Rattle.std.specs.Slice.Iter.{chunk_by_rest}
+use Rattle.obligations.specs.Lots.{lots_of}
+use Rattle.obligations.specs.Words.{of_one_bit, v4_of}
+use Rattle.obligations.proofs.words.add_v4.Given as goal
+
+abbrev pub invariant-loop-lot : goal.invariant-loop-lot
+invariant-loop-lot l = l.findings ++ flat_map v4_of (lots_of of_one_bit (chunk_by_rest l.lot-iterator)) ≡ l.initial.findings ++ flat_map v4_of (lots_of of_one_bit (chunk_by_rest l.initial.lot-iterator))
