@@ -110,6 +110,7 @@ module _ (words : List Text) (before now : Seen) (accepted : IsAccepted words) (
     long_net = λ n c rest _ files long. cc;
     long_con = λ n c rest _ files long. cc;
     long_run = λ n c r _ files long. cc;
+    replayed = λ n c r _ _ _ files _ _. cc;
   }
 
   line_test : (s : Status) (f : Fault) → IsRefusedBy before now s f → IsAnswer words before now s (line_of f)
@@ -121,6 +122,7 @@ module _ (words : List Text) (before now : Seen) (accepted : IsAccepted words) (
     long_net = λ n c rest _ files long. cc;
     long_con = λ n c rest _ files long. cc;
     long_run = λ n c r _ files long. cc;
+    replayed = λ n c r _ _ _ files _ _. cc;
   }
 
   one_test : (ended : Result Answer Ending) (a : Answer) → MatchResult ended (λ own. IsAudited own.status) IsOfFiles
@@ -164,6 +166,7 @@ module _ (words : List Text) (before now : Seen) (net con : Text) (accepted : Is
     long_net = λ n c rest _ files long. absurd (end.reads.long_net (subst (λ (x : Text). IsLong before x) (sym (is_net n c rest files)) long));
     long_con = λ n c rest _ files long. absurd (end.reads.long_con (subst (λ (x : Text). IsLong before x) (sym (is_con n c rest files)) long));
     long_run = λ n c r _ files long. cc;
+    replayed = λ n c r _ _ _ files _ _. cc;
   }
 
   line_answer : (s : Status) (f : Fault) → IsEndOfAudit net con before now (Err (Refused s f)) → IsAnswer words before now s (line_of f)
@@ -179,6 +182,7 @@ module _ (words : List Text) (before now : Seen) (net con : Text) (accepted : Is
         (subst (λ (x : Text). IsRefusedForLength status.Constraints x s (line_of f) ⊎ IsRefusedForLength status.Netlist net s (line_of f)) (is_con n c rest files)
         (length_answers s f net con (end.reads.long_con (subst (λ (x : Text). IsLong before x) (sym (is_con n c rest files)) long))));
     long_run = λ n c r _ files long. cc;
+    replayed = λ n c r _ _ _ files _ _. cc;
   }
 
   one_answer : (ended : Result Answer Ending) (a : Answer) → IsEndOfAudit net con before now ended

@@ -6,3 +6,4 @@ pub mod ReadInTurn
 pub mod Answered
 pub mod Finished
 pub mod Replayed
+pub mod Replays

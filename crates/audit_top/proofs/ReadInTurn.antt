@@ -1,5 +1,6 @@
 -- Reads, one after the other.
-use Rattle.std.proofs.Common.{◌≡◌, ◌≢◌, ◌∙◌, ◌≤◌, ap, sym, subst, append-nil, inl, inr, ◌⊎◌, ◌++◌, ◌+◌, ◌∷◌, [], List, ℕ, Ok, Err, Some, append_assoc, arith, refl, Result}
+use Rattle.std.proofs.Common.{◌≡◌, ◌≢◌, ◌∙◌, ◌≤◌, ap, sym, subst, append-nil, inl, inr, ◌⊎◌, ◌++◌, ◌+◌, ◌∷◌, [], List, ℕ, Ok, Err, Option, Some, append_assoc, arith, refl, Result}
+use Rattle.std.specs.Prelude.{IfSome}
 use Rattle.cdc_base.specs.Causes.{Rose, RoseBy}
 use Rattle.cdc_base.specs.declared.fault.Fault.{Fault}
 use Rattle.audit_top.specs.declared.answer.Ending.{Ending}
@@ -8,7 +9,7 @@ use Rattle.audit_top.specs.declared.status.Status.{Status}
 use Rattle.audit_top.specs.declared.status.Status.TheVariants.{Netlist, Constraints, Record, ReadFault}
 use Rattle.audit_top.specs.declared.status.Status.TheVariants as status
 use Rattle.audit_top.specs.Runs.{Seen, Text, AskedFor, AskedInOrder, IsLong, IsRefusedBy, IsUnread, IsTooLong, IsLastAsked, fault_at, max_bytes}
-use Rattle.audit_top.specs.Endings.{IsEnding, IsLengthEnding, IsReadEnding, IsReadOf, IsReadOfBoth, IsReadOfThree}
+use Rattle.audit_top.specs.Endings.{IsEnding, IsLengthEnding, IsOfLength, IsReadEnding, IsReadOf, IsReadOfBoth, IsReadOfThree}
 
 -- no count is lower than before
 abbrev IsLater : Seen → Seen → Type 0
@@ -219,3 +220,27 @@ all_read net con run before mid late now bytes more most texts first second thir
   long_con = λ (all, is, over). absurd (second.short (all, first.holds con ∙ is, over));
   long_run = λ (all, is, over). absurd (third.short (all, second.holds run ∙ (first.holds run ∙ is), over));
 }
+
+-- the status of a read that ended is that of its file
+of_other : (name run : Text) (status : Status) (before now : Seen) (e : Ending) → status ≢ Record → IsReadEnding name status before now e → IsOfLength run e
+of_other name run status before now Memory other ended = tt
+of_other name run status before now (Refused s f) other (inl (is, fault, rose)) = λ h. cc
+of_other name run status before now (Refused s f) other (inr (is, fault, rose)) = λ h. absurd (other (sym is ∙ h))
+
+pub netlist_length : (name run : Text) (before now : Seen) (e : Ending) → IsReadOf name Netlist before now (Err e) → IsOfLength run e
+netlist_length name run before now e read = of_other name run Netlist before now e (λ h. cc) read.ended
+
+pub constraints_length : (name run : Text) (before now : Seen) (e : Ending) → IsReadOf name Constraints before now (Err e) → IsOfLength run e
+constraints_length name run before now e read = of_other name run Constraints before now e (λ h. cc) read.ended
+
+pub record_length : (run : Text) (before now : Seen) (e : Ending) → IsReadOf run Record before now (Err e) → IsOfLength run e
+record_length run before now Memory read = tt
+record_length run before now (Refused s f) read = elim read.ended [
+  | inl (is, fault, rose) ↦ λ h. cc
+  | inr (is, fault, rose) ↦ λ h. fault
+]
+
+-- what lies under a name lay there before the earlier reads
+pub told_before : (held_before held_now : Option Text) (bytes : Text) → held_now ≡ held_before → IfSome held_now (λ all. bytes ≡ all)
+    → IfSome held_before (λ all. bytes ≡ all)
+told_before held_before held_now bytes same told = subst (λ (o : Option Text). IfSome o (λ all. bytes ≡ all)) same told

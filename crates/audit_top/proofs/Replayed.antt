@@ -1,6 +1,6 @@
 -- What a replay answers, once it came to its end.
-use Rattle.std.proofs.Common.{◌≡◌, ap, sym, subst, inl, inr, ◌⊎◌, ◌∷◌, [], List, Ok, Err, refl, Result}
-use Rattle.std.specs.Prelude.{IfOk, IfErr, MatchResult}
+use Rattle.std.proofs.Common.{◌≡◌, ◌∙◌, ap, sym, subst, inl, inr, ◌⊎◌, ◌∷◌, [], List, Option, Some, Ok, Err, refl, Result}
+use Rattle.std.specs.Prelude.{IfOk, IfErr, IfSome, MatchResult}
 use Rattle.cdc_base.specs.declared.fault.Fault.{Fault}
 use Rattle.cdc_base.specs.declared.list.NoMemory.{NoMemory}
 use Rattle.report.specs.Faults.{line_of}
@@ -10,8 +10,9 @@ use Rattle.audit_top.specs.declared.answer.Ending.{Ending}
 use Rattle.audit_top.specs.declared.answer.Ending.TheVariants.{Refused, Memory}
 use Rattle.audit_top.specs.declared.status.Status.{Status}
 use Rattle.audit_top.specs.declared.status.Status.TheVariants as status
-use Rattle.audit_top.specs.Runs.{Seen, Text, IsAnswer, IsLong, IsRefusedBy, IsRefusedForLength, IsOfStatus, IsText}
-use Rattle.audit_top.specs.Endings.{IsAnswerTo, IsEnding, IsEndOfReplay, IsLengthEnding, IsOfFiles, IsReadOfThree}
+use Rattle.audit_top.specs.Runs.{Seen, Text, IsAnswer, IsLong, IsRefusedBy, IsRefusedForLength, IsOfStatus, IsReplayed, IsText, fault_at}
+use Rattle.audit_top.specs.Endings.{IsAnswerTo, IsEnding, IsEndOfReplay, IsLengthEnding, IsOfFiles, IsOfLength, IsReadOfThree, IsReplayEnd}
+use Rattle.audit_top.specs.Replays.{IsReplayOfTexts, IsReplayUnder}
 use Rattle.audit_top.proofs.Answered.{refused_fits, line_tells, listed_ending, length_answer, length_answers}
 
 texts_ended : (before now : Seen) (r : Result Answer Ending) → MatchResult r (λ a. a.status ≡ status.Done) IsOfFiles → IfErr r (IsEnding before now)
@@ -23,11 +24,34 @@ texts_done : (r : Result Answer Ending) → MatchResult r (λ a. a.status ≡ st
 texts_done (Ok own) h = h
 texts_done (Err e) h = tt
 
+-- where a file is told, its bytes are what was read
+told_is : (held : Option Text) (bytes all : Text) → IfSome held (λ told. bytes ≡ told) → held ≡ Some all → bytes ≡ all
+told_is held bytes all told is = subst (λ (o : Option Text). IfSome o (λ t. bytes ≡ t)) is told
+
+texts_exact : (name con run : Text) (r : Result Answer Ending) → IsReplayOfTexts con run r → IsReplayEnd name con run r
+texts_exact name con run (Ok own) h = h
+texts_exact name con run (Err Memory) h = tt
+texts_exact name con run (Err (Refused s f)) h = λ is. inr (h is)
+
+length_exact : (name con run : Text) (e : Ending) → IsOfLength name e → IsReplayEnd name con run (Err e)
+length_exact name con run Memory h = tt
+length_exact name con run (Refused s f) h = λ is. inl (h is)
+
+-- a file was not read whole
+pub unread_texts : {T : Type 0} (net con run : Text) (before now : Seen) (e : Ending) → IsReadOfThree {T = T} net con run before now (Err e)
+    → IsOfLength run e → IsEndOfReplay net con run before now (Err e)
+unread_texts net con run before now e reads h = record {
+  reads = record { asks = reads.asks; ended = reads.ended; long_net = reads.long_net; long_con = reads.long_con; long_run = reads.long_run };
+  replayed = tt;
+  exact = λ con_bytes run_bytes _ _. length_exact run con_bytes run_bytes e h;
+}
+
 -- all three files were read, and their texts have an answer or a refusal
-pub replayed_texts : {T : Type 0} (net con run : Text) (before now : Seen) (texts : T) (r : Result Answer Ending)
+pub replayed_texts : {T : Type 0} (net con run : Text) (before now : Seen) (texts : T) (r : Result Answer Ending) (con_read run_read : Text)
     → IsReadOfThree {T = T} net con run before now (Ok texts) → MatchResult r (λ a. a.status ≡ status.Done) IsOfFiles
+    → IfSome (before.held con) (λ all. con_read ≡ all) × IfSome (before.held run) (λ all. run_read ≡ all) → IsReplayOfTexts con_read run_read r
     → IsEndOfReplay net con run before now r
-replayed_texts net con run before now texts r reads h = record {
+replayed_texts net con run before now texts r con_read run_read reads h told exact = record {
   reads = record {
     asks = reads.asks;
     ended = texts_ended before now r h;
@@ -36,7 +60,24 @@ replayed_texts net con run before now texts r reads h = record {
     long_run = λ long. absurd (reads.long_run long);
   };
   replayed = texts_done r h;
+  exact = λ con_bytes run_bytes con_is run_is.
+      subst (λ (c : Text). IsReplayEnd run c run_bytes r) (told_is (before.held con) con_read con_bytes told.0 con_is)
+      (subst (λ (b : Text). IsReplayEnd run con_read b r) (told_is (before.held run) run_read run_bytes told.1 run_is)
+      (texts_exact run con_read run_read r exact));
 }
+
+line_replayed : (before now : Seen) (name con run : Text) (s : Status) (f : Fault) → IsRefusedBy before now s f
+    → (s ≡ status.Record → (f ≡ fault_at 600 name) ⊎ IsReplayUnder con run (Err (Refused s f))) → IsReplayed name con run s (line_of f)
+line_replayed before now name con run status.Record f refused h = (f, refl, h refl)
+line_replayed before now name con run status.Done f refused h = absurd refused
+line_replayed before now name con run status.Violations f refused h = absurd refused
+line_replayed before now name con run status.Waived f refused h = absurd refused
+line_replayed before now name con run status.Usage f refused h = tt
+line_replayed before now name con run status.Netlist f refused h = tt
+line_replayed before now name con run status.Constraints f refused h = tt
+line_replayed before now name con run status.ReadFault f refused h = tt
+line_replayed before now name con run status.WriteFault f refused h = tt
+line_replayed before now name con run status.Memory f refused h = tt
 
 done_of_none : (s : Status) → s ≡ status.Done → IsOfStatus s → ⊥
 done_of_none s h (inl is) = cc
@@ -71,6 +112,8 @@ module _ (words : List Text) (before now : Seen) (net con run : Text) (accepted 
     long_net = λ n c rest _ files long. absurd (end.reads.long_net (subst (λ (x : Text). IsLong before x) (sym (is_net n c rest files)) long));
     long_con = λ n c rest _ files long. absurd (end.reads.long_con (subst (λ (x : Text). IsLong before x) (sym (is_con n c rest files)) long));
     long_run = λ n c r _ files long. absurd (end.reads.long_run (subst (λ (x : Text). IsLong before x) (sym (is_run n c r files)) long));
+    replayed = λ n c r con_bytes run_bytes _ files con_is run_is. subst (λ (s : Status). IsReplayed r con_bytes run_bytes s own.text) (sym end.replayed)
+        (end.exact con_bytes run_bytes (ap before.held (is_con n c (r ∷ []) files) ∙ con_is) (ap before.held (is_run n c r files) ∙ run_is));
   }
 
   line_answer : (s : Status) (f : Fault) → IsEndOfReplay net con run before now (Err (Refused s f)) → IsAnswer words before now s (line_of f)
@@ -90,6 +133,9 @@ module _ (words : List Text) (before now : Seen) (net con run : Text) (accepted 
         (subst (λ (x : Text). IsRefusedForLength status.Record r s (line_of f) ⊎ (IsRefusedForLength status.Constraints x s (line_of f) ⊎ IsRefusedForLength status.Netlist net s (line_of f))) (is_con n c (r ∷ []) files)
         (subst (λ (x : Text). IsRefusedForLength status.Record x s (line_of f) ⊎ (IsRefusedForLength status.Constraints con s (line_of f) ⊎ IsRefusedForLength status.Netlist net s (line_of f))) (is_run n c r files)
         (all_length_answers s f net con run (end.reads.long_run (subst (λ (x : Text). IsLong before x) (sym (is_run n c r files)) long)))));
+    replayed = λ n c r con_bytes run_bytes _ files con_is run_is. subst (λ (x : Text). IsReplayed x con_bytes run_bytes s (line_of f)) (is_run n c r files)
+        (line_replayed before now run con_bytes run_bytes s f end.reads.ended
+        (end.exact con_bytes run_bytes (ap before.held (is_con n c (r ∷ []) files) ∙ con_is) (ap before.held (is_run n c r files) ∙ run_is)));
   }
 
   one_answer : (ended : Result Answer Ending) (a : Answer) → IsEndOfReplay net con run before now ended

@@ -1,5 +1,5 @@
 -- How the parts of a command end.
-use Rattle.std.specs.Prelude.{ℕ, ◌≡◌, ◌+◌, ◌≤◌, ◌⊎◌, true, List, [], ◌∷◌, ◌++◌, length, Option, Result, Ok, Err, IfOk, IfErr, IsErrAnd}
+use Rattle.std.specs.Prelude.{ℕ, ◌≡◌, ◌+◌, ◌≤◌, ◌⊎◌, true, List, [], ◌∷◌, ◌++◌, length, Option, Some, Result, Ok, Err, IfOk, IfErr, IfSome, IsErrAnd}
 use Rattle.cdc_base.specs.Causes.{Rose, RoseBy}
 use Rattle.cdc_base.specs.declared.fault.Fault.{Fault}
 use Rattle.refusals.specs.Numbers.{is_listed}
@@ -9,6 +9,7 @@ use Rattle.audit_top.specs.declared.answer.Ending.{Ending}
 use Rattle.audit_top.specs.declared.answer.Ending.TheVariants.{Refused, Memory}
 use Rattle.audit_top.specs.declared.status.Status.{Status}
 use Rattle.audit_top.specs.declared.status.Status.TheVariants.{Done, Violations, Usage, Netlist, Constraints, Record, ReadFault, Waived}
+use Rattle.audit_top.specs.Replays.{IsReplayUnder}
 use Rattle.audit_top.specs.Runs.{Seen, Text, AskedFor, AskedInOrder, IsLong, IsRefusedBy, fault_at, max_bytes, numbers_of, usage_line}
 
 -- want of memory, or this refusal
@@ -33,6 +34,11 @@ abbrev pub IsOfFiles : Ending → Type 0
 IsOfFiles Memory = Unit {0}
 IsOfFiles (Refused status f) = is_listed (numbers_of status) f.number ≡ true
 
+-- want of memory, or a refusal of the netlist or of the constraint file
+abbrev pub IsOfDesign : Ending → Type 0
+IsOfDesign Memory = Unit {0}
+IsOfDesign (Refused status f) = (status ≡ Netlist) ⊎ (status ≡ Constraints)
+
 -- the answer that an ending has: the line of its refusal
 abbrev pub IsAnswerTo : Ending → Answer → Type 0
 IsAnswerTo Memory answer = ⊥
@@ -52,6 +58,7 @@ pub record IsReadOf (name : Text) (status : Status) (before now : Seen) (result 
   pub asks : (now.asked ≡ before.asked ++ name ∷ []) ⊎ ((result ≡ Err Memory) × (now.asked ≡ before.asked))
   pub within : IfOk result (λ bytes. length bytes ≤ max_bytes)
   pub short : IfOk result (λ bytes. IsLong before name → ⊥)
+  pub content : IfOk result (λ bytes. IfSome (before.held name) (λ all. bytes ≡ all))
   pub ended : IfErr result (IsReadEnding name status before now)
 
 -- why a file over its limit has no answer of its own
@@ -71,6 +78,11 @@ pub record IsEndOfAudit (net con : Text) (before now : Seen) (result : Result An
   pub reads : IsReadOfBoth net con before now result
   pub audited : IfOk result (λ answer. IsAudited answer.status)
 
+-- a read that ended refuses the record as too long alone
+abbrev pub IsOfLength : Text → Ending → Type 0
+IsOfLength run Memory = Unit {0}
+IsOfLength run (Refused status fault) = status ≡ Record → fault ≡ fault_at 600 run
+
 -- all three files were read whole, or the reading ended so
 pub record IsReadOfThree {T : Type 0} (net con run : Text) (before now : Seen) (result : Result T Ending) : Type 0 where
   pub asks : AskedInOrder (net ∷ con ∷ run ∷ []) before now
@@ -79,10 +91,19 @@ pub record IsReadOfThree {T : Type 0} (net con run : Text) (before now : Seen) (
   pub long_con : IsLong before con → IsErrAnd result (λ e. IsLengthEnding Constraints con e ⊎ IsLengthEnding Netlist net e)
   pub long_run : IsLong before run → IsErrAnd result (λ e. IsLengthEnding Record run e ⊎ (IsLengthEnding Constraints con e ⊎ IsLengthEnding Netlist net e))
 
+-- how the replay of a record under a constraint file's bytes may end; the record may be too long
+abbrev pub IsReplayEnd : Text → Text → Text → Result Answer Ending → Type 0
+IsReplayEnd name con run (Ok answer) = IsReplayUnder con run (Ok answer.text)
+IsReplayEnd name con run (Err (Refused status fault)) =
+    status ≡ Record → (fault ≡ fault_at 600 name) ⊎ IsReplayUnder con run (Err (Refused status fault))
+IsReplayEnd name con run (Err Memory) = Unit {0}
+
 -- a replay came to its end: the files were read in their order, and it is done, or there is a refusal with its cause
 pub record IsEndOfReplay (net con run : Text) (before now : Seen) (result : Result Answer Ending) : Type 0 where
   pub reads : IsReadOfThree net con run before now result
   pub replayed : IfOk result (λ answer. answer.status ≡ Done)
+  pub exact : (con_bytes run_bytes : Text) → before.held con ≡ Some con_bytes → before.held run ≡ Some run_bytes
+      → IsReplayEnd run con_bytes run_bytes result
 
 -- the answer to words that are refused
 abbrev pub IsUsage : Answer → Type 0

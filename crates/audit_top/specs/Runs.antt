@@ -1,5 +1,5 @@
 -- What a run of the program answers, as far as its words, its files and its output tell.
-use Rattle.std.specs.Prelude.{ℕ, ◌≡◌, ◌+◌, ◌<◌, ◌≤◌, ◌⊎◌, true, List, [], ◌∷◌, ◌++◌, length, Option, Some, None, codes}
+use Rattle.std.specs.Prelude.{ℕ, ◌≡◌, ◌+◌, ◌<◌, ◌≤◌, ◌⊎◌, true, List, [], ◌∷◌, ◌++◌, length, Option, Some, None, Ok, Err, codes}
 use Rattle.cdc_base.specs.Causes.{Rose, RoseBy, IsAdded, IsFrontAdded}
 use Rattle.cdc_base.specs.declared.fault.Fault.{Fault}
 use Rattle.command_line.specs.Cli.{IsAccepted, file_words}
@@ -7,8 +7,10 @@ use Rattle.refusals.specs.Numbers.{is_listed, netlist_numbers, all_constraint_nu
 use Rattle.report.specs.Faults.{line_of}
 use Rattle.run_file.specs.Numbers.{record_numbers}
 use Rattle.run_report.specs.Refusals.{step_numbers}
+use Rattle.audit_top.specs.declared.answer.Ending.TheVariants.{Refused}
 use Rattle.audit_top.specs.declared.status.Status.{Status}
 use Rattle.audit_top.specs.declared.status.Status.TheVariants.{Done, Violations, Usage, Netlist, Constraints, Record, ReadFault, WriteFault, Memory, Waived}
+use Rattle.audit_top.specs.Replays.{IsReplayUnder}
 
 abbrev pub Text : Type 0
 Text = List ℕ
@@ -107,6 +109,16 @@ TellsOfLength before now text = (name : Text) × IsLastAsked name now × (text �
 abbrev pub IsOfStatus : Status → Type 0
 IsOfStatus s = (s ≡ Netlist) ⊎ ((s ≡ Constraints) ⊎ (s ≡ Record))
 
+-- A replay of these bytes under the constraint file's bytes: it prints the run that the record fixes, or refuses the record, which may be too long,
+-- for the rule that it breaks. It has no findings, and the other files may be refused.
+abbrev pub IsReplayed : Text → Text → Text → Status → Text → Type 0
+IsReplayed name con run Done text = IsReplayUnder con run (Ok text)
+IsReplayed name con run Record text = (fault : Fault) × (text ≡ line_of fault)
+    × ((fault ≡ fault_at 600 name) ⊎ IsReplayUnder con run (Err (Refused Record fault)))
+IsReplayed name con run Violations text = ⊥
+IsReplayed name con run Waived text = ⊥
+IsReplayed name con run _ text = Unit {0}
+
 -- a status and a text, from the words and from what the files told
 pub record IsAnswer (words : List Text) (before now : Seen) (status : Status) (text : Text) : Type 0 where
   pub usage : status ≡ Usage → IsAccepted words → ⊥
@@ -119,6 +131,8 @@ pub record IsAnswer (words : List Text) (before now : Seen) (status : Status) (t
       → IsRefusedForLength Constraints con status text ⊎ IsRefusedForLength Netlist net status text
   pub long_run : (net con run : Text) → IsAccepted words → file_words words ≡ net ∷ con ∷ run ∷ [] → IsLong before run
       → IsRefusedForLength Record run status text ⊎ (IsRefusedForLength Constraints con status text ⊎ IsRefusedForLength Netlist net status text)
+  pub replayed : (net con run con_bytes run_bytes : Text) → IsAccepted words → file_words words ≡ net ∷ con ∷ run ∷ []
+      → before.held con ≡ Some con_bytes → before.held run ≡ Some run_bytes → IsReplayed run con_bytes run_bytes status text
 
 -- what the output told before the run and tells after it, for a text that went to it
 abbrev pub IsWritten : Status → Status → Text → Option Text → Option Text → Type 0

@@ -4,6 +4,7 @@ ghost use Rattle.std.specs.List.{list_all};
 ghost use Rattle.refusals.specs.Numbers.{is_listed, HasNumberIn};
 ghost use Rattle.audit_top.specs.Runs.{numbers_of};
 ghost use Rattle.audit_top.specs.Endings.{IsAnswerTo, IsOfFiles};
+ghost use Rattle.audit_top.specs.Replays.{ended_with};
 
 use crate::status::Status;
 use cdc_base::{Fault, List, NoMemory, Stop};
@@ -38,6 +39,7 @@ impl From<NoMemory> for Ending {
 pub fn or_refused<T>(status: Status, given: Result<T, Stop>) -> Result<T, Ending>
     ensures ended { (numbers : List ℕ) → list_all (is_listed (numbers_of status)) numbers ≡ true → IfErr given (HasNumberIn numbers) → IfErr result IsOfFiles }
     ensures given { IfOk result (λ value. given ≡ Ok value) }
+    ensures exact { result ≡ ended_with status given }
 {
     match given {
         Ok(value) => Ok(value),

@@ -1,9 +1,13 @@
 //! The audit of a netlist under its constraints.
-ghost use Rattle.std.specs.Prelude.{◌≡◌, ◌≤◌, length, is_some, MatchResult, IfErr};
+ghost use Rattle.std.specs.Prelude.{◌≡◌, ◌≤◌, ◌^◌, length, is_some, MatchResult, IfOk, IfErr, OnOk};
 ghost use Rattle.std.specs.List.{list_all};
+ghost use Rattle.cell_graph.specs.Nets.{HasNextCells, IsNet};
+ghost use Rattle.clock_constraints.specs.Fit.{AreFit};
+ghost use Rattle.elaborate.specs.Words.{AreStarted};
 ghost use Rattle.audit_top.specs.Runs.{Seen, max_bytes};
 ghost use Rattle.audit_top.specs.Statuses.{audited_status};
-ghost use Rattle.audit_top.specs.Endings.{IsAudited, IsOfFiles, IsEndOfAudit};
+ghost use Rattle.audit_top.specs.Replays.{IsDesign};
+ghost use Rattle.audit_top.specs.Endings.{IsAudited, IsOfDesign, IsOfFiles, IsEndOfAudit};
 
 use crate::answer::{Answer, Ending, or_refused};
 use crate::input::read_both;
@@ -20,7 +24,8 @@ use verilog_ast::Source;
 /// The source that a netlist reads as.
 pub(crate) fn read_source(alloc: Global, text: &[u8]) -> Result<Source, Ending>
     requires { length text.now ≤ max_bytes }
-    ensures { IfErr result IsOfFiles }
+    ensures of_files { IfErr result IsOfFiles }
+    ensures of_design { IfErr result IsOfDesign }
 {
     let tokens = or_refused(Status::Netlist, verilog_lex::lex(alloc, text))?;
     or_refused(
@@ -31,12 +36,28 @@ pub(crate) fn read_source(alloc: Global, text: &[u8]) -> Result<Source, Ending>
 
 /// The cells of a source, unfolded from the top that the constraints name.
 fn elaborated(alloc: Global, source: &Source, constraints: &Constraints) -> Result<Net, Ending>
-    ensures { IfErr result IsOfFiles }
+    ensures of_files { IfErr result IsOfFiles }
+    ensures of_design { IfErr result IsOfDesign }
+    ensures is_net { IfOk result IsNet }
+    ensures next_cells { IfOk result HasNextCells }
+    ensures started { IfOk result (λ net. AreStarted net.graph.signals) }
 {
     let resets = constraints.resets.as_slice();
     let flat = flat_design::flatten(alloc, source, &constraints.top, resets);
     let flat = or_refused(Status::Netlist, flat)?;
     or_refused(Status::Netlist, elaborate::elaborate(alloc, &flat))
+}
+
+/// Want of memory where signals or clocks are too many for their numbers.
+fn check_numbers(net: &Net, domains: &Domains) -> Result<(), NoMemory>
+    ensures { OnOk result ((length net.now.graph.signals ≤ 2 ^ 32) × (length domains.now.clocks ≤ 2 ^ 32)) }
+{
+    let signals = net.graph.signals().len();
+    let clocks = domains.clocks.as_slice().len();
+    if signals.max(clocks) > u32::MAX as usize {
+        return Err(NoMemory);
+    }
+    Ok(())
 }
 
 /// The cells of a source, and the clocks of their bits by the constraints.
@@ -45,11 +66,14 @@ pub(crate) fn constrained(
     source: &Source,
     constraints: &Constraints,
 ) -> Result<(Net, Domains), Ending>
-    ensures { IfErr result IsOfFiles }
+    ensures of_files { IfErr result IsOfFiles }
+    ensures of_design { IfErr result IsOfDesign }
+    ensures design { AreFit constraints.now → IfOk result (λ made. IsDesign constraints.now made.0 made.1) }
 {
     let net = elaborated(alloc, source, constraints)?;
     let domains = domains::assign(alloc, &net, constraints, &Plain);
     let domains = or_refused(Status::Constraints, domains)?;
+    check_numbers(&net, &domains)?;
     Ok((net, domains))
 }
 

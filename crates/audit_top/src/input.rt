@@ -1,7 +1,7 @@
 //! Reading the files that the words name.
-ghost use Rattle.std.specs.Prelude.{◌≡◌, ◌≤◌, length, IfOk};
+ghost use Rattle.std.specs.Prelude.{◌≡◌, ◌≤◌, length, IfOk, IfErr, IfSome};
 ghost use Rattle.audit_top.specs.Runs.{Seen, fault_at, max_bytes};
-ghost use Rattle.audit_top.specs.Endings.{IsRefusal, IsReadOf, IsReadOfBoth, IsReadOfThree};
+ghost use Rattle.audit_top.specs.Endings.{IsRefusal, IsOfLength, IsReadOf, IsReadOfBoth, IsReadOfThree};
 
 use crate::answer::Ending;
 use crate::status::Status;
@@ -79,6 +79,8 @@ pub fn read_three<F: Files>(
         let now : Seen = record { held = F.held files.new; asked = F.asked files.new; taken = F.taken files.new; faults = F.faults files.new } in
         IsReadOfThree net.now con.now run.now before now result }
     ensures within { IfOk result (λ texts. length texts.0 ≤ max_bytes) }
+    ensures content { IfOk result (λ texts. IfSome (F.held files.old con.now) (λ all. texts.1 ≡ all) × IfSome (F.held files.old run.now) (λ all. texts.2 ≡ all)) }
+    ensures of_length { IfErr result (IsOfLength run.now) }
 {
     let net = match read_text(alloc, files, net, Status::Netlist) {
         Ok(net) => net,

@@ -3,6 +3,7 @@ ghost use Rattle.std.specs.Prelude.{◌≡◌, ◌≤◌, length, IfErr, MatchRe
 ghost use Rattle.audit_top.specs.declared.status.Status.TheVariants.{Done};
 ghost use Rattle.audit_top.specs.Runs.{Seen, max_bytes};
 ghost use Rattle.audit_top.specs.Endings.{IsOfFiles, IsEndOfReplay};
+ghost use Rattle.audit_top.specs.Replays.{CanReplay, IsReplayOf, IsReplayOfTexts};
 
 use crate::answer::{Answer, Ending, or_refused};
 use crate::audit::{constrained, read_source};
@@ -13,14 +14,16 @@ use cell_graph::Net;
 use domains::Domains;
 use std::alloc::Global;
 
-/// The text of the run that a record fixes.
-fn replayed_text(
+/// The text of the run that a record's bytes fix on a net. Refused with the record's status: by the first rule that the
+/// bytes break, or by E504 to E507 for the first step by which no run goes on.
+pub fn replayed_text(
     alloc: Global,
     net: &Net,
     domains: &Domains,
     run: &[u8],
 ) -> Result<List<u8>, Ending>
-    ensures { IfErr result IsOfFiles }
+    ensures of_files { IfErr result IsOfFiles }
+    ensures exact { CanReplay net.now domains.now → IsReplayOf net.now domains.now run.now result }
 {
     let record = or_refused(Status::Record, run_file::read(alloc, run, net, domains))?;
     or_refused(
@@ -33,7 +36,8 @@ fn replayed_text(
 /// the unfolding, of the cells, of the clocks, of the record, of its steps.
 fn replay_texts(alloc: Global, net: &[u8], con: &[u8], run: &[u8]) -> Result<Answer, Ending>
     requires { length net.now ≤ max_bytes }
-    ensures { MatchResult result (λ answer. answer.status ≡ Done) IsOfFiles }
+    ensures exact { IsReplayOfTexts con.now run.now result }
+    ensures ended { MatchResult result (λ answer. answer.status ≡ Done) IsOfFiles }
 {
     let source = read_source(alloc, net)?;
     let constraints = or_refused(Status::Constraints, clock_constraints::read(alloc, con))?;

@@ -18,4 +18,4 @@ returns-in_err-verdict c =
 pub returns-in_err-aside : goal.returns-in_err-aside
 returns-in_err-aside c =
     let refused : IfErr c.or_refused-3.result IsOfFiles = c.or_refused-3.ensures.ended waiver_numbers refl c.set_aside-aside.ensures.numbered in
-    search rules
+    search (rules, refused, c.in_err-aside.was, c.from_residual-in_err-aside.ensures.0, c.from_residual-in_err-aside.ensures.1)

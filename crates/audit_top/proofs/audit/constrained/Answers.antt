@@ -1,10 +1,27 @@
-use Rattle.std.proofs.Common.{◌≡◌, refl, rules}
+use Rattle.std.proofs.Common.{◌≡◌, Ok, inr, refl, rules}
 use Rattle.std.specs.Prelude.{IfErr}
+use Rattle.cofactor.specs.contracts.nodes.PlainCofactors.TheImpl as plain
+use Rattle.domains.specs.Assignment.{AreDomains}
+use Rattle.domains.specs.Fit.{Fit}
 use Rattle.refusals.specs.Numbers.{assignment_numbers}
-use Rattle.audit_top.specs.Endings.{IsOfFiles}
+use Rattle.audit_top.specs.Endings.{IsOfDesign, IsOfFiles}
+use Rattle.audit_top.proofs.Replays.{given_holds, is_design, of_design}
 use Rattle.audit_top.proofs.audit.constrained.Goals as goal
 
-pub returns-in_err-domains : goal.returns-in_err-domains
-returns-in_err-domains c =
+pub returns-in_err-domains-clause-of_files : goal.returns-in_err-domains-clause-of_files
+returns-in_err-domains-clause-of_files c =
     let refused : IfErr c.or_refused.result IsOfFiles = c.or_refused.ensures.ended assignment_numbers refl c.assign-domains.ensures.numbered in
     search rules
+
+pub returns-in_err-domains-clause-of_design : goal.returns-in_err-domains-clause-of_design
+returns-in_err-domains-clause-of_design c =
+    let refused : IfErr c.or_refused.result IsOfDesign = of_design _ _ _ (inr refl) c.or_refused.ensures.exact in
+    search rules
+
+pub returns-clause-design : goal.returns-clause-design
+returns-clause-design c = λ fits.
+    let net = c.in_ok-net.net in
+    let is = c.in_ok-net.ensures.is_net in
+    let assigned = given_holds (AreDomains plain.ghosts.reads net c.args.constraints.now) _ (Ok c.in_ok-domains.domains) c.in_ok-domains.ensures.given (c.assign-domains.ensures.domains is) in
+    let fit = given_holds (Fit net) _ (Ok c.in_ok-domains.domains) c.in_ok-domains.ensures.given (c.assign-domains.ensures.fit is fits) in
+    is_design _ _ _ is c.in_ok-net.ensures.next_cells c.in_ok-net.ensures.started assigned fit c.in_ok-check_numbers.ensures

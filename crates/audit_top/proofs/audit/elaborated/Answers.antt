@@ -1,13 +1,33 @@
-use Rattle.std.proofs.Common.{◌≡◌, refl, rules}
+use Rattle.std.proofs.Common.{◌≡◌, inl, refl, rules}
 use Rattle.std.specs.Prelude.{IfErr}
+use Rattle.cell_graph.specs.Nets.{HasNextCells, IsNet}
+use Rattle.elaborate.specs.Words.{AreStarted}
 use Rattle.refusals.specs.Numbers.{unfolding_numbers, elaboration_numbers}
-use Rattle.audit_top.specs.Endings.{IsOfFiles}
+use Rattle.audit_top.specs.Endings.{IsOfDesign, IsOfFiles}
+use Rattle.audit_top.proofs.Replays.{given_holds, of_design}
 use Rattle.audit_top.proofs.audit.elaborated.Goals as goal
 
-pub returns-in_err-flat : goal.returns-in_err-flat
-returns-in_err-flat c =
+pub returns-in_err-flat-clause-of_files : goal.returns-in_err-flat-clause-of_files
+returns-in_err-flat-clause-of_files c =
     let refused : IfErr c.or_refused.result IsOfFiles = c.or_refused.ensures.ended unfolding_numbers refl c.flatten-flat.ensures.numbered in
     search rules
 
-pub returns : goal.returns
-returns c = c.or_refused-2.ensures.ended elaboration_numbers refl c.elaborate.ensures.numbered
+pub returns-in_err-flat-clause-of_design : goal.returns-in_err-flat-clause-of_design
+returns-in_err-flat-clause-of_design c =
+    let refused : IfErr c.or_refused.result IsOfDesign = of_design _ _ _ (inl refl) c.or_refused.ensures.exact in
+    search rules
+
+pub returns-clause-of_files : goal.returns-clause-of_files
+returns-clause-of_files c = c.or_refused-2.ensures.ended elaboration_numbers refl c.elaborate.ensures.numbered
+
+pub returns-clause-of_design : goal.returns-clause-of_design
+returns-clause-of_design c = of_design _ _ _ (inl refl) c.or_refused-2.ensures.exact
+
+pub returns-clause-is_net : goal.returns-clause-is_net
+returns-clause-is_net c = given_holds IsNet _ _ c.or_refused-2.ensures.given c.elaborate.ensures.is_net
+
+pub returns-clause-next_cells : goal.returns-clause-next_cells
+returns-clause-next_cells c = given_holds HasNextCells _ _ c.or_refused-2.ensures.given c.elaborate.ensures.next_cells
+
+pub returns-clause-started : goal.returns-clause-started
+returns-clause-started c = given_holds (λ net. AreStarted net.graph.signals) _ _ c.or_refused-2.ensures.given c.elaborate.ensures.started

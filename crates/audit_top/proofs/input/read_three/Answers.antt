@@ -1,4 +1,5 @@
-use Rattle.audit_top.proofs.ReadInTurn.{first_of_three, second_of_three, third_of_three, all_read}
+use Rattle.std.proofs.Common.{◌∙◌}
+use Rattle.audit_top.proofs.ReadInTurn.{first_of_three, second_of_three, third_of_three, all_read, netlist_length, constraints_length, record_length, told_before}
 use Rattle.audit_top.proofs.input.read_three.Goals as goal
 
 pub returns-in-Err-clause-files : goal.returns-in-Err-clause-files
@@ -12,3 +13,18 @@ returns-in-Err-read_text-2-clause-files g c = third_of_three _ _ _ _ _ _ _ _ _ _
 
 pub returns-in-Ok-read_text-2-clause-files : goal.returns-in-Ok-read_text-2-clause-files
 returns-in-Ok-read_text-2-clause-files g c = all_read _ _ _ _ _ _ _ _ _ _ _ c.in-Ok.ensures c.in-Ok-read_text.ensures c.in-Ok-read_text-2.ensures
+
+pub returns-in-Err-clause-of_length : goal.returns-in-Err-clause-of_length
+returns-in-Err-clause-of_length g c = netlist_length _ _ _ _ _ c.in-Err.ensures
+
+pub returns-in-Err-read_text-clause-of_length : goal.returns-in-Err-read_text-clause-of_length
+returns-in-Err-read_text-clause-of_length g c = constraints_length _ _ _ _ _ c.in-Err-read_text.ensures
+
+pub returns-in-Err-read_text-2-clause-of_length : goal.returns-in-Err-read_text-2-clause-of_length
+returns-in-Err-read_text-2-clause-of_length g c = record_length _ _ _ _ c.in-Err-read_text-2.ensures
+
+pub returns-in-Ok-read_text-2-clause-content : goal.returns-in-Ok-read_text-2-clause-content
+returns-in-Ok-read_text-2-clause-content g c = (
+  told_before _ _ _ (c.in-Ok.ensures.holds c.args.con.now) c.in-Ok-read_text.ensures.content,
+  told_before _ _ _ (c.in-Ok-read_text.ensures.holds c.args.run.now ∙ c.in-Ok.ensures.holds c.args.run.now) c.in-Ok-read_text-2.ensures.content,
+)

@@ -1,11 +1,39 @@
-use Rattle.std.proofs.Common.{◌≡◌, refl, rules}
+use Rattle.std.proofs.Common.{◌≡◌, Ok, Err, inr, refl, rules}
 use Rattle.std.specs.Prelude.{IfErr}
+use Rattle.clock_constraints.specs.Files.{IsMeaning}
+use Rattle.clock_constraints.specs.Fit.{AreFit}
 use Rattle.refusals.specs.Numbers.{constraint_numbers}
 use Rattle.audit_top.proofs.ConstraintNumbers.{constraint_stop}
-use Rattle.audit_top.specs.Endings.{IsOfFiles}
+use Rattle.audit_top.specs.Endings.{IsOfDesign, IsOfFiles}
+use Rattle.audit_top.proofs.Replays.{before_record, given_holds, of_design, record_refused, replayed_under}
 use Rattle.audit_top.proofs.replay.replay_texts.Goals as goal
 
-pub returns-in_err-constraints : goal.returns-in_err-constraints
-returns-in_err-constraints c =
+pub returns-in_err-constraints-clause-ended : goal.returns-in_err-constraints-clause-ended
+returns-in_err-constraints-clause-ended c =
     let refused : IfErr c.or_refused.result IsOfFiles = c.or_refused.ensures.ended constraint_numbers refl (constraint_stop _ _ c.read.ensures.refused) in
     search rules
+
+pub returns-in_err-source-clause-exact : goal.returns-in_err-source-clause-exact
+returns-in_err-source-clause-exact c = before_record _ _ _ c.from_residual.ensures.0 (search rules)
+
+pub returns-in_err-constraints-clause-exact : goal.returns-in_err-constraints-clause-exact
+returns-in_err-constraints-clause-exact c =
+    let refused : IfErr c.or_refused.result IsOfDesign = of_design _ _ _ (inr refl) c.or_refused.ensures.exact in
+    before_record _ _ _ c.from_residual-in_err-constraints.ensures.0 (search rules)
+
+pub returns-in_err-net-clause-exact : goal.returns-in_err-net-clause-exact
+returns-in_err-net-clause-exact c = before_record _ _ _ c.from_residual-in_err-net.ensures.0 (search rules)
+
+pub returns-in_err-text-clause-exact : goal.returns-in_err-text-clause-exact
+returns-in_err-text-clause-exact c =
+    let means = given_holds (IsMeaning c.args.con.now) _ (Ok c.in_ok-constraints.constraints) c.in_ok-constraints.ensures.given c.read.ensures.ok in
+    let fits = given_holds AreFit _ (Ok c.in_ok-constraints.constraints) c.in_ok-constraints.ensures.given c.read.ensures.fit in
+    let same : c.from_residual-in_err-text.result ≡ Err c.in_err-text.field-0.0 = search rules in
+    rw same (record_refused _ _ _
+    (replayed_under _ _ c.in_ok-constraints.constraints c.in_ok-net.net c.in_ok-net.domains _ means fits c.in_ok-net.ensures.design c.in_err-text.ensures.exact))
+
+pub returns-clause-exact : goal.returns-clause-exact
+returns-clause-exact c =
+    let means = given_holds (IsMeaning c.args.con.now) _ (Ok c.in_ok-constraints.constraints) c.in_ok-constraints.ensures.given c.read.ensures.ok in
+    let fits = given_holds AreFit _ (Ok c.in_ok-constraints.constraints) c.in_ok-constraints.ensures.given c.read.ensures.fit in
+    replayed_under _ _ c.in_ok-constraints.constraints c.in_ok-net.net c.in_ok-net.domains (Ok c.in_ok-text.text) means fits c.in_ok-net.ensures.design c.in_ok-text.ensures.exact
