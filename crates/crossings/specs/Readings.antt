@@ -62,7 +62,3 @@ pub record IsOnPath (g : Cells) (b : Bit) (words : List ℕ) (cells : List CellI
   pub there : Contains cells n.cell
   pub node : IsNodeOf g n
   pub reads : node_reads g b n ≡ true
-
--- each cell that is marked is in the list
-abbrev pub AreMarked : List Bool → List CellId → Type 0
-AreMarked marks cells = (c : CellId) → get_or marks c.0 false ≡ true → Contains cells c

@@ -14,9 +14,7 @@ ghost use Rattle.cdc_model.specs.Tables.{ShowsNet};
 ghost use Rattle.crossings.specs.Groups.{ShowsGroups};
 ghost use Rattle.refusals.specs.Numbers.{HasNumberIn, crossing_numbers};
 
-mod cone;
 pub mod paths;
-mod words;
 
 use cdc_base::limits::MAX_CROSSINGS;
 use cdc_base::{Bit, Fault, List, Name, NoMemory, Stop};

@@ -1,8 +1,9 @@
 -- The walk begins at the end's next value, once the cells below it have their words.
-use Rattle.std.proofs.Common.{ap, length, ◌≡◌, ◌∙◌, sym, subst, List, Some}
+use Rattle.std.proofs.Common.{◌≡◌, ◌∙◌, sym, subst, List, Some}
 use Rattle.std.specs.List.{Contains}
 use Rattle.cell_graph.specs.declared.cell.CellId.{CellId}
 use Rattle.cell_graph.specs.Below.{IsClosed, AreIn, AreAscending}
+use Rattle.cofactor.proofs.Places.{own-root, root-within}
 use Rattle.cdc_model.specs.Nets.{next_node_of}
 use Rattle.cdc_model.proofs.Found.{net_ascends}
 use Rattle.cdc_model.proofs.ReadBits.{two_if}
@@ -21,12 +22,12 @@ returns-clause-exact c = two_if c.walk.result
     let from = c.args.crossing.now.from in
     let start = c.in-Some.start in
     let next : next_node_of net to ≡ Some start = sym (c.next_node.ensures (net_ascends net is)) ∙ c.in-Some.is in
-    let cells : List CellId = c.cells.result.now in
-    let are : c.find.new.self ≡ cells = sym c.cells.ensures in
-    let closed = subst (IsClosed net.graph) are c.in_ok-find.ensures.closed in
-    let ascend = subst AreAscending are c.in_ok-find.ensures.ascending in
-    let within = subst (AreIn net.graph) are (c.in_ok-find.ensures.within is.graph (start-within net has to from l r start next).0) in
-    let there = subst (λ cs. Contains cs start.cell) are c.in_ok-find.ensures.there in
+    let cells : List CellId = c.as_slice.result.now in
+    let are : c.in_ok-cells.cells.items ≡ cells = sym c.as_slice.ensures.value in
+    let closed = subst (IsClosed net.graph) are c.in_ok-cells.ensures.closed in
+    let ascend = subst AreAscending are c.in_ok-cells.ensures.ascending in
+    let within = subst (AreIn net.graph) are (c.in_ok-cells.ensures.within is.graph (root-within net.graph start.cell (start-within net has to from l r start next).0)) in
+    let there = subst (λ cs. Contains cs start.cell) are (c.in_ok-cells.ensures.roots start.cell (own-root start.cell)) in
     path-is net has to from l r start next path begins (walk from cells is.graph
-    (start-on net has to from l r start next c.read_all.new.self cells closed (c.read_all.ensures.words is.graph shown (ap length c.self.view_is ∙ counted) closed ascend within) there)))
+    (start-on net has to from l r start next c.read_all.new.self cells closed (c.read_all.ensures.words is.graph shown counted closed ascend within) there)))
     c.walk.ensures.begins c.walk.ensures.path
