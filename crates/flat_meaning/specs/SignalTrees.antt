@@ -1,6 +1,6 @@
 -- The trees of a design's signals, and of its registers' next values.
 use Rattle.std.specs.Prelude.{◌≡◌, ℕ, cond, List, [], ◌∷◌, ◌++◌}
-use Rattle.cell_graph.specs.Tree.{Tree, Var}
+use Rattle.cell_graph.specs.Tree.{Tree, Const, Var}
 use Rattle.flat_meaning.specs.Flat.{Stmt, assigns}
 use Rattle.flat_meaning.specs.Trees.{Selects, cut}
 use Rattle.flat_meaning.specs.Law.{next_tree}
@@ -27,3 +27,11 @@ next_tree_in wid sel (p ∷ ps) x = cond (assigns p.1 x) (next_tree wid sel p.1 
 
 abbrev pub next_tree_of : Flat → Selects → ℕ → Tree
 next_tree_of f sel x = next_tree_in (size_in f) sel f.clocked x
+
+-- the clock of a register's process; a zero bit where no process assigns it
+abbrev pub clock_tree_in : Selects → List (ℕ × Stmt) → ℕ → Tree
+clock_tree_in sel [] x = Const 1 0
+clock_tree_in sel (p ∷ ps) x = cond (assigns p.1 x) (sel p.0 0 1) (clock_tree_in sel ps x)
+
+abbrev pub clock_tree_of : Flat → Selects → ℕ → Tree
+clock_tree_of f sel x = clock_tree_in sel f.clocked x
