@@ -2,6 +2,7 @@
 #![tactic(auto)]
 
 pub mod bits;
+pub mod cases;
 pub mod copy;
 pub mod flat;
 pub mod masks;

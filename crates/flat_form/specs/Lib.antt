@@ -1,0 +1,4 @@
+pub mod View
+pub mod Sizes
+pub mod Operators
+pub mod Whole
