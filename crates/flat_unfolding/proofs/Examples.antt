@@ -1,0 +1,277 @@
+-- Worked examples, by computation: small sources with their flat designs or their refusals.
+use Rattle.std.proofs.Common.{◌≡◌, true, false, [], ◌∷◌, Some, None, refl}
+use Rattle.std.specs.Prelude.{codes}
+use Rattle.std.specs.Fmt.{digits}
+use Rattle.cdc_base.specs.Words.{keyword_of, is_left_out}
+use Rattle.cdc_base.specs.declared.signal.SigKind.TheVariants.{Input, Register, Wire}
+use Rattle.verilog_ast.specs.declared.BinaryOp.TheVariants as b
+use Rattle.verilog_ast.specs.declared.UnaryOp.TheVariants as u
+use Rattle.verilog_ast.specs.declared.DeclKind.TheVariants as k
+use Rattle.verilog_ast.specs.declared.GateKind.TheVariants as g
+use Rattle.verilog_ast.specs.declared.Event.TheVariants as event
+use Rattle.verilog_ast.specs.declared.EdgeKind.TheVariants as edge
+use Rattle.verilog_reading.specs.ExprTree.{unary, binary, repeat, and_trees, no_trees, paren}
+use Rattle.verilog_reading.specs.StmtTree.{when, either, switch, and_arms, no_arms}
+use Rattle.verilog_reading.specs.SourceTree.{ModuleTree, assign, decl, gate, instance, initial, always, ordered}
+use Rattle.flat_meaning.specs.Flat as f
+use Rattle.flat_unfolding.specs.Outcome.{good, refused}
+use Rattle.flat_unfolding.proofs.Sources.{v, plain, sized, bit, to, to_bit, to_pair, blocking, later, rows, range, down_to_zero, wire, wire_with, reg, reg_with, memory, parameter_of, parameter, localparam, of_wires, on, at_clock, at_clock_or, instance_of, port, input, output, a_module, top_m, h, h_reset, refused_at, one_bit, ranged, starts_as}
+
+-- ---- modules, names, places
+
+-- the empty text has no top; E301 has no place
+no_top : top_m [] ≡ refused 301 None (codes "m")
+no_top = refl
+
+-- n u(ca);
+unknown_module : h (instance_of "n" "u" (v "ca" ∷ []) ∷ []) ≡ refused_at 302 2 "n"
+unknown_module = refl
+
+-- m u(ca);
+inside_itself : h (instance_of "m" "u" (v "ca" ∷ []) ∷ []) ≡ refused_at 303 2 "m"
+inside_itself = refl
+
+-- reg ca;
+declared_twice : h (reg None "ca" ∷ []) ≡ refused_at 304 2 "ca"
+declared_twice = refl
+
+-- wire A; parameter A = 1; a parameter comes before the declarations
+parameter_first : h (wire None "A" ∷ parameter None "A" (plain 1) ∷ []) ≡ refused_at 304 2 "A"
+parameter_first = refl
+
+-- localparam A = 1; localparam A = Z; of one parameter E305 is tried first
+unknown_before_twice : h (localparam "A" (plain 1) ∷ localparam "A" (v "Z") ∷ []) ≡ refused_at 305 3 "Z"
+unknown_before_twice = refl
+
+-- wire [w2:0] w; wire w2;
+declared_later : h (wire (range (v "w2") (plain 0)) "w" ∷ wire None "w2" ∷ []) ≡ refused_at 305 2 "w2"
+declared_later = refl
+
+-- wire w2; wire [w2:0] w;
+no_constant : h (wire None "w2" ∷ wire (range (v "w2") (plain 0)) "w" ∷ []) ≡ refused_at 307 3 ""
+no_constant = refl
+
+-- ---- sizes and constants
+
+-- assign o = v & ~1; `~1` is no whole number from 0 to 2^31 - 1
+complement_of_number : h (assign (to "o") (binary b.And (v "v") (unary u.Not (plain 1))) ∷ []) ≡ refused_at 307 2 ""
+complement_of_number = refl
+
+-- wire [64:0] w; has the name, wire w = {65{d}}; has none
+wide_range : h (wire (down_to_zero 64) "w" ∷ []) ≡ refused_at 308 2 "w"
+wide_range = refl
+
+wide_value : h (wire_with "w" (repeat (plain 65) (and_trees (v "d") no_trees)) ∷ []) ≡ refused_at 308 2 ""
+wide_value = refl
+
+-- parameter P = 5; assign q = P[2];
+parameter_without_range : h (parameter None "P" (plain 5) ∷ assign (to "q") (bit "P" (plain 2)) ∷ []) ≡ refused_at 314 3 "P"
+parameter_without_range = refl
+
+-- assign q = v[v & 1]; the number has 32 bits, and so has the index
+index_may_miss : h (assign (to "q") (bit "v" (binary b.And (v "v") (plain 1))) ∷ []) ≡ refused_at 315 2 "v"
+index_may_miss = refl
+
+-- module m(output [3:0] q); parameter W = 3; parameter [3:0] P = 5; wire [W-1:0] w; assign w = {3{P[2]}}; assign q = w << (W > 2); endmodule
+-- `W-1` is whole, so the range is [2:0]; P[2] is a constant of one bit; `W > 2` stands in no whole expression and has one bit
+constants : top_m (a_module "m" [] (port k.Output (down_to_zero 3) "q" ∷ []) (
+    parameter None "W" (plain 3)
+    ∷ parameter (down_to_zero 3) "P" (plain 5)
+    ∷ wire (range (binary b.Sub (v "W") (plain 1)) (plain 0)) "w"
+    ∷ assign (to "w") (repeat (plain 3) (and_trees (bit "P" (plain 2)) no_trees))
+    ∷ assign (to "q") (binary b.Shl (v "w") (binary b.Gt (v "W") (plain 2)))
+    ∷ []) ∷ [])
+    ≡ good (record {
+      signals = ranged "q" 1 3 Wire ∷ ranged "w" 4 2 Wire ∷ [];
+      assigns = (f.Whole 1, f.Repeat 3 (f.expr (f.Number 1 1) f.no_exprs))
+          ∷ (f.Whole 0, f.Binary f.shift_left (f.Read 1 0 3) (f.Binary f.is_greater (f.Number 32 3) (f.Number 32 2)))
+          ∷ [];
+      combs = [];
+      clocked = [];
+      outputs = 0 ∷ [];
+    })
+unfolding keyword_of is_left_out
+constants = refl
+
+-- ---- assignments, gates and drivers
+
+-- wire w; assign {w, w} = 2'b10; assigns the bit twice
+twice_at_once : h (wire None "w" ∷ assign (to_pair (to "w") (to "w")) (sized 2 2) ∷ []) ≡ refused_at 309 2 "w"
+unfolding keyword_of is_left_out
+twice_at_once = refl
+
+-- wire w; assign q = w;
+undriven : h (wire None "w" ∷ assign (to "q") (v "w") ∷ []) ≡ refused_at 310 2 "w"
+unfolding keyword_of is_left_out
+undriven = refl
+
+-- reg a; assign a = d;
+register_by_assign : h (reg None "a" ∷ assign (to "a") (v "d") ∷ []) ≡ refused_at 313 3 "a"
+register_by_assign = refl
+
+-- and (q);
+one_terminal : h (gate g.And (v "q" ∷ []) ∷ []) ≡ refused_at 306 2 "and"
+one_terminal = refl
+
+-- module m(input a, b, output q); nand (q, a, b); endmodule
+gates : top_m (a_module "m" [] (input "a" ∷ input "b" ∷ output "q" ∷ []) (gate g.Nand (v "q" ∷ v "a" ∷ v "b" ∷ []) ∷ []) ∷ [])
+    ≡ good (record {
+      signals = one_bit "a" 1 Input ∷ one_bit "b" 1 Input ∷ one_bit "q" 1 Wire ∷ [];
+      assigns = (f.Whole 2, f.Unary f.complement (f.Gate f.bitwise_and (f.expr (f.Read 0 0 1) (f.expr (f.Read 1 0 1) f.no_exprs)))) ∷ [];
+      combs = [];
+      clocked = [];
+      outputs = 2 ∷ [];
+    })
+unfolding keyword_of is_left_out
+gates = refl
+
+-- ---- processes
+
+-- reg a, b; always @* begin if (d) b = 1; if (d) a = 1; end names the first signal by its number
+two_latches : h (reg None "a" ∷ reg None "b" ∷ of_wires (rows (when (v "d") (blocking (to "b") (plain 1)) ∷ when (v "d") (blocking (to "a") (plain 1)) ∷ [])) ∷ [])
+    ≡ refused_at 311 4 "a"
+two_latches = refl
+
+-- always @* if (d) q <= 1'b1; breaks E311 and E313
+least_number : h (of_wires (when (v "d") (later (to "q") (sized 1 1))) ∷ []) ≡ refused_at 311 2 "q"
+least_number = refl
+
+-- always @* {i, r[i]} = v; reads i before it is assigned
+index_before : h (reg None "i" ∷ reg (down_to_zero 1) "r" ∷ of_wires (blocking (to_pair (to "i") (to_bit "r" (v "i"))) (v "v")) ∷ []) ≡ refused_at 311 4 "i"
+index_before = refl
+
+-- reg r; always @* r = r & v[9]; reads r before it is assigned, and v[9] breaks E314
+read_beside_broken : h (reg None "r" ∷ of_wires (blocking (to "r") (binary b.And (v "r") (bit "v" (plain 9)))) ∷ []) ≡ refused_at 311 3 "r"
+read_beside_broken = refl
+
+-- always @(d or e) r = d & e; is no clocked process
+plain_levels : h (reg None "r" ∷ always (event.Edges (on edge.Level "d" ∷ on edge.Level "e" ∷ [])) (blocking (to "r") (binary b.And (v "d") (v "e"))) ∷ []) ≡ refused_at 316 3 "d"
+plain_levels = refl
+
+-- always @(posedge v) r = d; a clock of four bits has the form, and the assignment is of the wrong kind
+wide_clock : h (reg None "r" ∷ at_clock "v" (blocking (to "r") (v "d")) ∷ []) ≡ refused_at 313 3 "r"
+wide_clock = refl
+
+-- module m(input d, e, output q); reg r; always @* case (d) 1'b0: r = e; 1'b1: r = 1'b0; endcase assign q = r; endmodule
+-- the labels take every value, so there is no default
+full_case : top_m (a_module "m" [] (input "d" ∷ input "e" ∷ output "q" ∷ []) (
+    reg None "r"
+    ∷ of_wires (switch (v "d") (and_arms (sized 1 0 ∷ []) (blocking (to "r") (v "e")) (and_arms (sized 1 1 ∷ []) (blocking (to "r") (sized 1 0)) no_arms)))
+    ∷ assign (to "q") (v "r")
+    ∷ []) ∷ [])
+    ≡ good (record {
+      signals = one_bit "d" 1 Input ∷ one_bit "e" 1 Input ∷ one_bit "q" 1 Wire ∷ one_bit "r" 2 Wire ∷ [];
+      assigns = (f.Whole 2, f.Read 3 0 1) ∷ [];
+      combs = f.Case (f.Read 0 0 1) (f.item (f.expr (f.Number 1 0) f.no_exprs) (f.Set true (f.Whole 3) (f.Read 1 0 1))
+          (f.item (f.expr (f.Number 1 1) f.no_exprs) (f.Set true (f.Whole 3) (f.Number 1 0)) f.no_items)) ∷ [];
+      clocked = [];
+      outputs = 2 ∷ [];
+    })
+unfolding keyword_of is_left_out
+full_case = refl
+
+-- ---- resets and start values
+
+-- reg a = 1; initial a = 0; stands at the declaration
+two_starts : h (wire None "w" ∷ reg_with None "a" (plain 1) ∷ initial (blocking (to "a") (plain 0)) ∷ []) ≡ refused_at 309 3 "a"
+unfolding keyword_of is_left_out
+two_starts = refl
+
+-- initial r[0] = 1;
+part_of_register : h (reg (down_to_zero 1) "r" ∷ initial (blocking (to_bit "r" (plain 0)) (plain 1)) ∷ []) ≡ refused_at 313 3 "r"
+part_of_register = refl
+
+-- with the reset e: reg r; always @(posedge ca) if (!e) r <= d; else r <= d; has reset form, and its first branch no constant
+reset_to_signal : h_reset (reg None "r" ∷ at_clock "ca" (either (unary u.LogicNot (v "e")) (later (to "r") (v "d")) (later (to "r") (v "d"))) ∷ []) ≡ refused_at 317 3 "ca"
+unfolding keyword_of is_left_out
+reset_to_signal = refl
+
+-- with the reset e: reg x, hold; always @(posedge ca or negedge e) if (!e) hold <= 0; else x <= d; assign q = hold;
+reset_drives_nothing : h_reset (reg None "x" ∷ reg None "hold"
+    ∷ at_clock_or "ca" (on edge.Neg "e") (either (unary u.LogicNot (v "e")) (later (to "hold") (plain 0)) (later (to "x") (v "d")))
+    ∷ assign (to "q") (v "hold") ∷ []) ≡ refused_at 310 3 "hold"
+unfolding keyword_of is_left_out
+reset_drives_nothing = refl
+
+-- with the reset e: reg [3:0] r = 5; always @(posedge ca or negedge e) begin if (!e) r[3] <= 1'b1; else r <= v; end assign q = r[0] & e;
+-- the reset's value wins over the declaration's, bit by bit; elsewhere the reset reads as 1
+with_reset : h_reset (reg_with (down_to_zero 3) "r" (plain 5)
+    ∷ at_clock_or "ca" (on edge.Neg "e") (rows (either (unary u.LogicNot (v "e")) (later (to_bit "r" (plain 3)) (sized 1 1)) (later (to "r") (v "v")) ∷ []))
+    ∷ assign (to "q") (binary b.And (bit "r" (plain 0)) (v "e")) ∷ [])
+    ≡ good (record {
+      signals = one_bit "ca" 1 Input ∷ one_bit "cb" 1 Input ∷ one_bit "d" 1 Input ∷ one_bit "e" 1 Input ∷ ranged "v" 1 3 Input
+          ∷ one_bit "q" 1 Wire ∷ ranged "o" 1 7 Wire ∷ starts_as 15 13 (ranged "r" 2 3 Register) ∷ [];
+      assigns = (f.Whole 5, f.Binary f.bitwise_and (f.Read 7 0 1) (f.Number 1 1)) ∷ [];
+      combs = [];
+      clocked = (0, f.Set false (f.Whole 7) (f.Read 4 0 4)) ∷ [];
+      outputs = 5 ∷ 6 ∷ [];
+    })
+unfolding keyword_of is_left_out
+with_reset = refl
+
+-- ---- memories
+
+-- wire [0-1:0] M [0:3]; E319 comes before E307
+memory_of_wires : h (decl (record { kind = k.Wire; range = range (binary b.Sub (plain 0) (plain 1)) (plain 0); name = codes "M"; init = None; array = range (plain 0) (plain 3) }) ∷ []) ≡ refused_at 319 2 "M"
+memory_of_wires = refl
+
+-- reg [1:0] M [0:3]; always @(posedge ca) M[v] <= d; has four bits for two
+wide_index : h (memory (down_to_zero 1) "M" (range (plain 0) (plain 3)) ∷ at_clock "ca" (later (to_bit "M" (v "v")) (v "d")) ∷ []) ≡ refused_at 315 3 "M"
+unfolding keyword_of is_left_out digits
+wide_index = refl
+
+-- reg M [0:1]; always @(posedge ca) M[d] <= e; assign q = M[e];
+read_and_write : top_m (a_module "m" [] (input "c" ∷ input "d" ∷ output "q" ∷ []) (
+    memory None "M" (range (plain 0) (plain 1))
+    ∷ at_clock "c" (later (to_bit "M" (v "d")) (v "d"))
+    ∷ assign (to "q") (bit "M" (v "d"))
+    ∷ []) ∷ [])
+    ≡ good (record {
+      signals = one_bit "c" 1 Input ∷ one_bit "d" 1 Input ∷ one_bit "q" 1 Wire ∷ one_bit "\\M[0] " 2 Register ∷ one_bit "\\M[1] " 2 Register ∷ [];
+      assigns = (f.Whole 2, f.Choose (f.Binary f.is_equal (f.Read 1 0 1) (f.Number 1 0)) (f.Read 3 0 1) (f.Read 4 0 1)) ∷ [];
+      combs = [];
+      clocked = (
+        0,
+        f.Block (
+            f.stmt (f.If (f.Binary f.is_equal (f.Read 1 0 1) (f.Number 1 0)) (f.Set false (f.Whole 3) (f.Read 1 0 1)) f.Null)
+            (f.stmt (f.If (f.Binary f.is_equal (f.Read 1 0 1) (f.Number 1 1)) (f.Set false (f.Whole 4) (f.Read 1 0 1)) f.Null) f.no_stmts)),
+      ) ∷ [];
+      outputs = 2 ∷ [];
+    })
+unfolding keyword_of is_left_out digits
+read_and_write = refl
+
+-- with the reset e: if (!e) {M[d], x} <= 0; has a variable index in the target of its first branch
+reset_at_variable_index : h_reset (memory None "M" (range (plain 0) (plain 1)) ∷ reg None "x"
+    ∷ at_clock "ca" (either (unary u.LogicNot (v "e")) (later (to_pair (to_bit "M" (v "d")) (to "x")) (plain 0)) (later (to "x") (v "d"))) ∷ []) ≡ refused_at 317 4 "ca"
+unfolding keyword_of is_left_out digits
+reset_at_variable_index = refl
+
+-- ---- instances
+
+-- module n #(parameter W = 2) (input [W-1:0] a, output [W-1:0] b); assign b = ~a; endmodule
+abbrev inverter : ModuleTree
+inverter = let width = range (binary b.Sub (v "W") (plain 1)) (plain 0) in
+    a_module "n" (parameter_of false None "W" (plain 2) ∷ []) (port k.Input width "a" ∷ port k.Output width "b" ∷ []) (assign (to "b") (unary u.Not (v "a")) ∷ [])
+
+-- module m(input [3:0] v, output [3:0] o); n #(4) \u.x (v, o); endmodule
+with_override : top_m (inverter ∷ a_module "m" [] (port k.Input (down_to_zero 3) "v" ∷ port k.Output (down_to_zero 3) "o" ∷ [])
+    (instance (codes "n") (ordered (Some (plain 4) ∷ [])) (codes "u.x") (ordered (Some (v "v") ∷ Some (v "o") ∷ [])) ∷ []) ∷ [])
+    ≡ good (record {
+      signals = ranged "v" 1 3 Input ∷ ranged "o" 1 3 Wire ∷ ranged "\\u.x .a" 1 3 Wire ∷ ranged "\\u.x .b" 1 3 Wire ∷ [];
+      assigns = (f.Whole 2, f.Read 0 0 4) ∷ (f.Whole 1, f.Read 3 0 4) ∷ (f.Whole 3, f.Unary f.complement (f.Read 2 0 4)) ∷ [];
+      combs = [];
+      clocked = [];
+      outputs = 1 ∷ [];
+    })
+unfolding keyword_of is_left_out
+with_override = refl
+
+-- n u((q)); a connection to an output is a target
+output_in_brackets : top_m (inverter ∷ a_module "m" [] (input "d" ∷ output "q" ∷ []) (instance_of "n" "u" (v "d" ∷ paren (v "q") ∷ []) ∷ []) ∷ []) ≡ refused_at 313 2 ""
+output_in_brackets = refl
+
+-- n #(1,) u(d, q); has one entry too many
+entry_too_many : top_m (inverter ∷ a_module "m" [] (input "d" ∷ output "q" ∷ [])
+    (instance (codes "n") (ordered (Some (plain 1) ∷ None ∷ [])) (codes "u") (ordered (Some (v "d") ∷ Some (v "q") ∷ [])) ∷ []) ∷ []) ≡ refused_at 306 2 "n"
+entry_too_many = refl

@@ -1,0 +1,9 @@
+pub mod Sources
+pub mod Examples
+pub mod First
+pub mod Steps
+pub mod OneDriver
+pub mod Entries
+pub mod Visits
+pub mod Names
+pub mod Depth

@@ -1,0 +1,49 @@
+-- The design as it grows.
+use Rattle.std.specs.Prelude.{ℕ, zero, suc, false, List, [], ◌∷◌, ◌++◌}
+use Rattle.flat_meaning.specs.Flat.{Expr, Target, Stmt}
+use Rattle.flat_unfolding.specs.Names.{Names, Entry, Look}
+
+-- a start value of a whole register, by a declaration or by `initial`
+pub record Start : Type 0 where
+  pub sig : ℕ
+  pub value : ℕ
+
+-- the start value that a reset gives some bits of a register, the lowest of which is `at`
+pub record Given : Type 0 where
+  pub sig : ℕ
+  pub at : ℕ
+  pub bits : ℕ
+  pub value : ℕ
+
+pub record Design : Type 0 where
+  pub entries : List Entry
+  pub assigns : List (Target × Expr)
+  pub combs : List Stmt
+  pub clocked : List (ℕ × Stmt)
+  pub outputs : List ℕ
+  pub starts : List Start
+  pub givens : List Given
+
+abbrev pub no_design : Design
+no_design = record { entries = []; assigns = []; combs = []; clocked = []; outputs = []; starts = []; givens = [] }
+
+-- a module that is visited: its names, and the design so far
+pub record Stage : Type 0 where
+  pub names : Names
+  pub design : Design
+
+-- resets read at their inactive level
+abbrev pub look_of : Stage → Look
+look_of s = record { names = s.names; entries = s.design.entries; active = false }
+
+abbrev pub with_design : Stage → Design → Stage
+with_design s d = record { names = s.names; design = d }
+
+abbrev pub assigned : Design → Target → Expr → Design
+assigned d t e = record d { assigns = d.assigns ++ ((t, e) ∷ []) }
+
+-- a signal's entry after a change
+abbrev pub change_entry : (Entry → Entry) → ℕ → List Entry → List Entry
+change_entry f s [] = []
+change_entry f zero (e ∷ es) = f e ∷ es
+change_entry f (suc s) (e ∷ es) = e ∷ change_entry f s es

@@ -1,0 +1,55 @@
+-- What holds of every unfolding.
+use Rattle.std.specs.Prelude.{◌≡◌, ℕ, ◌+◌, ◌<◌, ◌≤◌, List, [], ◌∷◌, ◌++◌, length, map, All, Contains, Option, Some}
+use Rattle.cdc_base.specs.declared.signal.ResetPin.{ResetPin}
+use Rattle.verilog_reading.specs.SourceTree.{ModuleTree}
+use Rattle.flat_meaning.specs.Law.{AreWords}
+use Rattle.flat_meaning.specs.Design.{Flat, size_in, drivers}
+use Rattle.flat_unfolding.specs.Outcome.{Text, Broken, Order, first_of_all, good}
+use Rattle.cdc_base.specs.declared.fault.Place.{Place}
+use Rattle.flat_unfolding.specs.Names.{Range, Entry}
+use Rattle.flat_unfolding.specs.Parameters.{Overrides}
+use Rattle.flat_unfolding.specs.Instances.{Link, connected}
+use Rattle.flat_unfolding.specs.Design.{Design, Stage}
+use Rattle.flat_unfolding.specs.Unfolding.{module_named, visit, unfolded}
+
+-- of the rules that an item breaks the refusal tells one
+abbrev pub OneIsToldLaw : Type 0
+OneIsToldLaw = (order : Order) (b : Broken) (bs : List Broken) → Contains (b ∷ bs) (first_of_all order b bs)
+
+-- and none of them is tried before it
+abbrev pub FirstIsToldLaw : Type 0
+FirstIsToldLaw = (order : Order) (b : Broken) (bs : List Broken) → All (λ (c : Broken). order (first_of_all order b bs).number ≤ order c.number) (b ∷ bs)
+
+-- no bit of the flat design has two drivers
+abbrev pub OneDriverLaw : Type 0
+OneDriverLaw = (modules : List ModuleTree) (top : Text) (resets : List ResetPin) (f : Flat) → unfolded modules top resets ≡ good f
+    → (s i : ℕ) → i < size_in f s → drivers f s i ≤ 1
+
+-- a signal of the flat design has 64 bits at most, and there are 65,536 signals at most
+abbrev pub LimitsLaw : Type 0
+LimitsLaw = (modules : List ModuleTree) (top : Text) (resets : List ResetPin) (f : Flat) → unfolded modules top resets ≡ good f
+    → AreWords (size_in f) × (length f.signals ≤ 65536)
+
+-- the bound on the depth of visits is no rule: with a greater one the unfolding is the same
+abbrev pub DepthLaw : Type 0
+DepthLaw = (modules : List ModuleTree) (top : Text) (m : ModuleTree) → module_named top modules ≡ Some m → (ports : Stage → Stage) (d : Design) (more : ℕ)
+    → visit modules (length modules + more) [] (m.name ∷ []) m [] ports d ≡ visit modules (length modules) [] (m.name ∷ []) m [] ports d
+
+-- what stays of a declared signal: its own name, its printed name, its place and its range
+pub record Kept : Type 0 where
+  pub own : Text
+  pub printed : Text
+  pub place : Place
+  pub range : Option Range
+
+abbrev pub kept : Entry → Kept
+kept e = record { own = e.own; printed = e.printed; place = e.place; range = e.range }
+
+-- these signals stand behind those, which keep their numbers
+abbrev pub StandsBehind : (before after : List Entry) → Type 0
+StandsBehind before after = (more : List Kept) × (map kept after ≡ map kept before ++ more)
+
+-- the signals of an instance's module, and those of its instances, come behind all that were declared before
+abbrev pub NumbersLaw : Type 0
+NumbersLaw = (modules : List ModuleTree) (n : ℕ) (prefix : Text) (visiting : List Text) (m : ModuleTree) (overrides : Overrides) (links : List Link) (d e : Design)
+    → visit modules n prefix visiting m overrides (connected links) d ≡ good e → StandsBehind d.entries e.entries

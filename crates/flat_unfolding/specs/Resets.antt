@@ -1,0 +1,158 @@
+-- Resets of clocked processes: the form `if (reset) constants else rest`.
+use Rattle.std.specs.Prelude.{ℕ, ◌^◌, ◌/◌, ◌%◌, Bool, true, false, cond, not, ◌&&◌, ◌||◌, ◌==◌, List, [], ◌∷◌, ◌++◌, Option, Some, None, is_none, option_map, bytes_eq}
+use Rattle.std.specs.Option.{option_map_or}
+use Rattle.std.specs.List.{list_all}
+use Rattle.cdc_base.specs.declared.signal.ResetPin.{ResetPin}
+use Rattle.verilog_ast.specs.declared.Edge.{Edge}
+use Rattle.verilog_ast.specs.declared.EdgeKind.{EdgeKind}
+use Rattle.verilog_ast.specs.declared.EdgeKind.TheVariants as edge
+use Rattle.verilog_reading.specs.ExprTree.{ExprTree, number, name, index, part, unary, binary, choice, join, repeat, paren, ExprTrees, no_trees, and_trees, TargetTree, whole, index_of, part_of, join_of, TargetTrees, no_parts, and_parts}
+use Rattle.verilog_reading.specs.StmtTree.{StmtTree, null, set, when, either, block, StmtTrees, no_rows, and_rows}
+use Rattle.flat_meaning.specs.Flat.{Target, Whole, Part, Pick, Group, Targets, no_targets, target, target_sizes}
+use Rattle.flat_unfolding.specs.Outcome.{Text, Broken, breaks_if}
+use Rattle.flat_unfolding.specs.Names.{Meaning, a_param, a_signal, Look, meaning, width_at, reset_at}
+use Rattle.flat_unfolding.specs.Constants.{own_value, assigned_value, both}
+use Rattle.flat_unfolding.specs.Expressions.{Term, is_sound, read}
+use Rattle.flat_unfolding.specs.Targets.{of_registers, aim}
+use Rattle.flat_unfolding.specs.Design.{Given}
+
+-- a statement without the blocks of one statement around it
+abbrev mutual
+  pub peeled : StmtTree → StmtTree
+  peeled (block rows) = peeled_rows rows
+  peeled s = s
+
+  pub peeled_rows : StmtTrees → StmtTree
+  peeled_rows (and_rows s no_rows) = peeled s
+  peeled_rows rows = block rows
+
+abbrev mutual
+  pub names_in : ExprTree → List Text
+  names_in (number v w plain) = []
+  names_in (name x) = x ∷ []
+  names_in (index x i) = x ∷ names_in i
+  names_in (part x l r) = x ∷ names_in l ++ names_in r
+  names_in (unary op a) = names_in a
+  names_in (binary op a b) = names_in a ++ names_in b
+  names_in (choice c a b) = names_in c ++ names_in a ++ names_in b
+  names_in (join parts) = all_names_in parts
+  names_in (repeat count parts) = names_in count ++ all_names_in parts
+  names_in (paren a) = names_in a
+
+  pub all_names_in : ExprTrees → List Text
+  all_names_in no_trees = []
+  all_names_in (and_trees a rest) = names_in a ++ all_names_in rest
+
+module _ (look : Look) where
+  -- the signals among some names, parameters left out; none where another name is among them
+  abbrev pub signals_among : List Text → Option (List ℕ)
+  signals_among [] = Some []
+  signals_among (x ∷ rest) = go (meaning look x) (signals_among rest)
+    where
+      go : Option Meaning → Option (List ℕ) → Option (List ℕ)
+      go (Some (a_param p)) o = o
+      go (Some (a_signal s)) o = option_map (λ ss. s ∷ ss) o
+      go m o = None
+
+  abbrev pub resolves_to : ResetPin → ℕ → Bool
+  resolves_to r s = option_map_or (λ (q : ResetPin). bytes_eq q.name r.name) (reset_at look.entries s) false
+
+  -- signals that resolve to one reset
+  abbrev pub is_one_reset : List ℕ → Bool
+  is_one_reset [] = false
+  is_one_reset (s ∷ rest) = option_map_or (λ r. list_all (resolves_to r) rest) (reset_at look.entries s) false
+
+  -- the value of a condition while its reset is at one of its levels
+  abbrev pub at_level : Bool → ExprTree → Option ℕ
+  at_level active c = let t = read (record look { active = active }) c in cond (is_sound t) (Some (own_value t.expr)) None
+
+  abbrev pub is_test : Option ℕ → Option ℕ → Bool
+  is_test (Some inactive) (Some active) = (inactive == 0) && not (active == 0)
+  is_test m n = false
+
+  -- the signals of a condition that names those of one reset alone, is false at its inactive level and true at its active one
+  abbrev pub reset_signals : ExprTree → Option (List ℕ)
+  reset_signals c = go (signals_among (names_in c))
+    where
+      go : Option (List ℕ) → Option (List ℕ)
+      go None = None
+      go (Some ss) = cond (is_one_reset ss && is_test (at_level false c) (at_level true c)) (Some ss) None
+
+  -- ---- the first branch
+
+  abbrev mutual
+    pub has_variable_index : TargetTree → Bool
+    has_variable_index (whole x) = false
+    has_variable_index (index_of x i) = not (read look i).is_constant
+    has_variable_index (part_of x l r) = false
+    has_variable_index (join_of parts) = has_variable_index_in parts
+
+    pub has_variable_index_in : TargetTrees → Bool
+    has_variable_index_in no_parts = false
+    has_variable_index_in (and_parts t rest) = has_variable_index t || has_variable_index_in rest
+
+  -- what an assignment of a number gives the bits of its target, whose first part is the highest
+  abbrev mutual
+    pub given_to : Target → ℕ → List Given
+    given_to (Whole s) n = let w = width_at look.entries s in record { sig = s; at = 0; bits = w; value = n % 2 ^ w } ∷ []
+    given_to (Part s at w) n = record { sig = s; at = at; bits = w; value = n % 2 ^ w } ∷ []
+    given_to (Pick s e) n = []
+    given_to (Group ts) n = given_to_all ts n
+
+    pub given_to_all : Targets → ℕ → List Given
+    given_to_all no_targets n = []
+    given_to_all (target t ts) n = given_to t (n / 2 ^ target_sizes (width_at look.entries) ts) ++ given_to_all ts n
+
+  -- a nonblocking assignment of a constant, without a variable index
+  abbrev pub row_given : StmtTree → Option (List Given)
+  row_given (set false t e) = let v = read look e in let a = aim look of_registers t in
+      cond (v.is_constant && not (has_variable_index t)) (Some (go v a.bits a.target)) None
+    where
+      go : Term → Option ℕ → Target → List Given
+      go v None t = []
+      go v (Some w) t = cond (is_sound v) (given_to t (assigned_value v.expr w)) []
+  row_given s = None
+
+  abbrev pub rows_given : StmtTrees → Option (List Given)
+  rows_given no_rows = Some []
+  rows_given (and_rows s rest) = both (λ g h. g ++ h) (row_given s) (rows_given rest)
+
+  -- one of these, or a block of these
+  abbrev pub branch_given : StmtTree → Option (List Given)
+  branch_given (block rows) = rows_given rows
+  branch_given s = row_given s
+
+-- a process in reset form: the signals of its condition, what its first branch gives where that has its form, and its `else`
+pub record ResetForm : Type 0 where
+  pub signals : List ℕ
+  pub given : Option (List Given)
+  pub rest : StmtTree
+
+abbrev pub reset_form : Look → StmtTree → Option ResetForm
+reset_form look body = go (peeled body)
+  where
+    go : StmtTree → Option ResetForm
+    go (when c s) = option_map (λ ss. record { signals = ss; given = branch_given look s; rest = null }) (reset_signals look c)
+    go (either c s z) = option_map (λ ss. record { signals = ss; given = branch_given look s; rest = z }) (reset_signals look c)
+    go s = None
+
+-- the edge at which a reset becomes active
+abbrev pub is_active_edge : EdgeKind → ResetPin → Bool
+is_active_edge edge.Pos r = r.high
+is_active_edge edge.Neg r = not r.high
+is_active_edge edge.Level r = false
+
+-- a second edge is that of the very signal which the condition names
+abbrev pub is_edge_of : Look → List ℕ → Edge → Bool
+is_edge_of look signals e = go (meaning look e.name)
+  where
+    go : Option Meaning → Bool
+    go (Some (a_signal s)) = option_map_or (is_active_edge e.kind) (reset_at look.entries s) false && list_all (λ t. t == s) signals
+    go m = false
+
+-- E317: a second edge wants reset form for its signal, and reset form wants a first branch of constants
+abbrev pub reset_rules : Look → (first : Text) → Option Edge → Option ResetForm → List Broken
+reset_rules look first None None = []
+reset_rules look first (Some e) None = breaks_if true 317 first
+reset_rules look first None (Some f) = breaks_if (is_none f.given) 317 first
+reset_rules look first (Some e) (Some f) = breaks_if (not (is_edge_of look f.signals e) || is_none f.given) 317 first

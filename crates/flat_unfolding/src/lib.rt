@@ -1,0 +1,12 @@
+//! What flattening gives: the flat design that a source unfolds to, or the first rule that it breaks.
+//!
+//! The definitions stand in `specs/`, from expressions up to `Unfolding`; `proofs/Examples.antt` has sources with what
+//! they unfold to.
+#![tactic(auto)]
+
+pub mod laws;
+
+pub use laws::{
+    bits_have_one_driver, depth_is_no_rule, first_rule_is_told, limits_are_kept,
+    signals_keep_their_numbers,
+};
