@@ -14,11 +14,12 @@ use Rattle.cell_graph.specs.declared.net.Net.{Net}
 use Rattle.cell_graph.specs.declared.net.Reg.{Reg}
 use Rattle.cell_graph.specs.Cells.{Cells, cell_width, signal_width}
 use Rattle.cell_graph.specs.Feeds.{node}
-use Rattle.cell_graph.specs.Nets.{AreSized, HasNextCells, IsNet, IsWordOf, Keeps, is_register, next_cell, register_signals}
+use Rattle.cell_graph.specs.Nets.{AreSized, HasNextCells, IsNet, IsWordOf, is_register, next_cell, register_signals}
 use Rattle.cell_graph.specs.Unfolded.{IsNodeOf, IsWellFormed}
-use Rattle.elaborate.specs.declared.sketch.Register.{Register as Draft}
+use Rattle.driver_trees.specs.declared.sketch.Register.{Register as Draft}
 use Rattle.elaborate.specs.Words.{AreStarted, IsRegOf, as_word, known_bits, word_width}
-use Rattle.cell_graph.proofs.Grown.{keeps-trans}
+use Rattle.elaborate.specs.Grown.{Grows}
+use Rattle.elaborate.proofs.Grown.{grows_trans}
 
 -- ---- signals as words
 
@@ -120,27 +121,27 @@ fit-next net registers fit sig c h =
 
 -- ---- in a later graph
 
-module _ (g h : Cells) (keeps : Keeps g h) where
+module _ (g h : Cells) (grows : Grows g h) where
   reg-kept : (r : Reg) → IsRegOf g r → IsRegOf h r
-  reg-kept r is = (subst (λ ss. IsWordOf h r.next (signal_width ss r.sig)) (sym keeps.0) (keeps.1 r.next (signal_width g.signals r.sig) is.0), keeps.1 r.clock 1 is.1)
+  reg-kept r is = (subst (λ ss. IsWordOf h r.next (signal_width ss r.sig)) (sym grows.signals) (grows.words r.next (signal_width g.signals r.sig) is.0), grows.words r.clock 1 is.1)
 
   pub regs-kept : (rs : List Reg) → All (IsRegOf g) rs → All (IsRegOf h) rs
   regs-kept rs fit = All-weaker (IsRegOf g) (IsRegOf h) reg-kept rs fit
 
   pub cells-kept : (ids : List CellId) → All (λ (i : CellId). i.0 < length g.cells) ids → All (λ (i : CellId). i.0 < length h.cells) ids
-  cells-kept ids stand = All-weaker (λ (i : CellId). i.0 < length g.cells) (λ (i : CellId). i.0 < length h.cells) (λ i l. (keeps.1 i (cell_width g i) (l, refl)).0) ids stand
+  cells-kept ids stand = All-weaker (λ (i : CellId). i.0 < length g.cells) (λ (i : CellId). i.0 < length h.cells) (λ i l. (grows.words i (cell_width g i) (l, refl)).0) ids stand
 
 -- one register more, whose next value and clock were made one after the other
-pub one-more : (g h k : Cells) → Keeps g h → Keeps h k → (rs : List Reg) (sig : ℕ) (next clock : CellId) → All (IsRegOf g) rs
+pub one-more : (g h k : Cells) → Grows g h → Grows h k → (rs : List Reg) (sig : ℕ) (next clock : CellId) → All (IsRegOf g) rs
     → IsWordOf h next (signal_width g.signals sig) → IsWordOf k clock 1 → All (IsRegOf k) (rs ++ record { sig = sig; next = next; clock = clock } ∷ [])
 one-more g h k first second rs sig next clock fit word bit =
-    let keeps = keeps-trans g h k first second in
-    All-push (IsRegOf k) rs (record { sig = sig; next = next; clock = clock }) (regs-kept g k keeps rs fit)
-    (subst (λ ss. IsWordOf k next (signal_width ss sig)) (sym keeps.0) (second.1 next (signal_width g.signals sig) word), bit)
+    let grows = grows_trans g h k first second in
+    All-push (IsRegOf k) rs (record { sig = sig; next = next; clock = clock }) (regs-kept g k grows rs fit)
+    (subst (λ ss. IsWordOf k next (signal_width ss sig)) (sym grows.signals) (second.words next (signal_width g.signals sig) word), bit)
 
-pub one-cell-more : (g h : Cells) → Keeps g h → (ids : List CellId) (id : CellId) → All (λ (i : CellId). i.0 < length g.cells) ids → id.0 < length h.cells
+pub one-cell-more : (g h : Cells) → Grows g h → (ids : List CellId) (id : CellId) → All (λ (i : CellId). i.0 < length g.cells) ids → id.0 < length h.cells
     → All (λ (i : CellId). i.0 < length h.cells) (ids ++ id ∷ [])
-one-cell-more g h keeps ids id stand there = All-push (λ (i : CellId). i.0 < length h.cells) ids id (cells-kept g h keeps ids stand) there
+one-cell-more g h grows ids id stand there = All-push (λ (i : CellId). i.0 < length h.cells) ids id (cells-kept g h grows ids stand) there
 
 -- one name more is met
 pub one-name-more : (xs : List Reg) (x : Reg) (ys : List Draft) (i : ℕ) (d : Draft) → i < length ys → x.sig ≡ (get_or ys i d).sig

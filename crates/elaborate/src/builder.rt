@@ -3,16 +3,18 @@
 //! The drafts of a flat design fit each other, and become cells as they are. Words that don't are fitted as the language
 //! fits them: zeros stand above the narrower one, and a condition is whether its word isn't zero. No word has more than
 //! 64 bits, and bits that aren't there are zero.
-ghost use Rattle.std.specs.Prelude.{◌≡◌, ◌≤◌, ◌<◌, ℕ, length, Some, slice_get, IfOk, IfErr, OnOk};
+ghost use Rattle.std.specs.Prelude.{◌≡◌, ◌≤◌, ◌<◌, ◌^◌, ℕ, length, Some, slice_get, IfOk, IfErr, OnOk};
 ghost use Rattle.refusals.specs.Numbers.{HasNumberIn, elaboration_numbers};
-ghost use Rattle.cell_graph.specs.Cells.{cell_width, signal_width as width_in, width_of, widths};
-ghost use Rattle.cell_graph.specs.Nets.{AreSized, IsWordOf, Keeps};
+ghost use Rattle.cell_graph.specs.Cells.{Cells, cell_width, signal_width as width_in, width_of, widths};
+ghost use Rattle.cell_graph.specs.Nets.{AreSized, IsWordOf};
 ghost use Rattle.cell_graph.specs.Shared.{IsShared};
 ghost use Rattle.cell_graph.specs.Unfolded.{AreAlike, IsCellOf, IsWellFormed};
 ghost use Rattle.cell_graph.specs.declared.cell.Cell.TheVariants.{Var, Const, Concat, Slice, Extend};
+ghost use Rattle.elaborate.specs.Grown.{Grows};
+ghost use Rattle.flat_meaning.specs.Design.{kind_in, kind_is_variable};
 ghost use Rattle.elaborate.specs.Words.{word_width};
 
-use cdc_base::{List, NoMemory, Signal, Stop};
+use cdc_base::{List, NoMemory, SigKind, Signal, Stop};
 use cell_graph::word::low_bits;
 use cell_graph::{Cell, CellId, Graph, ReduceKind};
 use std::alloc::Global;
@@ -80,6 +82,16 @@ impl Builder {
         }
     }
 
+    /// Whether the signal is a register or a top input.
+    pub fn is_variable(&self, sig: u32) -> bool
+        ensures { result ≡ kind_is_variable (kind_in self.now.signals sig) }
+    {
+        match self.graph.signals().get(sig as usize) {
+            Some(signal) => is_variable_kind(signal.kind),
+            None => false,
+        }
+    }
+
     /// The bits of the cell.
     pub fn width(&self, id: CellId) -> u8
         ensures exact { result ≡ cell_width self.now id }
@@ -93,7 +105,7 @@ impl Builder {
         requires { IsCellOf self.old (length self.old.cells) cell }
         ensures numbered { IfErr result (HasNumberIn elaboration_numbers) }
         ensures signals { self.new.signals ≡ self.old.signals }
-        ensures kept { OnOk result (Keeps self.old self.new) }
+        ensures grown { OnOk result (Grows self.old self.new) }
         ensures word { IfOk result (λ id. IsWordOf self.new id (width_of self.new.signals (widths self.new.signals self.new.cells) cell)) }
         ensures found { IfOk result (λ id. slice_get self.new.cells id.0 ≡ Some cell) }
     {
@@ -105,7 +117,7 @@ impl Builder {
     pub fn there(&mut self, id: CellId) -> Result<CellId, Stop>
         ensures numbered { IfErr result (HasNumberIn elaboration_numbers) }
         ensures signals { self.new.signals ≡ self.old.signals }
-        ensures kept { OnOk result (Keeps self.old self.new) }
+        ensures grown { OnOk result (Grows self.old self.new) }
         ensures word { IfOk result (λ c. IsWordOf self.new c (cell_width self.old id)) }
         ensures same { id.0 < length self.old.cells → IfOk result (λ c. c ≡ id) }
     {
@@ -121,11 +133,9 @@ impl Builder {
         requires { (1 ≤ width) × (width ≤ 64) }
         ensures numbered { IfErr result (HasNumberIn elaboration_numbers) }
         ensures signals { self.new.signals ≡ self.old.signals }
-        ensures kept { OnOk result (Keeps self.old self.new) }
+        ensures grown { OnOk result (Grows self.old self.new) }
         ensures word { IfOk result (λ c. IsWordOf self.new c width) }
         ensures same { IsWordOf self.old word width → IfOk result (λ c. c ≡ word) }
-        ensures extended { IsCellOf self.old (length self.old.cells) (Extend word width) →
-            IfOk result (λ id. slice_get self.new.cells id.0 ≡ Some (Extend word width)) }
     {
         let a = self.there(word)?;
         let own = self.width(a);
@@ -144,7 +154,7 @@ impl Builder {
     fn alike(&mut self, a: CellId, b: CellId) -> Result<(CellId, CellId), Stop>
         ensures numbered { IfErr result (HasNumberIn elaboration_numbers) }
         ensures signals { self.new.signals ≡ self.old.signals }
-        ensures kept { OnOk result (Keeps self.old self.new) }
+        ensures grown { OnOk result (Grows self.old self.new) }
         ensures words { IfOk result (λ p. (w : ℕ) × (IsWordOf self.new p.0 w × IsWordOf self.new p.1 w)) }
         ensures same { AreAlike self.old (length self.old.cells) a b → IfOk result (λ p. p ≡ (a, b)) }
     {
@@ -158,7 +168,7 @@ impl Builder {
     fn both(&mut self, a: CellId, b: CellId) -> Result<(CellId, CellId), Stop>
         ensures numbered { IfErr result (HasNumberIn elaboration_numbers) }
         ensures signals { self.new.signals ≡ self.old.signals }
-        ensures kept { OnOk result (Keeps self.old self.new) }
+        ensures grown { OnOk result (Grows self.old self.new) }
         ensures words { IfOk result (λ p. IsWordOf self.new p.0 (cell_width self.old a) × IsWordOf self.new p.1 (cell_width self.old b)) }
         ensures same { a.0 < length self.old.cells → b.0 < length self.old.cells → IfOk result (λ p. p ≡ (a, b)) }
     {
@@ -172,7 +182,7 @@ impl Builder {
     fn truth(&mut self, word: CellId) -> Result<CellId, Stop>
         ensures numbered { IfErr result (HasNumberIn elaboration_numbers) }
         ensures signals { self.new.signals ≡ self.old.signals }
-        ensures kept { OnOk result (Keeps self.old self.new) }
+        ensures grown { OnOk result (Grows self.old self.new) }
         ensures word { IfOk result (λ c. IsWordOf self.new c 1) }
         ensures same { IsWordOf self.old word 1 → IfOk result (λ c. c ≡ word) }
     {
@@ -187,141 +197,191 @@ impl Builder {
         Ok(bit)
     }
 
-    fn variable(&mut self, sig: u32) -> Result<CellId, Stop>
-        ensures numbered { IfErr result (HasNumberIn elaboration_numbers) }
-        ensures signals { self.new.signals ≡ self.old.signals }
-        ensures found { IsCellOf self.old (length self.old.cells) (Var sig) →
-            IfOk result (λ id. slice_get self.new.cells id.0 ≡ Some (Var sig)) }
+    /// The signal; a zero bit where there is none.
+    fn variable(&self, sig: u32) -> Cell
+        ensures fits { IsCellOf self.now (length self.now.cells) result }
+        ensures same { IsCellOf self.now (length self.now.cells) (Var sig) → result ≡ Var sig }
     {
         if (sig as usize) < self.graph.signals().len() {
-            self.place(Cell::Var { sig })
+            Cell::Var { sig }
         } else {
-            self.place(Cell::Const { width: 1, value: 0 })
+            Cell::Const { width: 1, value: 0 }
         }
     }
 
-    fn constant(&mut self, width: u8, value: u64) -> Result<CellId, Stop>
-        ensures numbered { IfErr result (HasNumberIn elaboration_numbers) }
-        ensures signals { self.new.signals ≡ self.old.signals }
-        ensures found { IsCellOf self.old (length self.old.cells) (Const width value) →
-            IfOk result (λ id. slice_get self.new.cells id.0 ≡ Some (Const width value)) }
-    {
-        let size = sized(width);
-        let number = self.place(Cell::Const {
-            width: size,
-            value: low_bits(value, size),
-        })?;
-        Ok(number)
-    }
-
     /// The one word above the other.
-    fn joined(&mut self, high: CellId, low: CellId) -> Result<CellId, Stop>
+    fn joined(&mut self, high: CellId, low: CellId) -> Result<Cell, Stop>
         ensures numbered { IfErr result (HasNumberIn elaboration_numbers) }
         ensures signals { self.new.signals ≡ self.old.signals }
-        ensures found { IsCellOf self.old (length self.old.cells) (Concat high low) →
-            IfOk result (λ id. slice_get self.new.cells id.0 ≡ Some (Concat high low)) }
+        ensures grown { OnOk result (Grows self.old self.new) }
+        ensures fits { IfOk result (IsCellOf self.new (length self.new.cells)) }
+        ensures same { IsCellOf self.old (length self.old.cells) (Concat high low) → IfOk result (λ c. c ≡ Concat high low) }
     {
         let wide = self.width(high);
         let below = self.there(low)?;
         let room = 64 - self.width(below);
         if room == 0 {
-            return Ok(below);
+            return Ok(Cell::Slice {
+                a: below,
+                at: 0,
+                width: 64,
+            });
         }
         let above = self.fitted(high, wide.min(room))?;
-        let whole = self.place(Cell::Concat {
+        Ok(Cell::Concat {
             high: above,
             low: below,
-        })?;
-        Ok(whole)
+        })
     }
 
     /// The `width` bits of the word from `at` on.
-    fn slice(&mut self, word: CellId, at: u8, width: u8) -> Result<CellId, Stop>
+    fn slice(&mut self, word: CellId, at: u8, width: u8) -> Result<Cell, Stop>
         ensures numbered { IfErr result (HasNumberIn elaboration_numbers) }
         ensures signals { self.new.signals ≡ self.old.signals }
-        ensures found { IsCellOf self.old (length self.old.cells) (Slice word at width) →
-            IfOk result (λ id. slice_get self.new.cells id.0 ≡ Some (Slice word at width)) }
+        ensures grown { OnOk result (Grows self.old self.new) }
+        ensures fits { IfOk result (IsCellOf self.new (length self.new.cells)) }
+        ensures same { IsCellOf self.old (length self.old.cells) (Slice word at width) → IfOk result (λ c. c ≡ Slice word at width) }
     {
         let wide = self.width(word);
         let size = sized(width);
         let a = self.there(word)?;
         let rest = wide.saturating_sub(at);
         if size <= rest {
-            let bits = self.place(Cell::Slice { a, at, width: size })?;
-            return Ok(bits);
+            return Ok(Cell::Slice { a, at, width: size });
         }
         if rest == 0 {
-            return self.place(Cell::Const {
+            return Ok(Cell::Const {
                 width: size,
                 value: 0,
             });
         }
         let inside = self.place(Cell::Slice { a, at, width: rest })?;
-        self.fitted(inside, size)
+        Ok(Cell::Extend {
+            a: inside,
+            width: size,
+        })
     }
 
-    /// The cell, over words that fit it: itself where its words do.
-    pub fn add(&mut self, cell: Cell) -> Result<CellId, Stop>
+    /// The word with zeros above, or its lowest bits.
+    fn extended(&mut self, word: CellId, width: u8) -> Result<Cell, Stop>
+        requires { (1 ≤ width) × (width ≤ 64) }
         ensures numbered { IfErr result (HasNumberIn elaboration_numbers) }
         ensures signals { self.new.signals ≡ self.old.signals }
-        ensures found { IsCellOf self.old (length self.old.cells) cell → IfOk result (λ id. slice_get self.new.cells id.0 ≡ Some cell) }
+        ensures grown { OnOk result (Grows self.old self.new) }
+        ensures fits { IfOk result (IsCellOf self.new (length self.new.cells)) }
+        ensures same { IsCellOf self.old (length self.old.cells) (Extend word width) → IfOk result (λ c. c ≡ Extend word width) }
+    {
+        let a = self.there(word)?;
+        if self.width(a) < width {
+            Ok(Cell::Extend { a, width })
+        } else {
+            Ok(Cell::Slice { a, at: 0, width })
+        }
+    }
+
+    /// The cell over words that fit it: itself where its words do.
+    fn fit(&mut self, cell: Cell) -> Result<Cell, Stop>
+        ensures numbered { IfErr result (HasNumberIn elaboration_numbers) }
+        ensures signals { self.new.signals ≡ self.old.signals }
+        ensures grown { OnOk result (Grows self.old self.new) }
+        ensures fits { IfOk result (IsCellOf self.new (length self.new.cells)) }
+        ensures same { IsCellOf self.old (length self.old.cells) cell → IfOk result (λ c. c ≡ cell) }
     {
         match cell {
-            Cell::Var { sig } => self.variable(sig),
-            Cell::Const { width, value } => self.constant(width, value),
+            Cell::Var { sig } => Ok(self.variable(sig)),
+            Cell::Const { width, value } => Ok(constant(width, value)),
             Cell::Not { a } => {
                 let a = self.there(a)?;
-                self.place(Cell::Not { a })
+                Ok(Cell::Not { a })
             }
             Cell::And { a, b } => {
                 let (a, b) = self.alike(a, b)?;
-                self.place(Cell::And { a, b })
+                Ok(Cell::And { a, b })
             }
             Cell::Or { a, b } => {
                 let (a, b) = self.alike(a, b)?;
-                self.place(Cell::Or { a, b })
+                Ok(Cell::Or { a, b })
             }
             Cell::Xor { a, b } => {
                 let (a, b) = self.alike(a, b)?;
-                self.place(Cell::Xor { a, b })
+                Ok(Cell::Xor { a, b })
             }
             Cell::Add { a, b } => {
                 let (a, b) = self.alike(a, b)?;
-                self.place(Cell::Add { a, b })
+                Ok(Cell::Add { a, b })
             }
             Cell::Sub { a, b } => {
                 let (a, b) = self.alike(a, b)?;
-                self.place(Cell::Sub { a, b })
+                Ok(Cell::Sub { a, b })
             }
             Cell::Eq { a, b } => {
                 let (a, b) = self.alike(a, b)?;
-                self.place(Cell::Eq { a, b })
+                Ok(Cell::Eq { a, b })
             }
             Cell::Lt { a, b } => {
                 let (a, b) = self.alike(a, b)?;
-                self.place(Cell::Lt { a, b })
+                Ok(Cell::Lt { a, b })
             }
             Cell::Shl { a, by } => {
                 let (a, by) = self.both(a, by)?;
-                self.place(Cell::Shl { a, by })
+                Ok(Cell::Shl { a, by })
             }
             Cell::Shr { a, by } => {
                 let (a, by) = self.both(a, by)?;
-                self.place(Cell::Shr { a, by })
+                Ok(Cell::Shr { a, by })
             }
             Cell::Mux { cond, yes, other } => {
                 let cond = self.truth(cond)?;
                 let (yes, other) = self.alike(yes, other)?;
-                let choice = self.place(Cell::Mux { cond, yes, other })?;
-                Ok(choice)
+                Ok(Cell::Mux { cond, yes, other })
             }
             Cell::Concat { high, low } => self.joined(high, low),
             Cell::Slice { a, at, width } => self.slice(a, at, width),
-            Cell::Extend { a, width } => self.fitted(a, sized(width)),
+            Cell::Extend { a, width } => self.extended(a, sized(width)),
             Cell::Reduce { kind, a } => {
                 let a = self.there(a)?;
-                self.place(Cell::Reduce { kind, a })
+                Ok(Cell::Reduce { kind, a })
             }
         }
+    }
+
+    /// Adds the cell over words that fit it: the cell itself where its words do.
+    pub fn add(&mut self, cell: Cell) -> Result<CellId, Stop>
+        ensures numbered { IfErr result (HasNumberIn elaboration_numbers) }
+        ensures signals { self.new.signals ≡ self.old.signals }
+        ensures grown { OnOk result (Grows self.old self.new) }
+        ensures found { IsCellOf self.old (length self.old.cells) cell → IfOk result (λ id. slice_get self.new.cells id.0 ≡ Some cell) }
+    {
+        let fitting = self.fit(cell)?;
+        let id = self.place(fitting)?;
+        Ok(id)
+    }
+
+    /// Every cell of the graph fits.
+    pub fn fits(&self)
+        ensures { IsWellFormed self.now }
+    {
+        let _ = &self.graph;
+    }
+}
+
+/// A number of a word's bits.
+fn constant(width: u8, value: u64) -> Cell
+    ensures fits { (g : Cells) → IsCellOf g (length g.cells) result }
+    ensures same { 1 ≤ width → width ≤ 64 → value < 2 ^ width → result ≡ Const width value }
+{
+    let size = sized(width);
+    Cell::Const {
+        width: size,
+        value: low_bits(value, size),
+    }
+}
+
+fn is_variable_kind(kind: SigKind) -> bool
+    ensures { result ≡ kind_is_variable kind }
+{
+    match kind {
+        SigKind::Input | SigKind::Register => true,
+        SigKind::Wire => false,
     }
 }

@@ -5,43 +5,41 @@
 //! as often as it is used.
 #![tactic(auto)]
 
-ghost use Rattle.std.specs.Prelude.{◌≡◌, ◌≤◌, ◌<◌, length, map, vec_len, All, IfOk, IfErr, OnOk};
+ghost use Rattle.std.specs.Prelude.{◌≡◌, ◌≤◌, ◌<◌, ℕ, length, map, take, vec_len, All, IfOk, IfErr, OnOk};
 ghost use Rattle.cell_graph.specs.declared.cell.CellId.{CellId as Id};
 ghost use Rattle.cell_graph.specs.declared.net.Reg.{Reg as NetRegister};
-ghost use Rattle.elaborate.specs.declared.sketch.Register.{Register as RegisterDraft};
+ghost use Rattle.driver_trees.specs.declared.sketch.Register.{Register as RegisterDraft};
 ghost use Rattle.cdc_base.specs.declared.limits.TheConstants.{MAX_STATE_BITS};
-ghost use Rattle.cell_graph.specs.Nets.{HasNextCells, IsNet, Keeps, register_signals};
+ghost use Rattle.cell_graph.specs.Nets.{HasNextCells, IsNet, register_signals};
 ghost use Rattle.cell_graph.specs.Shared.{IsShared};
 ghost use Rattle.cell_graph.specs.Unfolded.{IsWellFormed};
+ghost use Rattle.elaborate.specs.Grown.{Grows};
 ghost use Rattle.refusals.specs.Numbers.{HasNumberIn, elaboration_numbers};
 ghost use Rattle.elaborate.specs.Limits.{state_bits};
+ghost use Rattle.std.specs.List.{Contains};
+ghost use Rattle.cell_graph.specs.Unfolded.{tree_of};
+ghost use Rattle.driver_trees.specs.Drafts.{tree_in};
+ghost use Rattle.flat_meaning.specs.Design.{Flat as FlatOf};
+ghost use Rattle.driver_trees.specs.Sketches.{IsSketchOf};
+ghost use Rattle.flat_meaning.specs.SignalTrees.{AreTrees};
+ghost use Rattle.flat_meaning.specs.Trees.{Selects};
+ghost use Rattle.elaborate.specs.Lowered.{AreMet, AreNeeded, CanLower, EndsStandBefore, IsDraftMet, Knows};
+ghost use Rattle.elaborate.specs.NetTrees.{HasTrees, IsRegisterOf};
 ghost use Rattle.elaborate.specs.Words.{AreStarted, IsRegOf, as_word, known_bits};
 
-mod assigned;
 mod builder;
-mod constant;
-mod draft;
-mod expr;
-mod links;
 mod lower;
-mod mask;
-mod memory;
-mod present;
-mod process;
 mod refusal;
-mod sketch;
-mod target;
-mod walk;
 
-use crate::builder::{Builder, sized};
-use crate::links::Links;
+use crate::builder::sized;
 use crate::lower::Lowering;
-use crate::memory::{filled, numbered, push};
-use crate::sketch::Sketch;
 use cdc_base::limits::MAX_CELLS;
 use cdc_base::{List, NoMemory, SigKind, Signal, Stop};
 use cell_graph::word::low_bits;
 use cell_graph::{CellId, Net, Reg};
+use driver_loops::{Links, walk};
+use driver_trees::Sketch;
+use driver_trees::memory::{numbered, push};
 use flat_form::Flat;
 use refusals::past_limit;
 use std::alloc::Global;
@@ -69,43 +67,12 @@ pub fn elaborate(alloc: Global, flat: &Flat) -> Result<Net, Stop>
         return Err(past_limit(alloc, 605));
     }
     let sketch = Sketch::of(alloc, flat)?;
-    let links = Links::of(alloc, signals, &sketch)?;
-    if let Some(signal) = first_loop(alloc, signals, &sketch, &links)? {
-        return Err(refusal::combinational_loop(alloc, signal));
-    }
-    let net = make_net(alloc, signals, &sketch, &links)?;
+    let net = net_of(alloc, signals, &sketch)?;
     Ok(net)
 }
 
-/// The first signal with bits that lead back to themselves.
-fn first_loop<'a>(
-    alloc: Global,
-    signals: &'a [Signal],
-    sketch: &Sketch,
-    links: &Links,
-) -> Result<Option<&'a Signal>, NoMemory> {
-    let first = sketch.drafts.as_slice().len();
-    let mut roots = Vec::new(alloc);
-    for vertex in first..links.len() {
-        let root = numbered(vertex)?;
-        push(&mut roots, root)?;
-    }
-    let order = walk::order(alloc, links, roots.as_slice())?;
-    if !walk::has_loop(alloc, links, order.as_slice())? {
-        return Ok(None);
-    }
-    let on_loops = walk::on_loops(alloc, links, order.as_slice())?;
-    for (place, piece) in sketch.pieces.iter().enumerate() {
-        let vertex = first.saturating_add(place);
-        if on_loops.get(vertex).copied().unwrap_or(false) {
-            return Ok(signals.get(piece.sig as usize));
-        }
-    }
-    Ok(None)
-}
-
-/// The cells of registers and outputs.
-fn make_net(alloc: Global, signals: &[Signal], sketch: &Sketch, links: &Links) -> Result<Net, Stop>
+/// The net of a sketch.
+fn net_of(alloc: Global, signals: &[Signal], sketch: &Sketch) -> Result<Net, Stop>
     ensures numbered { IfErr result (HasNumberIn elaboration_numbers) }
     ensures registers { IfOk result (λ net. map (λ (r : NetRegister). r.sig) net.regs ≡ map (λ (r : RegisterDraft). r.sig) sketch.now.registers.items) }
     ensures outputs { IfOk result (λ net. length net.outputs ≡ vec_len sketch.now.outputs) }
@@ -114,31 +81,133 @@ fn make_net(alloc: Global, signals: &[Signal], sketch: &Sketch, links: &Links) -
     ensures shared { IfOk result (λ net. IsShared net.graph) }
     ensures fit { IfOk result (λ net. All (IsRegOf net.graph) net.regs) }
     ensures outputs_stand { IfOk result (λ net. All (λ (o : Id). o.0 < length net.graph.cells) net.outputs) }
+    ensures unfolds { IfOk result (λ net. (f : FlatOf) (sel : Selects) → f.signals ≡ signals.now → AreTrees f sel → IsSketchOf f sketch.now.drafts sketch.now → HasTrees f sel net) }
 {
-    let words = copied(alloc, signals)?;
-    let mut lowering = Lowering {
-        graph: Builder::new(alloc, words)?,
-        trees: filled(alloc, None, links.len())?,
-    };
-    let roots = roots_of(alloc, sketch)?;
-    let order = walk::order(alloc, links, roots.as_slice())?;
-    for vertex in &order {
-        lowering.meet(sketch, *vertex as usize)?;
+    let links = Links::of(alloc, signals, sketch)?;
+    let needed = roots_of(alloc, sketch)?;
+    let others = pieces_of(alloc, sketch)?;
+    let roots = needed.as_slice();
+    let found = walk::front_order(alloc, &links, roots, others.as_slice())?;
+    let order = found.0.as_slice();
+    let loops = walk::has_loop(alloc, &links, order)?;
+    if loops {
+        return Err(loop_of(alloc, signals, sketch, &links, order)?);
     }
-    let mut cells = 0u32;
-    for root in &roots {
-        if let Some(tree) = lowering.tree(*root as usize) {
-            cells = cells.saturating_add(tree.cells);
+    let front = front_of(order, found.1);
+    let net = make_net(alloc, signals, sketch, front)?;
+    Ok(net)
+}
+
+/// The first vertices of the order.
+fn front_of(order: &[u32], count: usize) -> &[u32]
+    ensures { result.now ≡ take count order.now }
+{
+    order.get(..count).unwrap_or(order)
+}
+
+/// The pieces as vertices.
+fn pieces_of(alloc: Global, sketch: &Sketch) -> Result<Vec<u32>, NoMemory> {
+    let first = sketch.drafts.as_slice().len();
+    let mut vertices = Vec::new(alloc);
+    for place in 0..sketch.pieces.len() {
+        let vertex = numbered(first.saturating_add(place))?;
+        push(&mut vertices, vertex)?;
+    }
+    Ok(vertices)
+}
+
+/// The refusal of the first signal with bits that lead back to themselves.
+fn loop_of(
+    alloc: Global,
+    signals: &[Signal],
+    sketch: &Sketch,
+    links: &Links,
+    order: &[u32],
+) -> Result<Stop, NoMemory>
+    ensures numbered { IfOk result (HasNumberIn elaboration_numbers) }
+{
+    let on_loops = walk::on_loops(alloc, links, order)?;
+    let first = sketch.drafts.as_slice().len();
+    for (place, piece) in sketch.pieces.iter().enumerate() {
+        if on_loops
+            .get(first.saturating_add(place))
+            .copied()
+            .unwrap_or(false)
+        {
+            if let Some(signal) = signals.get(piece.sig as usize) {
+                return Ok(refusal::combinational_loop(alloc, signal));
+            }
         }
     }
-    if cells > MAX_CELLS {
+    // A loop leads through a piece, so that one was found.
+    Err(NoMemory)
+}
+
+/// The cells of registers and outputs. The order has all that they need, each vertex behind those that it leads to.
+fn make_net(alloc: Global, signals: &[Signal], sketch: &Sketch, order: &[u32]) -> Result<Net, Stop>
+    ensures numbered { IfErr result (HasNumberIn elaboration_numbers) }
+    ensures registers { IfOk result (λ net. map (λ (r : NetRegister). r.sig) net.regs ≡ map (λ (r : RegisterDraft). r.sig) sketch.now.registers.items) }
+    ensures outputs { IfOk result (λ net. length net.outputs ≡ vec_len sketch.now.outputs) }
+    ensures signals { IfOk result (λ net. net.graph.signals ≡ map as_word signals.now) }
+    ensures well_formed { IfOk result (λ net. IsWellFormed net.graph) }
+    ensures shared { IfOk result (λ net. IsShared net.graph) }
+    ensures fit { IfOk result (λ net. All (IsRegOf net.graph) net.regs) }
+    ensures outputs_stand { IfOk result (λ net. All (λ (o : Id). o.0 < length net.graph.cells) net.outputs) }
+    ensures unfolds { IfOk result (λ net. (f : FlatOf) (sel : Selects) → CanLower f sel sketch.now.drafts sketch.now (map as_word signals.now)
+        → EndsStandBefore f sketch.now.drafts sketch.now.pieces.items order.now → AreNeeded sketch.now order.now → HasTrees f sel net) }
+{
+    let lowering = lowered(alloc, signals, sketch, order)?;
+    if cells_of(sketch, &lowering) > MAX_CELLS {
         return Err(past_limit(alloc, 602));
     }
-    finish(alloc, sketch, lowering)
+    let net = finish(alloc, sketch, lowering)?;
+    Ok(net)
+}
+
+/// The vertices of the order, each made of those before it.
+fn lowered(
+    alloc: Global,
+    signals: &[Signal],
+    sketch: &Sketch,
+    order: &[u32],
+) -> Result<Lowering, Stop>
+    ensures numbered { IfErr result (HasNumberIn elaboration_numbers) }
+    ensures signals { IfOk result (λ lowering. lowering.graph.signals ≡ map as_word signals.now) }
+    ensures known { IfOk result (λ lowering. (f : FlatOf) (sel : Selects) → CanLower f sel sketch.now.drafts sketch.now (map as_word signals.now)
+        → EndsStandBefore f sketch.now.drafts sketch.now.pieces.items order.now
+        → (v : ℕ) → Contains order.now v → Knows sel sketch.now.drafts sketch.now.pieces.items lowering.graph lowering.trees.items v) }
+{
+    let words = copied(alloc, signals)?;
+    let drafts = sketch.drafts.as_slice();
+    let pieces = sketch.pieces.as_slice();
+    let Some(count) = drafts.len().checked_add(pieces.len()) else {
+        return Err(Stop::Memory);
+    };
+    let mut lowering = Lowering::new(alloc, words, count)?;
+    for vertex in order {
+        lowering.meet(sketch, *vertex as usize)?;
+    }
+    Ok(lowering)
+}
+
+/// The cells of the trees of registers and outputs, each use of a shared tree counted. The count stops at the end of
+/// `u32`.
+fn cells_of(sketch: &Sketch, lowering: &Lowering) -> u32 {
+    let mut cells = 0u32;
+    for register in &sketch.registers {
+        cells = cells.saturating_add(lowering.cells(register.clock));
+        cells = cells.saturating_add(lowering.cells(register.next));
+    }
+    for output in &sketch.outputs {
+        cells = cells.saturating_add(lowering.cells(*output));
+    }
+    cells
 }
 
 /// The drafts that the design needs: of each register its clock and next value, and of each output its value.
-fn roots_of(alloc: Global, sketch: &Sketch) -> Result<Vec<u32>, NoMemory> {
+fn roots_of(alloc: Global, sketch: &Sketch) -> Result<Vec<u32>, NoMemory>
+    ensures { IfOk result (λ roots. AreNeeded sketch.now roots.items) }
+{
     let mut roots = Vec::new(alloc);
     for register in &sketch.registers {
         push(&mut roots, register.clock.0)?;
@@ -159,6 +228,8 @@ fn finish(alloc: Global, sketch: &Sketch, mut lowering: Lowering) -> Result<Net,
     ensures shared { IfOk result (λ net. IsShared net.graph) }
     ensures fit { IfOk result (λ net. All (IsRegOf net.graph) net.regs) }
     ensures outputs_stand { IfOk result (λ net. All (λ (o : Id). o.0 < length net.graph.cells) net.outputs) }
+    ensures trees { IfOk result (λ net. (f : FlatOf) (sel : Selects) → CanLower f sel sketch.now.drafts sketch.now lowering.graph.signals
+        → AreMet sel sketch.now.drafts sketch.now lowering.graph lowering.trees.items → HasTrees f sel net) }
 {
     let regs = registers(alloc, sketch, &mut lowering)?;
     let outputs = outputs(alloc, sketch, &mut lowering)?;
@@ -174,9 +245,14 @@ fn finish(alloc: Global, sketch: &Sketch, mut lowering: Lowering) -> Result<Net,
 fn registers(alloc: Global, sketch: &Sketch, lowering: &mut Lowering) -> Result<List<Reg>, Stop>
     ensures numbered { IfErr result (HasNumberIn elaboration_numbers) }
     ensures signals { OnOk result (lowering.new.graph.signals ≡ lowering.old.graph.signals) }
+    ensures same { OnOk result (lowering.new.trees ≡ lowering.old.trees) }
+    ensures grown { OnOk result (Grows lowering.old.graph lowering.new.graph) }
     ensures registers { IfOk result (λ regs. map (λ (r : NetRegister). r.sig) regs ≡ map (λ (r : RegisterDraft). r.sig) sketch.now.registers.items) }
     ensures fit { IfOk result (λ regs. All (IsRegOf lowering.new.graph) regs) }
+    ensures trees { IfOk result (λ regs. (f : FlatOf) (sel : Selects) → CanLower f sel sketch.now.drafts sketch.now lowering.old.graph.signals
+        → AreMet sel sketch.now.drafts sketch.now lowering.old.graph lowering.old.trees.items → All (IsRegisterOf f sel lowering.new.graph) regs) }
 {
+    lowering.graph.fits();
     let mut regs = List::new(alloc);
     for register in &sketch.registers {
         let width = lowering.graph.signal_width(register.sig);
@@ -193,9 +269,11 @@ fn registers(alloc: Global, sketch: &Sketch, lowering: &mut Lowering) -> Result<
 
 fn outputs(alloc: Global, sketch: &Sketch, lowering: &mut Lowering) -> Result<List<CellId>, Stop>
     ensures numbered { IfErr result (HasNumberIn elaboration_numbers) }
-    ensures kept { OnOk result (Keeps lowering.old.graph lowering.new.graph) }
+    ensures grown { OnOk result (Grows lowering.old.graph lowering.new.graph) }
     ensures outputs { IfOk result (λ outputs. length outputs ≡ vec_len sketch.now.outputs) }
     ensures stand { IfOk result (λ outputs. All (λ (o : Id). o.0 < length lowering.new.graph.cells) outputs) }
+    ensures trees { IfOk result (λ outputs. (sel : Selects) → All (IsDraftMet sel sketch.now.drafts lowering.old.graph lowering.old.trees.items) sketch.now.outputs.items
+        → map (tree_of lowering.new.graph) outputs ≡ map (tree_in sel sketch.now.drafts) sketch.now.outputs.items) }
 {
     let mut outputs = List::new(alloc);
     for output in &sketch.outputs {

@@ -1,11 +1,14 @@
-use Rattle.std.proofs.Common.{refl, subst, sym}
-use Rattle.cell_graph.specs.Nets.{AreSized}
+use Rattle.std.proofs.Common.{refl, sym, subst}
 use Rattle.refusals.specs.Numbers.{elaboration_numbers}
-use Rattle.elaborate.proofs.Fits.{words-sized}
+use Rattle.elaborate.specs.Lowered.{CanLower}
+use Rattle.elaborate.proofs.NetTrees.{all-met}
 use Rattle.elaborate.proofs.make_net.Goals as goal
 
-pub returns-then-cells-gt-MAX_CELLS-clause-numbered : goal.returns-then-cells-gt-MAX_CELLS-clause-numbered
-returns-then-cells-gt-MAX_CELLS-clause-numbered c = c.past_limit.ensures.numbered elaboration_numbers refl
+pub returns-then-cells_of-gt-MAX_CELLS-clause-numbered : goal.returns-then-cells_of-gt-MAX_CELLS-clause-numbered
+returns-then-cells_of-gt-MAX_CELLS-clause-numbered c = c.past_limit.ensures.numbered elaboration_numbers refl
 
-pub new-requires : goal.new-requires
-new-requires c = subst AreSized (sym c.in_ok-words.ensures) (words-sized c.args.signals.now)
+pub returns-clause-unfolds : goal.returns-clause-unfolds
+returns-clause-unfolds c = λ f sel can sorted needed.
+    let s = c.args.sketch.now in let made = c.in_ok-lowering.lowering in
+    c.in_ok-net.ensures.trees f sel (subst (CanLower f sel s.drafts s) (sym c.in_ok-lowering.ensures.signals) can)
+    (all-met f sel s.drafts s can.sketch c.args.order.now needed made.graph made.trees.items (c.in_ok-lowering.ensures.known f sel can sorted))

@@ -1,9 +1,10 @@
 use Rattle.std.proofs.Common.{sym, subst, length}
 use Rattle.std.proofs.lemmas.Option.{slice_get_within}
 use Rattle.cell_graph.specs.Cells.{Cells}
-use Rattle.cell_graph.specs.Nets.{Keeps}
 use Rattle.cell_graph.specs.Unfolded.{IsCellOf}
-use Rattle.cell_graph.proofs.Grown.{added-keeps, added-well, width-cell}
+use Rattle.cell_graph.proofs.Grown.{added-well, width-cell}
+use Rattle.elaborate.specs.Grown.{Grows}
+use Rattle.elaborate.proofs.Grown.{added-grows}
 use Rattle.elaborate.proofs.Shared.{added-shared}
 use Rattle.elaborate.proofs.builder.Builder.place.Goals as goal
 
@@ -14,9 +15,9 @@ invariant_of-self-2 c = (
   added-shared c.self.inside.graph c.add.new.self c.args.cell c.self.invariant.1 c.in_ok-id.ensures.cells,
 )
 
-pub returns-clause-kept : goal.returns-clause-kept
-returns-clause-kept c =
-    subst (λ (g : Cells). Keeps g c.add.new.self) c.self.view_is (added-keeps c.self.inside.graph c.add.new.self c.args.cell c.add.ensures.signals c.in_ok-id.ensures.cells)
+pub returns-clause-grown : goal.returns-clause-grown
+returns-clause-grown c =
+    subst (λ (g : Cells). Grows g c.add.new.self) c.self.view_is (added-grows c.self.inside.graph c.add.new.self c.args.cell c.add.ensures.signals c.in_ok-id.ensures.cells)
 
 pub returns-clause-word : goal.returns-clause-word
 returns-clause-word c =

@@ -1,0 +1,4 @@
+pub mod Leads
+pub mod Links
+pub mod Orders
+pub mod Walks

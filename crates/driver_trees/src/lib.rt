@@ -1,0 +1,16 @@
+//! The drivers of a flat design as trees whose reads of signals are still open.
+#![tactic(auto)]
+
+mod assigned;
+mod constant;
+pub mod draft;
+mod expr;
+mod mask;
+pub mod memory;
+mod present;
+mod process;
+pub mod sketch;
+mod target;
+
+pub use draft::{Draft, Drafts, Form};
+pub use sketch::{Piece, Register, Sketch};
