@@ -1,11 +1,14 @@
 //! The verdict on a net.
 #![tactic(auto)]
 
-ghost use Rattle.std.specs.Prelude.{◌≡◌, ℕ, [], Bool, true, List, map, IfOk, IfErr};
+ghost use Rattle.std.specs.Prelude.{◌≡◌, ◌<◌, ℕ, [], Bool, true, List, length, map, IfOk, IfErr};
 ghost use Rattle.cdc_base.specs.declared.bit.Bit.{Bit};
+ghost use Rattle.cdc_base.specs.declared.limits.TheConstants.{MAX_CROSSINGS};
+ghost use Rattle.cell_graph.specs.Cells.{HasCause};
 ghost use Rattle.cdc_model.specs.declared.scheme.GrayReg.{GrayReg as GrayRegOf};
 ghost use Rattle.cdc_model.specs.declared.scheme.Ring.{Ring as RingEntry};
 ghost use Rattle.cdc_model.specs.Facts.{none_extra};
+ghost use Rattle.cdc_model.specs.Found.{crossings_of};
 ghost use Rattle.cdc_model.specs.Listed.{IsVerdictOf};
 ghost use Rattle.cdc_model.specs.Nets.{design_of, is_register_bit, net_trees};
 ghost use Rattle.cdc_model.specs.Runs.{Trace, IsRun};
@@ -117,6 +120,7 @@ pub fn audit_with<E: Extra>(
     extra: &E,
 ) -> Result<Verdict, Stop>
     ensures numbered { IfErr result (HasNumberIn crossing_numbers) }
+    ensures full { IfErr result (HasCause 603 (CanAudit net.now domains.now → MAX_CROSSINGS < length (crossings_of net.now domains.now))) }
     ensures exact { IfOk result (λ verdict. CanAudit net.now domains.now → IsVerdictOf net.now domains.now (E.is_extra extra.now) verdict) }
     ensures sound { IfOk result (λ verdict. CanAudit net.now domains.now → (is : IsVerdictOf net.now domains.now (E.is_extra extra.now) verdict) →
         E.fits extra.now (design_of net.now domains.now) (net_trees net.now is.grays) is.syncs verdict.grays → verdict.findings ≡ [] →
@@ -164,6 +168,7 @@ pub fn audit_with<E: Extra>(
 /// The verdict on the net.
 pub fn audit(alloc: Global, net: &Net, domains: &Domains) -> Result<Verdict, Stop>
     ensures numbered { IfErr result (HasNumberIn crossing_numbers) }
+    ensures full { IfErr result (HasCause 603 (CanAudit net.now domains.now → MAX_CROSSINGS < length (crossings_of net.now domains.now))) }
     ensures exact { IfOk result (λ verdict. CanAudit net.now domains.now → IsVerdictOf net.now domains.now none_extra verdict) }
     ensures sound { IfOk result (λ verdict. CanAudit net.now domains.now → verdict.findings ≡ [] →
         Sound (design_of net.now domains.now) verdict.covers (map (λ (r : RingEntry). r.bits) verdict.rings) none_extra) }

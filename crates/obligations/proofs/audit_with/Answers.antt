@@ -1,15 +1,22 @@
 -- From what each search finds.
 use Rattle.std.proofs.Common.{◌≡◌, ◌∙◌, sym, subst, true, [], List}
+use Rattle.std.proofs.lemmas.Result.{err_from_is_err_and}
 use Rattle.cdc_model.specs.declared.scheme.Crossing.{Crossing}
 use Rattle.cdc_model.specs.Nets.{design_of, net_trees}
 use Rattle.cdc_model.specs.Ordered.{IsAll}
 use Rattle.cdc_model.specs.Syncs.{syncs_of}
 use Rattle.cdc_model.specs.Tables.{ShowsNet}
 use Rattle.cdc_model.specs.Verdict.{IsCover, IsFirstLoad, cover_key, gray_key, load_key}
+use Rattle.crossings.proofs.Exact.{cause-map}
 use Rattle.mux_recirc.specs.Given.{AreGuards}
 use Rattle.obligations.proofs.Judging.{judged}
 use Rattle.obligations.proofs.ListedGrays.{all_listed, is_listed, listed}
 use Rattle.obligations.proofs.audit_with.Goals as goal
+
+pub returns-in_err-crossings-clause-full : goal.returns-in_err-crossings-clause-full
+returns-in_err-crossings-clause-full g c =
+    let p = err_from_is_err_and c.from_residual-in_err-crossings.result c.from_residual-in_err-crossings.ensures.1 in
+    rw (p.1, p.2) (cause-map 603 c.in_err-crossings.field-0.0 (λ over can. over can.is_net can.has_next can.fits (c.in_ok-plain.ensures can.is_net.graph)) c.in_err-crossings.ensures.full)
 
 pub returns-clause-exact : goal.returns-clause-exact
 returns-clause-exact g c = λ can.
