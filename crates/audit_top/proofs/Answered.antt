@@ -1,6 +1,6 @@
 -- What an audit answers, once it came to its end.
 use Rattle.std.proofs.Common.{◌≡◌, ◌∙◌, ap, ap₂, sym, subst, inl, inr, ◌⊎◌, ◌∷◌, [], List, ℕ, true, Ok, Err, Some, refl, Result, codes, Option}
-use Rattle.std.specs.Prelude.{IfOk, IfErr, MatchResult}
+use Rattle.std.specs.Prelude.{IfOk, IfErr, IfSome, MatchResult}
 use Rattle.std.specs.List.{list_all}
 use Rattle.std.proofs.lemmas.Bool.{false≢true}
 use Rattle.cdc_base.specs.declared.fault.Fault.{Fault}
@@ -14,7 +14,8 @@ use Rattle.audit_top.specs.declared.answer.Ending.TheVariants.{Refused, Memory}
 use Rattle.audit_top.specs.declared.status.Status.{Status}
 use Rattle.audit_top.specs.declared.status.Status.TheVariants as status
 use Rattle.audit_top.specs.Runs.{Seen, Text, IsAnswer, IsLong, IsRefusedBy, IsRefusedForLength, IsText, IsOfFile, IsOfStatus, TellsOfLength, fault_at, numbers_of, all_record_numbers}
-use Rattle.audit_top.specs.Endings.{IsAnswerTo, IsAudited, IsEnding, IsEndOfAudit, IsLengthEnding, IsOfFiles, IsReadOfBoth}
+use Rattle.audit_top.specs.Endings.{IsAnswerTo, IsEnding, IsEndOfAudit, IsLengthEnding, IsOfFiles, IsReadOfBoth}
+use Rattle.audit_top.specs.Audits.{IsAudited, IsAuditUnder}
 use Rattle.audit_top.proofs.Lines.{is_other, other_line}
 
 audited_fits : (before now : Seen) (s : Status) (text : Text) → IsAudited s → IsText before now s text
@@ -40,6 +41,19 @@ refused_fits before now status.Waived f h = absurd h
 refused_fits before now status.Usage f h = absurd h
 refused_fits before now status.WriteFault f h = absurd h
 refused_fits before now status.Memory f h = absurd h
+
+-- a refusal has no status of an audit
+pub refused_audit : (before now : Seen) (s : Status) (f : Fault) → IsRefusedBy before now s f → IsAudited s → ⊥
+refused_audit before now status.Done f refused is = refused
+refused_audit before now status.Violations f refused is = refused
+refused_audit before now status.Waived f refused is = refused
+refused_audit before now status.Usage f refused is = is
+refused_audit before now status.Netlist f refused is = is
+refused_audit before now status.Constraints f refused is = is
+refused_audit before now status.Record f refused is = is
+refused_audit before now status.ReadFault f refused is = is
+refused_audit before now status.WriteFault f refused is = is
+refused_audit before now status.Memory f refused is = is
 
 -- an audit that came to its end has no status of a file
 audited_of_none : (s : Status) → IsAudited s → IsOfStatus s → ⊥
@@ -85,11 +99,16 @@ texts_audited : (r : Result Answer Ending) → MatchResult r (λ a. IsAudited a.
 texts_audited (Ok own) h = h
 texts_audited (Err e) h = tt
 
+-- where a file is told, its bytes are what was read
+pub told_is : (held : Option Text) (bytes all : Text) → IfSome held (λ told. bytes ≡ told) → held ≡ Some all → bytes ≡ all
+told_is held bytes all told is = subst (λ (o : Option Text). IfSome o (λ t. bytes ≡ t)) is told
+
 -- both files were read, and their texts have an answer or a refusal
-pub answered_texts : {T : Type 0} (net con : Text) (before now : Seen) (texts : T) (r : Result Answer Ending)
+pub answered_texts : {T : Type 0} (net con : Text) (before now : Seen) (texts : T) (r : Result Answer Ending) (con_read : Text)
     → IsReadOfBoth {T = T} net con before now (Ok texts) → MatchResult r (λ a. IsAudited a.status) IsOfFiles
+    → IfSome (before.held con) (λ all. con_read ≡ all) → IfOk r (λ a. IsAuditUnder con_read a.status)
     → IsEndOfAudit net con before now r
-answered_texts net con before now texts r reads h = record {
+answered_texts net con before now texts r con_read reads h told exact = record {
   reads = record {
     asks = reads.asks;
     ended = texts_ended before now r h;
@@ -97,6 +116,7 @@ answered_texts net con before now texts r reads h = record {
     long_con = λ long. absurd (reads.long_con long);
   };
   audited = texts_audited r h;
+  exact = λ con_bytes con_is. subst (λ (c : Text). IfOk r (λ a. IsAuditUnder c a.status)) (told_is (before.held con) con_read con_bytes told con_is) exact;
 }
 
 -- a selftest reads no file
@@ -111,6 +131,7 @@ module _ (words : List Text) (before now : Seen) (accepted : IsAccepted words) (
     long_con = λ n c rest _ files long. cc;
     long_run = λ n c r _ files long. cc;
     replayed = λ n c r _ _ _ files _ _. cc;
+    audited = λ n c _ _ files _ _. cc;
   }
 
   line_test : (s : Status) (f : Fault) → IsRefusedBy before now s f → IsAnswer words before now s (line_of f)
@@ -123,6 +144,7 @@ module _ (words : List Text) (before now : Seen) (accepted : IsAccepted words) (
     long_con = λ n c rest _ files long. cc;
     long_run = λ n c r _ files long. cc;
     replayed = λ n c r _ _ _ files _ _. cc;
+    audited = λ n c _ _ files _ _. cc;
   }
 
   one_test : (ended : Result Answer Ending) (a : Answer) → MatchResult ended (λ own. IsAudited own.status) IsOfFiles
@@ -167,6 +189,7 @@ module _ (words : List Text) (before now : Seen) (net con : Text) (accepted : Is
     long_con = λ n c rest _ files long. absurd (end.reads.long_con (subst (λ (x : Text). IsLong before x) (sym (is_con n c rest files)) long));
     long_run = λ n c r _ files long. cc;
     replayed = λ n c r _ _ _ files _ _. cc;
+    audited = λ n c con_bytes _ files con_is _. end.exact con_bytes (ap before.held (is_con n c [] files) ∙ con_is);
   }
 
   line_answer : (s : Status) (f : Fault) → IsEndOfAudit net con before now (Err (Refused s f)) → IsAnswer words before now s (line_of f)
@@ -183,6 +206,7 @@ module _ (words : List Text) (before now : Seen) (net con : Text) (accepted : Is
         (length_answers s f net con (end.reads.long_con (subst (λ (x : Text). IsLong before x) (sym (is_con n c rest files)) long))));
     long_run = λ n c r _ files long. cc;
     replayed = λ n c r _ _ _ files _ _. cc;
+    audited = λ n c _ _ _ _ is. absurd (refused_audit before now s f end.reads.ended is);
   }
 
   one_answer : (ended : Result Answer Ending) (a : Answer) → IsEndOfAudit net con before now ended

@@ -7,3 +7,4 @@ pub mod Answered
 pub mod Finished
 pub mod Replayed
 pub mod Replays
+pub mod Audits

@@ -1,5 +1,5 @@
 -- What a replay answers, once it came to its end.
-use Rattle.std.proofs.Common.{◌≡◌, ◌∙◌, ap, sym, subst, inl, inr, ◌⊎◌, ◌∷◌, [], List, Option, Some, Ok, Err, refl, Result}
+use Rattle.std.proofs.Common.{◌≡◌, ◌∙◌, ap, sym, subst, inl, inr, ◌⊎◌, ◌∷◌, [], List, Ok, Err, refl, Result}
 use Rattle.std.specs.Prelude.{IfOk, IfErr, IfSome, MatchResult}
 use Rattle.cdc_base.specs.declared.fault.Fault.{Fault}
 use Rattle.cdc_base.specs.declared.list.NoMemory.{NoMemory}
@@ -13,7 +13,7 @@ use Rattle.audit_top.specs.declared.status.Status.TheVariants as status
 use Rattle.audit_top.specs.Runs.{Seen, Text, IsAnswer, IsLong, IsRefusedBy, IsRefusedForLength, IsOfStatus, IsReplayed, IsText, fault_at}
 use Rattle.audit_top.specs.Endings.{IsAnswerTo, IsEnding, IsEndOfReplay, IsLengthEnding, IsOfFiles, IsOfLength, IsReadOfThree, IsReplayEnd}
 use Rattle.audit_top.specs.Replays.{IsReplayOfTexts, IsReplayUnder}
-use Rattle.audit_top.proofs.Answered.{refused_fits, line_tells, listed_ending, length_answer, length_answers}
+use Rattle.audit_top.proofs.Answered.{refused_fits, line_tells, listed_ending, length_answer, length_answers, told_is}
 
 texts_ended : (before now : Seen) (r : Result Answer Ending) → MatchResult r (λ a. a.status ≡ status.Done) IsOfFiles → IfErr r (IsEnding before now)
 texts_ended before now (Ok own) h = tt
@@ -23,10 +23,6 @@ texts_ended before now (Err (Refused s f)) h = listed_ending before now s f h
 texts_done : (r : Result Answer Ending) → MatchResult r (λ a. a.status ≡ status.Done) IsOfFiles → IfOk r (λ a. a.status ≡ status.Done)
 texts_done (Ok own) h = h
 texts_done (Err e) h = tt
-
--- where a file is told, its bytes are what was read
-told_is : (held : Option Text) (bytes all : Text) → IfSome held (λ told. bytes ≡ told) → held ≡ Some all → bytes ≡ all
-told_is held bytes all told is = subst (λ (o : Option Text). IfSome o (λ t. bytes ≡ t)) is told
 
 texts_exact : (name con run : Text) (r : Result Answer Ending) → IsReplayOfTexts con run r → IsReplayEnd name con run r
 texts_exact name con run (Ok own) h = h
@@ -114,6 +110,7 @@ module _ (words : List Text) (before now : Seen) (net con run : Text) (accepted 
     long_run = λ n c r _ files long. absurd (end.reads.long_run (subst (λ (x : Text). IsLong before x) (sym (is_run n c r files)) long));
     replayed = λ n c r con_bytes run_bytes _ files con_is run_is. subst (λ (s : Status). IsReplayed r con_bytes run_bytes s own.text) (sym end.replayed)
         (end.exact con_bytes run_bytes (ap before.held (is_con n c (r ∷ []) files) ∙ con_is) (ap before.held (is_run n c r files) ∙ run_is));
+    audited = λ n c _ _ files _ _. cc;
   }
 
   line_answer : (s : Status) (f : Fault) → IsEndOfReplay net con run before now (Err (Refused s f)) → IsAnswer words before now s (line_of f)
@@ -136,6 +133,7 @@ module _ (words : List Text) (before now : Seen) (net con run : Text) (accepted 
     replayed = λ n c r con_bytes run_bytes _ files con_is run_is. subst (λ (x : Text). IsReplayed x con_bytes run_bytes s (line_of f)) (is_run n c r files)
         (line_replayed before now run con_bytes run_bytes s f end.reads.ended
         (end.exact con_bytes run_bytes (ap before.held (is_con n c (r ∷ []) files) ∙ con_is) (ap before.held (is_run n c r files) ∙ run_is)));
+    audited = λ n c _ _ files _ _. cc;
   }
 
   one_answer : (ended : Result Answer Ending) (a : Answer) → IsEndOfReplay net con run before now ended

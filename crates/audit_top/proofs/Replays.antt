@@ -9,6 +9,7 @@ use Rattle.cdc_base.specs.declared.fault.Stop.TheVariants as stop
 use Rattle.cdc_base.specs.declared.signal.Signal.{Signal}
 use Rattle.cell_graph.specs.declared.net.Net.{Net}
 use Rattle.cell_graph.specs.declared.net.Reg.{Reg}
+use Rattle.cell_graph.specs.Shared.{IsShared}
 use Rattle.clock_constraints.specs.declared.Constraints.{Constraints}
 use Rattle.clock_constraints.specs.Files.{IsMeaning as IsMeaningOfConstraints}
 use Rattle.clock_constraints.specs.Fit.{AreFit}
@@ -108,10 +109,10 @@ has_starts net domains started = record {
     first_false false b c e = refl
     first_false true b c e = cc
 
-pub is_design : (c : Constraints) (net : Net) (domains : Domains) → IsNet net → HasNextCells net → AreStarted net.graph.signals
+pub is_design : (c : Constraints) (net : Net) (domains : Domains) → IsNet net → HasNextCells net → IsShared net.graph → AreStarted net.graph.signals
     → AreDomains plain.ghosts.reads net c domains → Fit net domains → (length net.graph.signals ≤ 2 ^ 32) × (length domains.clocks ≤ 2 ^ 32)
     → IsDesign c net domains
-is_design c net domains is next started assigned fit numbers = record {
+is_design c net domains is next shared started assigned fit numbers = record {
   assigned = assigned;
   can = record {
     is_net = is;
@@ -120,6 +121,7 @@ is_design c net domains is next started assigned fit numbers = record {
     read = record { signals = numbers.0; clocks = numbers.1; statics = fit.ascending };
     starts = has_starts net domains started;
   };
+  can_audit = record { is_net = is; has_next = next; fits = fit; is_shared = shared; narrow = record { known = started.known; start = started.start } };
 }
 
 -- ---- the answer

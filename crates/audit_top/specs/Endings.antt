@@ -8,7 +8,8 @@ use Rattle.audit_top.specs.declared.answer.Answer.{Answer}
 use Rattle.audit_top.specs.declared.answer.Ending.{Ending}
 use Rattle.audit_top.specs.declared.answer.Ending.TheVariants.{Refused, Memory}
 use Rattle.audit_top.specs.declared.status.Status.{Status}
-use Rattle.audit_top.specs.declared.status.Status.TheVariants.{Done, Violations, Usage, Netlist, Constraints, Record, ReadFault, Waived}
+use Rattle.audit_top.specs.declared.status.Status.TheVariants.{Done, Usage, Netlist, Constraints, Record, ReadFault}
+use Rattle.audit_top.specs.Audits.{IsAudited, IsAuditUnder}
 use Rattle.audit_top.specs.Replays.{IsReplayUnder}
 use Rattle.audit_top.specs.Runs.{Seen, Text, AskedFor, AskedInOrder, IsLong, IsRefusedBy, fault_at, max_bytes, numbers_of, usage_line}
 
@@ -21,13 +22,6 @@ IsRefusal status fault (Refused s f) = (s ≡ status) × (f ≡ fault)
 abbrev pub IsEnding : Seen → Seen → Ending → Type 0
 IsEnding before now Memory = Unit {0}
 IsEnding before now (Refused status fault) = IsRefusedBy before now status fault
-
--- the statuses of an audit that came to its end
-abbrev pub IsAudited : Status → Type 0
-IsAudited Done = Unit {0}
-IsAudited Violations = Unit {0}
-IsAudited Waived = Unit {0}
-IsAudited _ = ⊥
 
 -- why bytes that were read have no answer: want of memory, or a refusal by a rule that goes with its status
 abbrev pub IsOfFiles : Ending → Type 0
@@ -77,6 +71,7 @@ pub record IsReadOfBoth {T : Type 0} (net con : Text) (before now : Seen) (resul
 pub record IsEndOfAudit (net con : Text) (before now : Seen) (result : Result Answer Ending) : Type 0 where
   pub reads : IsReadOfBoth net con before now result
   pub audited : IfOk result (λ answer. IsAudited answer.status)
+  pub exact : (con_bytes : Text) → before.held con ≡ Some con_bytes → IfOk result (λ answer. IsAuditUnder con_bytes answer.status)
 
 -- a read that ended refuses the record as too long alone
 abbrev pub IsOfLength : Text → Ending → Type 0

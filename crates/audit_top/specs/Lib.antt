@@ -2,3 +2,4 @@ pub mod Runs
 pub mod Statuses
 pub mod Endings
 pub mod Replays
+pub mod Audits

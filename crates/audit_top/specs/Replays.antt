@@ -13,6 +13,7 @@ use Rattle.domains.specs.Fit.{Fit}
 use Rattle.domains.specs.Nets.{IsNet}
 use Rattle.cdc_model.specs.declared.record.Record.{Record as RunRecord}
 use Rattle.cdc_model.specs.Nets.{HasNextCells}
+use Rattle.obligations.specs.Judged.{CanAudit}
 use Rattle.settling_sim.specs.Starts.{HasStarts}
 use Rattle.run_file.specs.Files.{IsBroken, IsMeaning}
 use Rattle.run_file.specs.Names.{CanRead}
@@ -53,10 +54,11 @@ IsReplayOf net domains bytes (Err (Refused status fault)) =
     (status ≡ Record) × (IsBroken net domains bytes fault ⊎ IsRunOf net domains bytes (Err (stop.Refused fault)))
 IsReplayOf net domains bytes (Err Memory) = Unit {0}
 
--- a net and its domains under constraints
+-- a net and its domains under constraints, which can be replayed and audited
 pub record IsDesign (c : Constraints) (net : Net) (domains : Domains) : Type 0 where
   pub assigned : AreDomains plain.ghosts.reads net c domains
   pub can : CanReplay net domains
+  pub can_audit : CanAudit net domains
 
 -- the answer is that to a record's bytes over some design under the constraints that a constraint file's bytes mean
 pub record IsReplayUnder (con run : List ℕ) (answer : Result (List ℕ) Ending) : Type 0 where

@@ -2,12 +2,15 @@
 ghost use Rattle.std.specs.Prelude.{◌≡◌, ◌≤◌, ◌^◌, length, is_some, MatchResult, IfOk, IfErr, OnOk};
 ghost use Rattle.std.specs.List.{list_all};
 ghost use Rattle.cell_graph.specs.Nets.{HasNextCells, IsNet};
+ghost use Rattle.cell_graph.specs.Shared.{IsShared};
 ghost use Rattle.clock_constraints.specs.Fit.{AreFit};
 ghost use Rattle.elaborate.specs.Words.{AreStarted};
+ghost use Rattle.obligations.specs.Judged.{CanAudit};
 ghost use Rattle.audit_top.specs.Runs.{Seen, max_bytes};
 ghost use Rattle.audit_top.specs.Statuses.{audited_status};
 ghost use Rattle.audit_top.specs.Replays.{IsDesign};
-ghost use Rattle.audit_top.specs.Endings.{IsAudited, IsOfDesign, IsOfFiles, IsEndOfAudit};
+ghost use Rattle.audit_top.specs.Audits.{IsAudited, IsAuditUnder, IsVerdictOn};
+ghost use Rattle.audit_top.specs.Endings.{IsOfDesign, IsOfFiles, IsEndOfAudit};
 
 use crate::answer::{Answer, Ending, or_refused};
 use crate::input::read_both;
@@ -41,6 +44,7 @@ fn elaborated(alloc: Global, source: &Source, constraints: &Constraints) -> Resu
     ensures is_net { IfOk result IsNet }
     ensures next_cells { IfOk result HasNextCells }
     ensures started { IfOk result (λ net. AreStarted net.graph.signals) }
+    ensures shared { IfOk result (λ net. IsShared net.graph) }
 {
     let resets = constraints.resets.as_slice();
     let flat = flat_design::flatten(alloc, source, &constraints.top, resets);
@@ -75,6 +79,14 @@ pub(crate) fn constrained(
     let domains = or_refused(Status::Constraints, domains)?;
     check_numbers(&net, &domains)?;
     Ok((net, domains))
+}
+
+/// The verdict on a design.
+fn verdict_on(alloc: Global, net: &Net, domains: &Domains) -> Result<Verdict, Ending>
+    ensures of_files { IfErr result IsOfFiles }
+    ensures exact { CanAudit net.now domains.now → IfOk result (IsVerdictOn net.now domains.now) }
+{
+    or_refused(Status::Netlist, obligations::audit(alloc, net, domains))
 }
 
 /// Whether a waiver sets each finding aside.
@@ -124,13 +136,14 @@ fn verdict_text(
 /// the unfolding, of the cells, of the clocks, of the crossings, of the waivers.
 fn audit_texts(alloc: Global, json: bool, net: &[u8], con: &[u8]) -> Result<Answer, Ending>
     requires { length net.now ≤ max_bytes }
-    ensures { MatchResult result (λ answer. IsAudited answer.status) IsOfFiles }
+    ensures exact { IfOk result (λ answer. IsAuditUnder con.now answer.status) }
+    ensures ended { MatchResult result (λ answer. IsAudited answer.status) IsOfFiles }
 {
     let source = read_source(alloc, net)?;
     let constraints = or_refused(Status::Constraints, clock_constraints::read(alloc, con))?;
     let (net, domains) = constrained(alloc, &source, &constraints)?;
     let waivers = constraints.waivers.as_slice();
-    let verdict = or_refused(Status::Netlist, obligations::audit(alloc, &net, &domains))?;
+    let verdict = verdict_on(alloc, &net, &domains)?;
     let aside = report::set_aside(alloc, &net, &domains, &verdict, waivers);
     let aside = or_refused(Status::Constraints, aside)?;
     let text = verdict_text(

@@ -1,7 +1,8 @@
 //! The audit of the generated design.
 ghost use Rattle.std.specs.Prelude.{◌≤◌, length, MatchResult, IfOk, IfErr};
 ghost use Rattle.audit_top.specs.Runs.{max_bytes};
-ghost use Rattle.audit_top.specs.Endings.{IsAudited, IsOfFiles};
+ghost use Rattle.audit_top.specs.Audits.{IsAudited};
+ghost use Rattle.audit_top.specs.Endings.{IsOfFiles};
 
 use crate::answer::{Answer, Ending, or_refused};
 use crate::audit::{constrained, read_source};

@@ -24,4 +24,4 @@ returns-clause-design c = λ fits.
     let is = c.in_ok-net.ensures.is_net in
     let assigned = given_holds (AreDomains plain.ghosts.reads net c.args.constraints.now) _ (Ok c.in_ok-domains.domains) c.in_ok-domains.ensures.given (c.assign-domains.ensures.domains is) in
     let fit = given_holds (Fit net) _ (Ok c.in_ok-domains.domains) c.in_ok-domains.ensures.given (c.assign-domains.ensures.fit is fits) in
-    is_design _ _ _ is c.in_ok-net.ensures.next_cells c.in_ok-net.ensures.started assigned fit c.in_ok-check_numbers.ensures
+    is_design _ _ _ is c.in_ok-net.ensures.next_cells c.in_ok-net.ensures.shared c.in_ok-net.ensures.started assigned fit c.in_ok-check_numbers.ensures

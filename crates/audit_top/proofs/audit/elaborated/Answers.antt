@@ -1,6 +1,7 @@
 use Rattle.std.proofs.Common.{◌≡◌, inl, refl, rules}
 use Rattle.std.specs.Prelude.{IfErr}
 use Rattle.cell_graph.specs.Nets.{HasNextCells, IsNet}
+use Rattle.cell_graph.specs.Shared.{IsShared}
 use Rattle.elaborate.specs.Words.{AreStarted}
 use Rattle.refusals.specs.Numbers.{unfolding_numbers, elaboration_numbers}
 use Rattle.audit_top.specs.Endings.{IsOfDesign, IsOfFiles}
@@ -31,3 +32,6 @@ returns-clause-next_cells c = given_holds HasNextCells _ _ c.or_refused-2.ensure
 
 pub returns-clause-started : goal.returns-clause-started
 returns-clause-started c = given_holds (λ net. AreStarted net.graph.signals) _ _ c.or_refused-2.ensures.given c.elaborate.ensures.started
+
+pub returns-clause-shared : goal.returns-clause-shared
+returns-clause-shared c = given_holds (λ net. IsShared net.graph) _ _ c.or_refused-2.ensures.given c.elaborate.ensures.shared
