@@ -1,0 +1,5 @@
+pub mod Members
+pub mod Trees
+pub mod Links
+pub mod Pieces
+pub mod Loops
