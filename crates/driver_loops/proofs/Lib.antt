@@ -1,3 +1,4 @@
+pub mod Components
 pub mod Fronts
 pub mod Loops
 pub mod Meets
