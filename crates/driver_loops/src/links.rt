@@ -45,7 +45,9 @@ impl Links {
     }
 
     /// The links of a design's trees.
-    pub fn of(alloc: Global, signals: &[Signal], sketch: &Sketch) -> Result<Links, NoMemory> {
+    pub fn of(alloc: Global, signals: &[Signal], sketch: &Sketch) -> Result<Links, NoMemory>
+        ensures { IfOk result (λ links. AreOrdered sketch.now.pieces.items → links ≡ links_of signals.now sketch.now.drafts sketch.now.pieces.items) }
+    {
         let drafts = sketch.drafts.as_slice();
         Links::of_trees(alloc, signals, drafts, sketch.pieces.as_slice())
     }
@@ -251,7 +253,7 @@ pub fn first_piece(pieces: &[Piece], sig: u32) -> usize
 }
 
 /// The place behind the signal's last piece.
-fn past_pieces(pieces: &[Piece], sig: u32) -> usize
+pub fn past_pieces(pieces: &[Piece], sig: u32) -> usize
     ensures bound { result ≤ length pieces.now }
     ensures exact { AreOrdered pieces.now → IsPartitionPoint (λ (p : PieceOf). p.sig ≤ sig) (λ (p : PieceOf). sig < p.sig) pieces.now result }
 {

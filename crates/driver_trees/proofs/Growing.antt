@@ -43,12 +43,12 @@ same-longer ds = ([], sym (append-nil ds))
 pub still-longer : (a b c : List Draft) → IsLonger a b → IsLonger b c → IsLonger a c
 still-longer a b c h k = (h.0 ++ k.0, k.1 ∙ ap (λ xs. xs ++ k.0) h.1 ∙ append_assoc a h.0 k.0)
 
-longer-length : (a b : List Draft) → IsLonger a b → length a ≤ length b
+pub longer-length : (a b : List Draft) → IsLonger a b → length a ≤ length b
 longer-length a b h = let l = ap length h.1 in let m = length-append a h.0 in omega arith
 
 -- ---- what was there
 
-width-kept : (old new : List Draft) → IsLonger old new → (id : CellId) → id.0 < length old → width_at new id ≡ width_at old id
+pub width-kept : (old new : List Draft) → IsLonger old new → (id : CellId) → id.0 < length old → width_at new id ≡ width_at old id
 width-kept old new h id l = ap (λ ds. width_at ds id) h.1 ∙ ap (λ o. option_map_or (λ (d : Draft). d.width) o 1) (get-append old h.0 id.0 l)
 
 pub place-kept : (old new : List Draft) (id : CellId) (w : ℕ) → IsLonger old new → IsDraftOf old id w → IsDraftOf new id w
@@ -210,6 +210,10 @@ still-grows wid a b c h k = record { longer = still-longer a b c h.longer k.long
 pub built-as : {wid : ℕ → ℕ} {a b : List Draft} {id : CellId} {w : ℕ} {t : Selects → Tree} (u : Selects → Tree) → IsBuilt wid a b id w t → ((sel : Selects) → t sel ≡ u sel) → IsBuilt wid a b id w u
 built-as u is h = record { grows = is.grows; place = is.place; tree = λ sel. is.tree sel ∙ h sel }
 
+-- drafts that had grown before
+pub built-after : {wid : ℕ → ℕ} {a b c : List Draft} {id : CellId} {w : ℕ} {t : Selects → Tree} → Grows wid a b → IsBuilt wid b c id w t → IsBuilt wid a c id w t
+built-after {wid} {a} {b} {c} g is = record { grows = still-grows wid a b c g is.grows; place = is.place; tree = is.tree }
+
 -- a word made of the word before
 pub built-of : {wid : ℕ → ℕ} {a b c : List Draft} {i j : CellId} {v w : ℕ} {t : Selects → Tree} (f : Tree → Tree)
     → IsBuilt wid a b i w t → IsBuilt wid b c j v (λ sel. f (tree_in sel b i)) → IsBuilt wid a c j v (λ sel. f (t sel))
@@ -231,3 +235,13 @@ built-of_two {wid} {a} {b} {c} {d} f h k m = record {
 -- two words of some bits side by side
 pub glue-both : (m n : ℕ) (t u : Tree) → 1 ≤ m → 1 ≤ n → tree.Concat t u ≡ glue m t n u
 glue-both m n t u h k = sym (ap (λ b. cond b t (cond (m == 0) u (tree.Concat t u))) (ne_eqb n 0 (λ e. absurd (omega arith))) ∙ ap (λ b. cond b u (tree.Concat t u)) (ne_eqb m 0 (λ e. absurd (omega arith))))
+
+-- a word made of three words before
+pub built-of_three : {wid : ℕ → ℕ} {a b c d g : List Draft} {i j k l : CellId} {v w z s : ℕ} {t u r : Selects → Tree} (f : Tree → Tree → Tree → Tree)
+    → IsBuilt wid a b i v t → IsBuilt wid b c j w u → IsBuilt wid c d k z r → IsBuilt wid d g l s (λ sel. f (tree_in sel d i) (tree_in sel d j) (tree_in sel d k)) → IsBuilt wid a g l s (λ sel. f (t sel) (u sel) (r sel))
+built-of_three {wid} {a} {b} {c} {d} {g} {i} {j} {k} {l} {v} {w} {z} {s} {t} {u} {r} f x y q m = record {
+  grows = still-grows wid a b g x.grows (still-grows wid b d g (still-grows wid b c d y.grows q.grows) m.grows);
+  place = m.place;
+  tree = λ sel. m.tree sel ∙ ap (λ p. f p (tree_in sel d j) (tree_in sel d k)) (tree-later d sel x (still-longer b c d y.grows.longer q.grows.longer))
+      ∙ ap₂ (f (t sel)) (tree-later d sel y q.grows.longer) (q.tree sel);
+}

@@ -17,17 +17,17 @@ pub onto-nothing : (sel : Selects) (ds : List Draft) (ids : List CellId) → joi
 onto-nothing sel ds [] = refl
 onto-nothing sel ds (id ∷ ids) = ap₂ (glue (width_at ds id) (tree_in sel ds id)) (let e : joined_bits ds ids ≡ joined_bits ds ids + 0 = omega arith in e) (onto-nothing sel ds ids)
 
-bits-push : (ds : List Draft) (ids : List CellId) (id : CellId) → joined_bits ds (ids ++ id ∷ []) ≡ joined_bits ds ids + width_at ds id
+pub bits-push : (ds : List Draft) (ids : List CellId) (id : CellId) → joined_bits ds (ids ++ id ∷ []) ≡ joined_bits ds ids + width_at ds id
 bits-push ds [] id = omega arith
 bits-push ds (i ∷ ids) id = let e = bits-push ds ids id in omega arith
 
-onto-push : (sel : Selects) (ds : List Draft) (ids : List CellId) (id : CellId) (n : ℕ) (low : Tree)
+pub onto-push : (sel : Selects) (ds : List Draft) (ids : List CellId) (id : CellId) (n : ℕ) (low : Tree)
     → joined_onto sel ds (ids ++ id ∷ []) n low ≡ joined_onto sel ds ids (width_at ds id + n) (glue (width_at ds id) (tree_in sel ds id) n low)
 onto-push sel ds [] id n low = ap (λ k. glue (width_at ds id) (tree_in sel ds id) k low) (zero-add n)
 onto-push sel ds (i ∷ ids) id n low =
     ap₂ (glue (width_at ds i) (tree_in sel ds i)) (let b = bits-push ds ids id in let e : joined_bits ds (ids ++ id ∷ []) + n ≡ joined_bits ds ids + (width_at ds id + n) = omega arith in e) (onto-push sel ds ids id n low)
 
-in-push : (ds : List Draft) (ids : List CellId) (id : CellId) → AreIn ds (ids ++ id ∷ []) → AreIn ds ids × (id.0 < length ds)
+pub in-push : (ds : List Draft) (ids : List CellId) (id : CellId) → AreIn ds (ids ++ id ∷ []) → AreIn ds ids × (id.0 < length ds)
 in-push ds [] id is = (tt, is.0)
 in-push ds (i ∷ ids) id is = let r = in-push ds ids id is.1 in ((is.0, r.0), r.1)
 
@@ -68,7 +68,7 @@ one-joined wid old ds new words left front id out whole so_far e b = record {
   tree = λ sel. so_far.tree sel ∙ ap (λ ids. joined_onto sel old ids (optional_bits ds whole) (optional_tree sel ds whole)) e
       ∙ onto-push sel old front id (optional_bits ds whole) (optional_tree sel ds whole)
       ∙ ap₂ (joined_onto sel old front) (sym b.place.1)
-          (ap (λ t. glue (width_at old id) t (optional_bits ds whole) (optional_tree sel ds whole)) (sym (tree-kept sel old ds so_far.grows.longer id parts.1)) ∙ sym (b.tree sel));
+      (ap (λ t. glue (width_at old id) t (optional_bits ds whole) (optional_tree sel ds whole)) (sym (tree-kept sel old ds so_far.grows.longer id parts.1)) ∙ sym (b.tree sel));
 }
   where
     parts : AreIn old front × (id.0 < length old)

@@ -1,11 +1,16 @@
+pub mod Around
+pub mod Copies
+pub mod Forms
 pub mod Growing
 pub mod Joining
 pub mod Maps
 pub mod Merges
+pub mod Operators
+pub mod Parts
 pub mod PartsOfWords
 pub mod Processes
 pub mod Seen
 pub mod Shares
 pub mod Stays
-pub mod Statements
 pub mod Steps
+pub mod Walked

@@ -25,8 +25,11 @@ module _ (wid : ℕ → ℕ) (ds es : List Draft) (o : Option CellId) (k : ℕ) 
       let place = subst (IsOptionalDraft es) e h.place in
       let bits : width_at es id ≡ k = sym (ap (optional_bits es) e) ∙ h.bits in
       let some = some-bits wid es id (width_at es id) h.grows.drafts place in
-      record { grows = h.grows; place = (place.0, bits);
-        tree = λ sel. sym (ap (optional_tree sel es) e) ∙ h.tree sel ∙ ap (λ b. cond b (Const 0 0) (t sel)) (ne_eqb k 0 (λ z. absurd (omega (arith, z, some, bits)))) }
+      record {
+        grows = h.grows;
+        place = (place.0, bits);
+        tree = λ sel. sym (ap (optional_tree sel es) e) ∙ h.tree sel ∙ ap (λ b. cond b (Const 0 0) (t sel)) (ne_eqb k 0 (λ z. absurd (omega (arith, z, some, bits))));
+      }
 
   pub part_none : o ≡ None → k ≡ 0
   part_none e = sym h.bits ∙ ap (optional_bits es) e

@@ -24,8 +24,12 @@ module _ (wid : ℕ → ℕ) (ds : List Draft) (p : Present) (target : ℕ → B
   seen sel s at w true (Some id) e f = ap (λ b. cond b (cut (wid s) at w (ts sel s)) (sel s at w)) (sym e) ∙ ap (cut (wid s) at w) (sym (f id refl))
 
   pub process_sees : Sees wid ds p (λ sel. look_of wid p.blocking target sel (ts sel))
-  process_sees = record { words = h.words; widths = h.widths; trees = λ s id e. (h.trees s id e).place;
-    looks = λ sel s at w l. seen sel s at w p.blocking (present_of p s) (h.targets s) (λ id e. (h.trees s id e).tree sel) ∙ last sel s at w p.blocking }
+  process_sees = record {
+    words = h.words;
+    widths = h.widths;
+    trees = λ s id e. (h.trees s id e).place;
+    looks = λ sel s at w l. seen sel s at w p.blocking (present_of p s) (h.targets s) (λ id e. (h.trees s id e).tree sel) ∙ last sel s at w p.blocking;
+  }
     where
       last : (sel : Selects) (s at w : ℕ) (b : Bool) → cond b (λ t at w. cond (is_some (present_of p s)) (cut (wid s) at w (option_map_or (tree_in sel ds) (present_of p s) (Const 0 0))) (sel s at w)) sel s at w
           ≡ cond b (present wid sel (is_target p) (trees_of sel ds p)) sel s at w
@@ -36,8 +40,13 @@ module _ (wid : ℕ → ℕ) (ds : List Draft) (p : Present) (target : ℕ → B
 module _ (wid : ℕ → ℕ) (ds es : List Draft) (g : Grows wid ds es) (p q : Present) (target : ℕ → Bool) (ts us : Selects → Trees) where
   pub assigned_process : (k : ℕ) (id : CellId) → IsProcess wid ds p target ts → Assigns p q (λ x. x == k) → ((x : ℕ) → present_of q x ≡ cond (x == k) (Some id) (present_of p x))
       → IsWordOf wid es id k us → ((sel : Selects) (x : ℕ) → (x == k) ≡ false → us sel x ≡ ts sel x) → IsProcess wid es q target us
-  assigned_process k id h a e word same = record { words = h.words; drafts = g.drafts; widths = λ s. ap (λ ws. unwrap_or (slice_get ws s) 0) a.widths ∙ h.widths s; targets = λ s. a.targets s ∙ h.targets s;
-    trees = λ x i f. go x i (x == k) refl (sym (e x) ∙ f) }
+  assigned_process k id h a e word same = record {
+    words = h.words;
+    drafts = g.drafts;
+    widths = λ s. ap (λ ws. unwrap_or (slice_get ws s) 0) a.widths ∙ h.widths s;
+    targets = λ s. a.targets s ∙ h.targets s;
+    trees = λ x i f. go x i (x == k) refl (sym (e x) ∙ f);
+  }
     where
       go : (x : ℕ) (i : CellId) (b : Bool) → (x == k) ≡ b → cond b (Some id) (present_of p x) ≡ Some i → IsWordOf wid es i x us
       go x i true c f = subst (λ j. IsWordOf wid es j x us) (same_Some id i f) (subst (λ y. IsWordOf wid es id y us) (sym (eqb-true x k c)) word)

@@ -124,8 +124,10 @@ module _ (wid : ℕ → ℕ) (ds : List Draft) where
 
   pub puts_last : (ps qs : List Put) (ss : Selects → List Share) (p : Put) (s : Selects → Share) → ArePuts wid ds ps ss → IsPut wid ds p → ((sel : Selects) → put_share sel ds p ≡ s sel) → qs ≡ ps ++ p ∷ []
       → ArePuts wid ds qs (λ sel. ss sel ++ s sel ∷ [])
-  puts_last ps qs ss p s h k f e = record { fit = subst (λ xs. All (IsPut wid ds) xs) (sym e) (All-push (IsPut wid ds) ps p h.fit k);
-    are = λ sel. ap (map (put_share sel ds)) e ∙ map_last (put_share sel ds) ps p ∙ ap₂ (λ ss s. ss ++ s ∷ []) (h.are sel) (f sel) }
+  puts_last ps qs ss p s h k f e = record {
+    fit = subst (λ xs. All (IsPut wid ds) xs) (sym e) (All-push (IsPut wid ds) ps p h.fit k);
+    are = λ sel. ap (map (put_share sel ds)) e ∙ map_last (put_share sel ds) ps p ∙ ap₂ (λ ss s. ss ++ s ∷ []) (h.are sel) (f sel);
+  }
 
 -- the parts of a target that is placed
 module _ (wid : ℕ → ℕ) (t : FTarget) (h : IsPlaced wid t) where

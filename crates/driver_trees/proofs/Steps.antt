@@ -31,10 +31,10 @@ assigns_more p q r a b h k = record {
   log = k.log ∙ ap (λ l. l ++ k.entries) h.log ∙ append_assoc p.log.items h.entries k.entries;
   logged = λ x. ap is_some (first_more h.entries k.entries x) ∙ some_either (first_of h.entries x) (first_of k.entries x) ∙ ap₂ (λ u v. u || v) (h.logged x) (k.logged x);
   back = λ x. h.back x ∙ ap (option_or (first_of h.entries x)) (k.back x) ∙ sym (either_more (first_of h.entries x) (first_of k.entries x) (present_of r x))
-    ∙ ap (λ o. option_or o (present_of r x)) (sym (first_more h.entries k.entries x));
+      ∙ ap (λ o. option_or o (present_of r x)) (sym (first_more h.entries k.entries x));
   targets = λ x. k.targets x ∙ h.targets x;
   widths = k.widths ∙ h.widths;
-  blocking = k.blocking ∙ h.blocking
+  blocking = k.blocking ∙ h.blocking;
 }
 
 pub assigns_same : (p q : Present) (a b : ℕ → Bool) → Assigns p q a → ((x : ℕ) → a x ≡ b x) → Assigns p q b

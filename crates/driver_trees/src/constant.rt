@@ -1,8 +1,8 @@
 //! Values of expressions without signals, and cases that they make full.
-use crate::expr::{operand_width, operand_widths, own_width};
 use crate::mask::mask;
 use crate::memory::push;
 use cdc_base::NoMemory;
+use flat_form::size::{left_size, operand_size, right_size, width_of};
 use flat_form::{FCaseItem, FExpr};
 use std::alloc::Global;
 use verilog_ast::{BinaryOp, UnaryOp};
@@ -14,14 +14,14 @@ pub fn constant(e: &FExpr, width: u8) -> Option<u64> {
         FExpr::Number { value, .. } => Some(*value),
         FExpr::Read { .. } | FExpr::At { .. } | FExpr::Gate { .. } => None,
         FExpr::Unary { op, a, .. } => {
-            let own = own_width(a);
-            let value = constant(a, operand_width(*op, width, own))?;
+            let own = width_of(a);
+            let value = constant(a, operand_size(*op, width, own))?;
             Some(unary(*op, value, own, width))
         }
         FExpr::Binary { op, a, b, .. } => {
-            let (left, right) = operand_widths(*op, width, own_width(a), own_width(b));
-            let x = constant(a, left)?;
-            let y = constant(b, right)?;
+            let (m, n) = (width_of(a), width_of(b));
+            let x = constant(a, left_size(*op, width, m, n))?;
+            let y = constant(b, right_size(*op, width, m, n))?;
             Some(binary(*op, x, y) & mask(width))
         }
         FExpr::Choose {
@@ -30,7 +30,7 @@ pub fn constant(e: &FExpr, width: u8) -> Option<u64> {
             other,
             ..
         } => {
-            let cond = constant(cond, own_width(cond))?;
+            let cond = constant(cond, width_of(cond))?;
             let yes = constant(yes, width)?;
             let other = constant(other, width)?;
             Some(if cond != 0 { yes } else { other })
@@ -49,7 +49,7 @@ fn join(parts: &[FExpr]) -> Option<(u64, u8)> {
     let mut word = 0u64;
     let mut size = 0u8;
     for part in parts {
-        let width = own_width(part);
+        let width = width_of(part);
         let value = constant(part, width)?;
         word = word.checked_shl(u32::from(width)).unwrap_or(0) | value;
         size = size.saturating_add(width);
@@ -110,10 +110,10 @@ fn shift(by: u64) -> Option<u32> {
 
 /// The size at which a case compares: the largest of its subject and its labels.
 pub fn case_width(subject: &FExpr, items: &[FCaseItem]) -> u8 {
-    let mut width = own_width(subject);
+    let mut width = width_of(subject);
     for item in items {
         for label in item.labels.as_slice() {
-            width = width.max(own_width(label));
+            width = width.max(width_of(label));
         }
     }
     width

@@ -185,7 +185,7 @@ impl Drafts {
     pub fn above(&mut self, high: CellId, low: Option<CellId>) -> Result<CellId, NoMemory>
         ensures built { (wid : ℕ → ℕ) (m : ℕ) → AreDrafts wid self.old → IsDraftOf self.old high m → IsOptionalDraft self.old low → m + optional_bits self.old low ≤ 64
             → IfOk result (λ id. IsBuilt wid self.old self.new id (m + optional_bits self.old low)
-                (λ sel. glue m (tree_in sel self.old high) (optional_bits self.old low) (optional_tree sel self.old low))) }
+            (λ sel. glue m (tree_in sel self.old high) (optional_bits self.old low) (optional_tree sel self.old low))) }
     {
         match low {
             Some(low) => self.add(Cell::Concat { high, low }),

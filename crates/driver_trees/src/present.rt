@@ -102,13 +102,7 @@ impl Present {
     }
 
     /// What a constant select or a whole read of the signal stands for.
-    pub fn read(
-        &self,
-        drafts: &mut Drafts,
-        sig: u32,
-        at: u8,
-        width: u8,
-    ) -> Result<CellId, NoMemory>
+    pub fn read(&self, drafts: &mut Drafts, sig: u32, at: u8, width: u8) -> Result<CellId, NoMemory>
         ensures built { (wid : ℕ → ℕ) (look : Selects → Selects) → AreDrafts wid drafts.old → Sees wid drafts.old self.now look → 1 ≤ width → at + width ≤ wid sig
             → IfOk result (λ id. IsBuilt wid drafts.old drafts.new id width (λ sel. look sel sig at width)) }
     {
@@ -218,7 +212,7 @@ impl Present {
             → IsProcess wid drafts.old self.now target before → IsCondition drafts.old cond t
             → IsBranch wid drafts.old self.now yes.now a ts → IsBranch wid drafts.old self.now other.now b us
             → IfOk result (λ m. Grows wid drafts.old drafts.new
-                × IsBranch wid drafts.new self.now m (λ x. a x || b x) (λ sel. merge (λ x. a x || b x) (t sel) (ts sel) (us sel) (before sel))) }
+            × IsBranch wid drafts.new self.now m (λ x. a x || b x) (λ sel. merge (λ x. a x || b x) (t sel) (ts sel) (us sel) (before sel))) }
     {
         let mut merged = BTreeMap::new(alloc);
         self.choose(drafts, cond, yes, other, yes, &mut merged)?;
@@ -242,7 +236,7 @@ impl Present {
             → ((x : ℕ) → is_some (get nat_cmp some.now x) ≡ true → is_target self.now x ≡ true)
             → AreChanges wid drafts.old merged.old p (chosen t ts us)
             → OnOk result (Grows wid drafts.old drafts.new
-                × AreChanges wid drafts.new merged.new (λ x. p x || is_some (get nat_cmp some.now x)) (chosen t ts us)) }
+            × AreChanges wid drafts.new merged.new (λ x. p x || is_some (get nat_cmp some.now x)) (chosen t ts us)) }
     {
         for (sig, _) in some {
             if !merged.contains_key(sig) {

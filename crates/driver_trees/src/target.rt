@@ -13,12 +13,13 @@ ghost use Rattle.driver_trees.specs.Changes.{Assigns, IsProcess};
 ghost use Rattle.driver_trees.specs.Shares.{Share, shares, all_shares, placed_tree, place_of, FitsPlace, IsPart, put_of, share_tree, share_trees, has_share, put_share, IsPut, ArePuts, IsPlaced};
 
 use crate::draft::Drafts;
-use crate::expr::{own_tree, own_width, tree};
+use crate::expr::{own_tree, tree};
 use crate::mask::mask;
 use crate::memory::push;
 use crate::present::Present;
 use cdc_base::NoMemory;
 use cell_graph::{Cell, CellId};
+use flat_form::size::width_of;
 use flat_form::{FExpr, FTarget};
 use std::alloc::Global;
 
@@ -67,10 +68,10 @@ pub fn puts(
 ) -> Result<Vec<Put>, NoMemory>
     ensures shares { (wid : ℕ → ℕ) (look : Selects → Selects) → AreDrafts wid drafts.old → Sees wid drafts.old present.now look → IsPlaced wid target.now → IsRead wid value.now
         → IfOk result (λ puts. Grows wid drafts.old drafts.new × ArePuts wid drafts.new puts.items
-            (λ sel. shares wid (look sel) (target_of target.now) (value_tree wid (look sel) (target_of target.now) (expr_of value.now)))) }
+        (λ sel. shares wid (look sel) (target_of target.now) (value_tree wid (look sel) (target_of target.now) (expr_of value.now)))) }
 {
     let width = target_width(present, target);
-    let whole = tree(alloc, drafts, present, value, width.max(own_width(value)))?;
+    let whole = tree(alloc, drafts, present, value, width.max(width_of(value)))?;
     let word = drafts.cut(whole, 0, width)?;
     let mut puts = Vec::new(alloc);
     split(alloc, drafts, present, target, word, &mut puts)?;
@@ -90,7 +91,7 @@ fn split(
     ensures shares { (wid : ℕ → ℕ) (look : Selects → Selects) (before : Selects → List Share) → AreDrafts wid drafts.old → Sees wid drafts.old present.now look → IsPlaced wid target.now
         → IsDraftOf drafts.old word (target_size wid (target_of target.now)) → ArePuts wid drafts.old puts.old.items before
         → OnOk result (Grows wid drafts.old drafts.new × ArePuts wid drafts.new puts.new.items
-            (λ sel. before sel ++ shares wid (look sel) (target_of target.now) (tree_in sel drafts.old word))) }
+        (λ sel. before sel ++ shares wid (look sel) (target_of target.now) (tree_in sel drafts.old word))) }
 {
     match target {
         FTarget::Whole { sig } => add_put(puts, *sig, Spot::Whole, word),
@@ -123,7 +124,7 @@ fn split_all(
         → all_right (map (target_kept wid) parts.now) ≡ true → FitTargets wid (λ d. IsWithin wid) done (targets_of (map target_of parts.now))
         → IsDraftOf drafts.old word (target_sizes wid (targets_of (map target_of parts.now))) → ArePuts wid drafts.old puts.old.items before
         → OnOk result (Grows wid drafts.old drafts.new × ArePuts wid drafts.new puts.new.items
-            (λ sel. before sel ++ all_shares wid (look sel) (targets_of (map target_of parts.now)) (tree_in sel drafts.old word))) }
+        (λ sel. before sel ++ all_shares wid (look sel) (targets_of (map target_of parts.now)) (tree_in sel drafts.old word))) }
 {
     let mut low = drafts.width(word);
     for part in parts {
@@ -146,15 +147,11 @@ fn add_put(puts: &mut Vec<Put>, sig: u32, spot: Spot, tree: CellId) -> Result<()
 }
 
 /// Gives the targets of the words their next trees.
-pub fn assign_all(
-    drafts: &mut Drafts,
-    present: &mut Present,
-    puts: &[Put],
-) -> Result<(), NoMemory>
+pub fn assign_all(drafts: &mut Drafts, present: &mut Present, puts: &[Put]) -> Result<(), NoMemory>
     ensures assigns { (wid : ℕ → ℕ) (target : ℕ → Bool) (ts : Selects → Trees) (ss : Selects → List Share) (sel₀ : Selects) → IsProcess wid drafts.old present.old target ts → ArePuts wid drafts.old puts.now ss
         → ((x : ℕ) → has_share (ss sel₀) x ≡ true → target x ≡ true)
         → OnOk result (Grows wid drafts.old drafts.new × Assigns present.old present.new (has_share (ss sel₀))
-            × IsProcess wid drafts.new present.new target (λ sel. share_trees wid (ss sel) (ts sel))) }
+        × IsProcess wid drafts.new present.new target (λ sel. share_trees wid (ss sel) (ts sel))) }
 {
     for put in puts {
         assign(drafts, present, *put)?;
@@ -166,7 +163,7 @@ pub fn assign_all(
 fn assign(drafts: &mut Drafts, present: &mut Present, put: Put) -> Result<(), NoMemory>
     ensures assigns { (wid : ℕ → ℕ) (target : ℕ → Bool) (ts : Selects → Trees) → IsProcess wid drafts.old present.old target ts → IsPut wid drafts.old put → target put.sig ≡ true
         → OnOk result (Grows wid drafts.old drafts.new × Assigns present.old present.new (λ x. x == put.sig)
-            × IsProcess wid drafts.new present.new target (λ sel. share_tree wid (put_share sel drafts.old put) (ts sel))) }
+        × IsProcess wid drafts.new present.new target (λ sel. share_tree wid (put_share sel drafts.old put) (ts sel))) }
 {
     if let Some(old) = present.tree(put.sig) {
         let next = placed(drafts, old, put.spot, put.tree)?;
@@ -176,12 +173,7 @@ fn assign(drafts: &mut Drafts, present: &mut Present, put: Put) -> Result<(), No
 }
 
 /// The old word with the new one at its place.
-fn placed(
-    drafts: &mut Drafts,
-    old: CellId,
-    spot: Spot,
-    word: CellId,
-) -> Result<CellId, NoMemory>
+fn placed(drafts: &mut Drafts, old: CellId, spot: Spot, word: CellId) -> Result<CellId, NoMemory>
     ensures built { (wid : ℕ → ℕ) (n w : ℕ) → AreDrafts wid drafts.old → IsDraftOf drafts.old old n → n ≤ 64 → IsDraftOf drafts.old word w → FitsPlace n drafts.old spot w
         → IfOk result (λ id. IsBuilt wid drafts.old drafts.new id n (λ sel. placed_tree n (place_of sel drafts.old spot) (tree_in sel drafts.old word) (tree_in sel drafts.old old))) }
 {
@@ -214,12 +206,7 @@ fn with_part(
 }
 
 /// Bits of the word, where there are some.
-fn part_of(
-    drafts: &mut Drafts,
-    word: CellId,
-    at: u8,
-    width: u8,
-) -> Result<Option<CellId>, NoMemory>
+fn part_of(drafts: &mut Drafts, word: CellId, at: u8, width: u8) -> Result<Option<CellId>, NoMemory>
     ensures part { (wid : ℕ → ℕ) (n : ℕ) → AreDrafts wid drafts.old → IsDraftOf drafts.old word n → at + width ≤ n
         → IfOk result (λ o. IsPart wid drafts.old drafts.new o width (λ sel. SliceTree (tree_in sel drafts.old word) at width)) }
 {
@@ -240,7 +227,7 @@ fn with_bit(
     ensures built { (wid : ℕ → ℕ) (n m : ℕ) → AreDrafts wid drafts.old → IsDraftOf drafts.old old n → 1 ≤ n → n ≤ 64 → IsDraftOf drafts.old index m → 1 ≤ m → m ≤ 64
         → IsDraftOf drafts.old bit 1
         → IfOk result (λ id. IsBuilt wid drafts.old drafts.new id n
-            (λ sel. picked (tree_in sel drafts.old index) m (tree_in sel drafts.old bit) (tree_in sel drafts.old old) n)) }
+        (λ sel. picked (tree_in sel drafts.old index) m (tree_in sel drafts.old bit) (tree_in sel drafts.old old) n)) }
 {
     let mut word = None;
     for at in 0..drafts.width(old) {
@@ -265,7 +252,7 @@ fn next_bit(
 ) -> Result<CellId, NoMemory>
     ensures built { (wid : ℕ → ℕ) (m : ℕ) → AreDrafts wid drafts.old → IsDraftOf drafts.old old 1 → IsDraftOf drafts.old index m → 1 ≤ m → m ≤ 64 → IsDraftOf drafts.old bit 1
         → IfOk result (λ id. IsBuilt wid drafts.old drafts.new id 1 (λ sel. cond (nat_lt at (2 ^ m))
-            (MuxTree (EqTree (tree_in sel drafts.old index) (ConstTree m at)) (tree_in sel drafts.old bit) (tree_in sel drafts.old old)) (tree_in sel drafts.old old))) }
+        (MuxTree (EqTree (tree_in sel drafts.old index) (ConstTree m at)) (tree_in sel drafts.old bit) (tree_in sel drafts.old old)) (tree_in sel drafts.old old))) }
 {
     let size = drafts.width(index);
     if u64::from(at) > mask(size) {

@@ -6,4 +6,3 @@ pub mod MaskBits
 pub mod Constants
 pub mod ConstantForms
 pub mod Labels
-pub mod WholeNumbers

@@ -22,28 +22,35 @@ use Rattle.driver_trees.proofs.Shares.{puts_grow, puts_same, puts_last, placed_a
 use Rattle.driver_trees.proofs.target.+split.Goals as goal
 
 pub split-returns-in_ok-index-in-At : goal.split-returns-in_ok-index-in-At
-split-returns-in_ok-index-in-At t c = record { shares = λ wid look before drafts sees placed word puts.
-  let ds = c.args.drafts.now in let es = c.own_tree.new.drafts in let sig = c.in-At.sig in let i = c.in_ok-index-in-At.index in let e = expr_of c.in-At.index in
-  let r = placed_at wid c.args.target.now placed sig c.in-At.index c.in-At.is in
-  let b = c.in_ok-index-in-At.ensures.built wid look drafts sees r.1 in
-  let is : target_of c.args.target.now ≡ _ = ap target_of c.in-At.is ∙ target_of-At sig c.in-At.index in
-  let k = place-kept ds es c.args.word 1 b.grows.longer (word.0, word.1 ∙ ap (target_size wid) is) in
-  let wide = sized_width c.in-At.index r.1.sized in let range = sized_range c.in-At.index r.1.sized in
-  let share : Selects → Share = λ sel. share_of sig (chosen (tree wid (look sel) e (size e)) (size e)) (tree_in sel ds c.args.word) in
-  ok-map c.add_put-in-At.result (λ u h. (b.grows, puts_same wid es c.add_put-in-At.new.puts.items (λ sel. before sel ++ share sel ∷ []) _
-    (puts_last wid es c.args.puts.now.items c.add_put-in-At.new.puts.items before (put_of sig (spot.Chosen i) c.args.word) share (puts_grow wid ds es b.grows c.args.puts.now.items before puts)
-      (record { word = (k.0, refl); place = (k.1, (b.place.0, refl), (omega (arith, b.place.1, wide, range.some)), (omega (arith, b.place.1, wide, range.most)), r.0) })
-      (λ sel. ap₂ (share_of sig) (ap₂ chosen (b.tree sel) b.place.1) (tree-kept sel ds es b.grows.longer c.args.word word.0)) h)
-    (λ sel. ap (λ g. before sel ++ shares wid (look sel) g (tree_in sel ds c.args.word)) (sym is)))) c.add_put-in-At.ensures }
+split-returns-in_ok-index-in-At t c = record {
+  shares = λ wid look before drafts sees placed word puts.
+      let ds = c.args.drafts.now in let es = c.own_tree.new.drafts in let sig = c.in-At.sig in let i = c.in_ok-index-in-At.index in let e = expr_of c.in-At.index in
+      let r = placed_at wid c.args.target.now placed sig c.in-At.index c.in-At.is in
+      let b = c.in_ok-index-in-At.ensures.built wid look drafts sees r.1 in
+      let is : target_of c.args.target.now ≡ _ = ap target_of c.in-At.is ∙ target_of-At sig c.in-At.index in
+      let k = place-kept ds es c.args.word 1 b.grows.longer (word.0, word.1 ∙ ap (target_size wid) is) in
+      let wide = sized_width c.in-At.index r.1.sized in let range = sized_range c.in-At.index r.1.sized in
+      let share : Selects → Share = λ sel. share_of sig (chosen (tree wid (look sel) e (size e)) (size e)) (tree_in sel ds c.args.word) in
+      ok-map c.add_put-in-At.result (λ u h. (
+        b.grows,
+        puts_same wid es c.add_put-in-At.new.puts.items (λ sel. before sel ++ share sel ∷ []) _
+            (puts_last wid es c.args.puts.now.items c.add_put-in-At.new.puts.items before (put_of sig (spot.Chosen i) c.args.word) share (puts_grow wid ds es b.grows c.args.puts.now.items before puts)
+            (record { word = (k.0, refl); place = (k.1, (b.place.0, refl), (omega (arith, b.place.1, wide, range.some)), (omega (arith, b.place.1, wide, range.most)), r.0) })
+            (λ sel. ap₂ (share_of sig) (ap₂ chosen (b.tree sel) b.place.1) (tree-kept sel ds es b.grows.longer c.args.word word.0)) h)
+            (λ sel. ap (λ g. before sel ++ shares wid (look sel) g (tree_in sel ds c.args.word)) (sym is)),
+      )) c.add_put-in-At.ensures;
+}
 
 pub split-returns-in-Join : goal.split-returns-in-Join
-split-returns-in-Join t c = record { shares = λ wid look before drafts sees placed word puts.
-  let parts = c.as_slice.result.now in let ds = c.args.drafts.now in
-  let at : c.args.target.now ≡ v.Join parts = c.in-Join.is ∙ ap v.Join (sym c.as_slice.ensures) in
-  let is : target_of c.args.target.now ≡ Group (targets_of (map target_of parts)) = ap target_of at ∙ target_of-Join parts in
-  let p = placed_join wid c.args.target.now placed parts at in
-  ok-map c.split_all.result (λ u h. (h.0, puts_same wid c.split_all.new.drafts c.split_all.new.puts.items _ _ h.1 (λ sel. ap (λ g. before sel ++ shares wid (look sel) g (tree_in sel ds c.args.word)) (sym is))))
-    (c.split_all.ensures.shares wid look before placed.done drafts sees p.0 p.1 (word.0, word.1 ∙ ap (target_size wid) is) puts) }
+split-returns-in-Join t c = record {
+  shares = λ wid look before drafts sees placed word puts.
+      let parts = c.as_slice.result.now in let ds = c.args.drafts.now in
+      let at : c.args.target.now ≡ v.Join parts = c.in-Join.is ∙ ap v.Join (sym c.as_slice.ensures) in
+      let is : target_of c.args.target.now ≡ Group (targets_of (map target_of parts)) = ap target_of at ∙ target_of-Join parts in
+      let p = placed_join wid c.args.target.now placed parts at in
+      ok-map c.split_all.result (λ u h. (h.0, puts_same wid c.split_all.new.drafts c.split_all.new.puts.items _ _ h.1 (λ sel. ap (λ g. before sel ++ shares wid (look sel) g (tree_in sel ds c.args.word)) (sym is))))
+      (c.split_all.ensures.shares wid look before placed.done drafts sees p.0 p.1 (word.0, word.1 ∙ ap (target_size wid) is) puts);
+}
 
 pub split_all-loop-part-preserved : goal.split_all-loop-part-preserved
 split_all-loop-part-preserved t c = λ wid look before done drafts sees right fits word puts.
@@ -62,17 +69,28 @@ split_all-loop-part-preserved t c = λ wid look before done drafts sees right fi
     let s = c.in_ok-share.ensures.built wid w i.0.drafts (refl, word1.0, (omega (arith, width, size, range.some)), (omega (arith, lower, width, whole, i.4, word1.1))) in
     let g = still-grows wid ds es fs i.0 s.grows in
     let placed : IsPlaced wid x = record { sized = both.0; done = done; fits = parted.0 } in
-    let sp = c.in_ok-split.ensures.shares wid look i.5 g.drafts (sees-later wid ds fs c.args.present.now look g.longer sees) placed (s.place.0, s.place.1 ∙ width) (puts_grow wid es fs s.grows c.loop-part.puts.items i.5 i.6) in
-    (still-grows wid ds fs gs g sp.0, both.1, parted.1, lower, (omega (arith, lower, whole, i.4)), _, sp.1,
-    λ sel. let R = all_shares wid (look sel) (targets_of (map target_of rest)) (tree_in sel ds W) in
-      append_assoc (i.5 sel) (shares wid (look sel) (target_of x) (tree_in sel fs c.in_ok-share.share)) R
-      ∙ ap (λ u. i.5 sel ++ (shares wid (look sel) (target_of x) u ++ R)) (s.tree sel ∙ ap (λ u. Slice u low w) (tree-kept sel ds es i.0.longer W word.0) ∙ ap₂ (Slice (tree_in sel ds W)) lower width)
-      ∙ ap (λ l. i.5 sel ++ all_shares wid (look sel) (targets_of (map target_of l)) (tree_in sel ds W)) (sym next) ∙ i.7 sel)
+    let sp = c.in_ok-split.ensures.shares wid look i.5 g.drafts (sees-later wid ds fs c.args.present.now look g.longer sees) placed (s.place.0, s.place.1 ∙ width) (puts_grow wid es fs s.grows c.loop-part.puts.items i.5 i.6) in (
+      still-grows wid ds fs gs g sp.0,
+      both.1,
+      parted.1,
+      lower,
+      (omega (arith, lower, whole, i.4)),
+      _,
+      sp.1,
+      λ sel. let R = all_shares wid (look sel) (targets_of (map target_of rest)) (tree_in sel ds W) in
+          append_assoc (i.5 sel) (shares wid (look sel) (target_of x) (tree_in sel fs c.in_ok-share.share)) R
+          ∙ ap (λ u. i.5 sel ++ (shares wid (look sel) (target_of x) u ++ R)) (s.tree sel ∙ ap (λ u. Slice u low w) (tree-kept sel ds es i.0.longer W word.0) ∙ ap₂ (Slice (tree_in sel ds W)) lower width)
+          ∙ ap (λ l. i.5 sel ++ all_shares wid (look sel) (targets_of (map target_of l)) (tree_in sel ds W)) (sym next) ∙ i.7 sel,
+    )
 
 pub split_all-returns : goal.split_all-returns
-split_all-returns t c = record { shares = λ wid look before done drafts sees right fits word puts.
-  let i = c.loop-part.invariant wid look before done drafts sees right fits word puts in
-  let parts = c.args.parts.now in let W = c.args.word in
-  let none : drop c.loop-part.part-index parts ≡ [] = drop_all c.loop-part.part-index parts (omega (arith, c.loop-part-test.false)) in
-  (i.0, puts_same wid c.loop-part.drafts c.loop-part.puts.items i.5 _ i.6 (λ sel. sym (append-nil (i.5 sel))
-    ∙ ap (λ l. i.5 sel ++ all_shares wid (look sel) (targets_of (map target_of l)) (tree_in sel c.args.drafts.now W)) (sym none) ∙ i.7 sel)) }
+split_all-returns t c = record {
+  shares = λ wid look before done drafts sees right fits word puts.
+      let i = c.loop-part.invariant wid look before done drafts sees right fits word puts in
+      let parts = c.args.parts.now in let W = c.args.word in
+      let none : drop c.loop-part.part-index parts ≡ [] = drop_all c.loop-part.part-index parts (omega (arith, c.loop-part-test.false)) in (
+        i.0,
+        puts_same wid c.loop-part.drafts c.loop-part.puts.items i.5 _ i.6 (λ sel. sym (append-nil (i.5 sel))
+            ∙ ap (λ l. i.5 sel ++ all_shares wid (look sel) (targets_of (map target_of l)) (tree_in sel c.args.drafts.now W)) (sym none) ∙ i.7 sel),
+      );
+}

@@ -22,4 +22,4 @@ invariant-split_all-loop-part l =
     × (l.low ≤ width_at l.initial.drafts l.word)
     × (so_far : Selects → List Share) × ArePuts wid l.drafts l.puts.items so_far
     × ((sel : Selects) → so_far sel ++ all_shares wid (look sel) (targets_of (map target_of (drop l.part-index l.parts))) (tree_in sel l.initial.drafts l.word)
-        ≡ before sel ++ all_shares wid (look sel) (targets_of (map target_of l.parts)) (tree_in sel l.initial.drafts l.word))
+    ≡ before sel ++ all_shares wid (look sel) (targets_of (map target_of l.parts)) (tree_in sel l.initial.drafts l.word))

@@ -12,7 +12,7 @@ returns-else-width c = record {
       let t : Selects → Tree = λ sel. tree_in sel c.args.self.now c.args.a in
       let e : c.width.result ≡ w = c.width.ensures ∙ is.1 in
       ok-map c.add.result
-          (λ id b. built-as (λ sel. cut w c.args.at c.args.width (t sel)) b
-              (λ sel. sym (ap (λ v. cond v (t sel) (Slice (t sel) c.args.at c.args.width)) (ne_eqb w c.args.width (λ same. c.if-width.false (e ∙ same))))))
-          (c.add.ensures.built wid c.args.width are (refl, is.0, some, subst (λ n. c.args.at + c.args.width ≤ n) (sym is.1) within));
+      (λ id b. built-as (λ sel. cut w c.args.at c.args.width (t sel)) b
+      (λ sel. sym (ap (λ v. cond v (t sel) (Slice (t sel) c.args.at c.args.width)) (ne_eqb w c.args.width (λ same. c.if-width.false (e ∙ same))))))
+      (c.add.ensures.built wid c.args.width are (refl, is.0, some, subst (λ n. c.args.at + c.args.width ≤ n) (sym is.1) within));
 }

@@ -12,6 +12,6 @@ returns-then-width c = record {
       let t : Selects → Tree = λ sel. tree_in sel c.args.self.now c.args.a in
       let less : w < c.args.width = subst (λ n. n < c.args.width) (c.width.ensures ∙ is.1) c.if-width.true in
       ok-map c.add.result
-          (λ id b. built-as (λ sel. fit c.args.width w (t sel)) b (λ sel. sym (ap (λ v. cond v (Extend (t sel) c.args.width) (t sel)) (lt-ltb w c.args.width less))))
-          (c.add.ensures.built wid c.args.width are (refl, is.0, subst (λ n. n < c.args.width) (sym is.1) less, word));
+      (λ id b. built-as (λ sel. fit c.args.width w (t sel)) b (λ sel. sym (ap (λ v. cond v (Extend (t sel) c.args.width) (t sel)) (lt-ltb w c.args.width less))))
+      (c.add.ensures.built wid c.args.width are (refl, is.0, subst (λ n. n < c.args.width) (sym is.1) less, word));
 }

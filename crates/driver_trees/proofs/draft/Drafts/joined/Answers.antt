@@ -16,8 +16,8 @@ loop-word-preserved c = λ wid are is most.
     let e : c.loop-word.left.items ≡ c.pop.new.self.items ++ c.in-Some.word ∷ [] = c.in-Some.ensures.items in
     let there = word-left wid old c.loop-word.self c.args.words.items c.loop-word.left.items c.pop.new.self.items c.in-Some.word c.loop-word.whole so_far e most in
     one-joined wid old c.loop-word.self c.above.new.self c.args.words.items c.loop-word.left.items c.pop.new.self.items c.in-Some.word c.in_ok-above.field-0 c.loop-word.whole so_far e
-        (c.in_ok-above.ensures.built wid (width_at old c.in-Some.word) so_far.grows.drafts
-            (place-kept old c.loop-word.self c.in-Some.word (width_at old c.in-Some.word) so_far.grows.longer (there.0, refl)) so_far.below there.1)
+    (c.in_ok-above.ensures.built wid (width_at old c.in-Some.word) so_far.grows.drafts
+    (place-kept old c.loop-word.self c.in-Some.word (width_at old c.in-Some.word) so_far.grows.longer (there.0, refl)) so_far.below there.1)
 
 pub returns-in-Some-whole : goal.returns-in-Some-whole
 returns-in-Some-whole c = record {

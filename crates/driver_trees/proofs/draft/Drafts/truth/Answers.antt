@@ -12,6 +12,6 @@ returns-else-width-eq1 c = record {
       let t : Selects → Tree = λ sel. tree_in sel c.args.self.now c.args.a in
       let e : c.width.result ≡ w = c.width.ensures ∙ is.1 in
       ok-map c.add.result
-          (λ id b. built-as (λ sel. truth w (t sel)) b (λ sel. sym (ap (λ v. cond v (t sel) (ReduceOr (t sel))) (ne_eqb w 1 (λ same. c.if-width-eq1.false (e ∙ same))))))
-          (c.add.ensures.built wid 1 are (refl, is.0));
+      (λ id b. built-as (λ sel. truth w (t sel)) b (λ sel. sym (ap (λ v. cond v (t sel) (ReduceOr (t sel))) (ne_eqb w 1 (λ same. c.if-width-eq1.false (e ∙ same))))))
+      (c.add.ensures.built wid 1 are (refl, is.0));
 }

@@ -14,10 +14,10 @@ returns-in-Some c = record {
       let old = c.args.drafts.now in
       let e : shown_of p c.args.sig ≡ Some c.in-Some.tree = sym c.shown.ensures ∙ c.in-Some.is in
       ok-map c.cut.result
-          (λ id b. built-as (λ sel. look sel c.args.sig c.args.at c.args.width) b
-              (λ sel. sym (sees.looks sel c.args.sig c.args.at c.args.width within ∙ looks-shown wid sel p c.args.sig c.args.at c.args.width old
-                  ∙ ap (seen wid sel p c.args.sig c.args.at c.args.width old) e)))
-          (c.cut.ensures.built wid (wid c.args.sig) are (sees.trees c.args.sig c.in-Some.tree (shown-present p c.args.sig c.in-Some.tree e)) some within);
+      (λ id b. built-as (λ sel. look sel c.args.sig c.args.at c.args.width) b
+      (λ sel. sym (sees.looks sel c.args.sig c.args.at c.args.width within ∙ looks-shown wid sel p c.args.sig c.args.at c.args.width old
+      ∙ ap (seen wid sel p c.args.sig c.args.at c.args.width old) e)))
+      (c.cut.ensures.built wid (wid c.args.sig) are (sees.trees c.args.sig c.in-Some.tree (shown-present p c.args.sig c.in-Some.tree e)) some within);
 }
 
 pub returns-in-None : goal.returns-in-None
@@ -27,8 +27,8 @@ returns-in-None c = record {
       let old = c.args.drafts.now in
       let e : shown_of p c.args.sig ≡ None = sym c.shown.ensures ∙ c.in-None.is in
       ok-map c.read.result
-          (λ id b. built-as (λ sel. look sel c.args.sig c.args.at c.args.width) b
-              (λ sel. sym (sees.looks sel c.args.sig c.args.at c.args.width within ∙ looks-shown wid sel p c.args.sig c.args.at c.args.width old
-                  ∙ ap (seen wid sel p c.args.sig c.args.at c.args.width old) e)))
-          (c.read.ensures.built wid are some within (sees.words c.args.sig));
+      (λ id b. built-as (λ sel. look sel c.args.sig c.args.at c.args.width) b
+      (λ sel. sym (sees.looks sel c.args.sig c.args.at c.args.width within ∙ looks-shown wid sel p c.args.sig c.args.at c.args.width old
+      ∙ ap (seen wid sel p c.args.sig c.args.at c.args.width old) e)))
+      (c.read.ensures.built wid are some within (sees.words c.args.sig));
 }

@@ -22,10 +22,12 @@ loop-sig-preserved c = λ h.
     let k = c.in-Some.sig.now in
     let gives = c.into_iter-sig-iterator.ensures.into_iter_gives in
     let turn = btree_map_turn (deref_pair {K = ℕ} {X = CellId}) c.loop-sig.yielded c.into_iter-sig-iterator.result c.loop-sig.sig-iterator c.next.new.self c.next.result (c.in-Some.sig, c.in-Some.tree)
-      c.loop-sig.yielded_by c.in-Some.is c.next.ensures.steps nat_cmp_total c.args.changes.now gives.0 gives.5 in
+    c.loop-sig.yielded_by c.in-Some.is c.next.ensures.steps nat_cmp_total c.args.changes.now gives.0 gives.5 in
     let first = rest_more (deref_pair {K = ℕ} {X = CellId}) c.loop-sig.sig-iterator c.next.new.self c.next.result (c.in-Some.sig, c.in-Some.tree) c.in-Some.is c.next.ensures.steps in
-    let is : is_target c.loop-sig.self k ≡ true = i.1.targets k ∙ h k (ap is_some turn.1) in
-    (λ x. i.0 x || (x == k), assigns_more c.args.self.now c.loop-sig.self c.set.new.self i.0 (λ x. x == k) i.1 (c.in_ok-set.ensures.assigns is),
-    λ x. keys_first x k c.in-Some.tree.now c.loop-sig.sig-iterator c.next.new.self (i.0 x) _ first (i.2 x),
-    λ x. set_first x k c.in-Some.tree.now (i.0 x) (get nat_cmp c.args.changes.now x) (present_of c.args.self.now x) (present_of c.loop-sig.self x) (present_of c.set.new.self x)
-      (λ e. ap (get nat_cmp c.args.changes.now) e ∙ turn.1) (i.3 x) (c.in_ok-set.ensures.tree is x))
+    let is : is_target c.loop-sig.self k ≡ true = i.1.targets k ∙ h k (ap is_some turn.1) in (
+      λ x. i.0 x || (x == k),
+      assigns_more c.args.self.now c.loop-sig.self c.set.new.self i.0 (λ x. x == k) i.1 (c.in_ok-set.ensures.assigns is),
+      λ x. keys_first x k c.in-Some.tree.now c.loop-sig.sig-iterator c.next.new.self (i.0 x) _ first (i.2 x),
+      λ x. set_first x k c.in-Some.tree.now (i.0 x) (get nat_cmp c.args.changes.now x) (present_of c.args.self.now x) (present_of c.loop-sig.self x) (present_of c.set.new.self x)
+          (λ e. ap (get nat_cmp c.args.changes.now) e ∙ turn.1) (i.3 x) (c.in_ok-set.ensures.tree is x),
+    )

@@ -8,5 +8,5 @@ returns c = record {
   built = λ wid look are sees some.
       let e : c.width.result ≡ wid c.args.sig = c.width.ensures ∙ sees.widths c.args.sig in
       subst (λ n. IfOk c.read.result (λ id. IsBuilt wid c.args.drafts.now c.read.new.drafts id n (λ sel. look sel c.args.sig 0 n))) e
-          (c.read.ensures.built wid look are sees (subst (λ n. 1 ≤ n) (sym e) some) (omega arith));
+      (c.read.ensures.built wid look are sees (subst (λ n. 1 ≤ n) (sym e) some) (omega arith));
 }

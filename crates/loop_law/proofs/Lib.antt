@@ -1,5 +1,0 @@
-pub mod Members
-pub mod Trees
-pub mod Links
-pub mod Pieces
-pub mod Loops
