@@ -60,7 +60,7 @@ module _ (wid : ℕ → ℕ) (through : Deps → (sig at width : ℕ) → Bits) 
   mutual
     put_deps_kept : (r : Deps) (t : Target) (b : Bits) (m : Deps) (x : ℕ) → is_target t x ≡ false → put_deps wid through r t b m x ≡ m x
     put_deps_kept r (Whole s) b m x h = other (x == s) b (m x) h
-    put_deps_kept r (Part s at w) b m x h = other (x == s) (union b (m s)) (m x) h
+    put_deps_kept r (Part s at w) b m x h = other (x == s) _ (m x) h
     put_deps_kept r (Pick s e) b m x h = other (x == s) (union (reads wid through r e) (union b (m s))) (m x) h
     put_deps_kept r (Group gs) b m x h = puts_deps_kept r gs b m x h
 

@@ -1,5 +1,5 @@
 -- Trees over selects that are the same where good bits are read are the same.
-use Rattle.std.proofs.Common.{◌≡◌, ℕ, ◌*◌, Bool, true, false, cond, ◌||◌, ◌==◌, refl, ap, ap₂, ◌∙◌, eq-eqb}
+use Rattle.std.proofs.Common.{◌≡◌, ℕ, ◌*◌, Bool, true, false, cond, ◌||◌, ◌==◌, refl, sym, ap, ap₂, ◌∙◌, eq-eqb}
 use Rattle.cell_graph.specs.Tree.{Tree, Const, Eq, Or, Mux, Slice, Shr}
 use Rattle.flat_meaning.specs.Flat.{BinaryOp, Expr, Number, Read, At, Unary, Binary, Choose, Gate, Join, Repeat, Exprs, no_exprs, expr, Target, Whole, Part, Pick, Group, Targets, no_targets, target, Stmt, Null, Set, If, Case, Block, Items, no_items, default_item, item, Stmts, no_stmts, stmt, size, sizes, case_size, target_size, target_sizes, value_size, is_target, are_targets, assigns, case_assigns, all_assign}
 use Rattle.flat_meaning.specs.Meaning.{unary_at, left_at, right_at}
@@ -7,9 +7,9 @@ use Rattle.flat_meaning.specs.Full.{is_full}
 use Rattle.flat_meaning.specs.Trees.{Selects, Trees, fit, cut, glue, truth, copies_tree, unary_tree, binary_tree, change_tree, part_tree, picked, merge, tree, joined_tree, gate_tree, gate_on, value_tree, any_label, label_tree, put_tree, put_trees, after, after_case, after_all}
 use Rattle.flat_meaning.specs.Fits.{Fits, AllFit}
 use Rattle.flat_meaning.specs.Assigned.{Done, surely, FitsTarget, FitTargets, FitsStmt, FitItems, FitStmts}
-use Rattle.flat_meaning.specs.Deps.{Bits, union, Deps, AllIn, none, span, replace, merge_deps, reads, all_reads, put_deps, puts_deps, deps, case_deps, all_deps, through_wires, wire_deps}
+use Rattle.flat_meaning.specs.Deps.{Bits, union, Deps, is_all, AllIn, none, span, replace, merge_deps, reads, all_reads, put_deps, puts_deps, deps, case_deps, all_deps, through_wires, wire_deps}
 use Rattle.flat_meaning.specs.Law.{Readable, MayBe, MayRead, present, wire_tree, IsComb, expr_reads}
-use Rattle.flat_meaning.proofs.Targets.{AreLocal, local_first, local_second, left_in, right_in, OkAndGood, both_fit, all_fit}
+use Rattle.flat_meaning.proofs.Targets.{AreLocal, local_first, local_second, left_in, right_in, OkAndGood, both_fit, all_fit, part_all}
 
 -- ---- expressions
 
@@ -86,8 +86,11 @@ module _ (wid : ℕ → ℕ) (is_local : ℕ → Bool) (g : Bits) where
         put_alike : (t : Target) (m : Deps) (ts us : Trees) (p q : Tree) (b : Bits) → AreLocal is_local (is_target t) → FitsTarget wid ok before t → (AllIn g b → p ≡ q) → Alike m ts us
             → Alike (put_deps wid through o t b m) (put_tree wid sel t p ts) (put_tree wid other t q us)
         put_alike (Whole s) m ts us p q b own l h a = changed_alike s p q b m ts us h a
-        put_alike (Part s at w) m ts us p q b own l h a = changed_alike s _ _ (union b (m s)) m ts us
-            (λ k. ap₂ (part_tree (wid s) at w) (h (left_in g b (m s) k)) (a s (own s (eq-eqb s s refl)) (right_in g b (m s) k))) a
+        put_alike (Part s at w) m ts us p q b own l h a = changed_alike s _ _ _ m ts us (go (is_all (wid s) w) refl) a
+          where
+            go : (u : Bool) → is_all (wid s) w ≡ u → AllIn g (cond u b (union b (m s))) → part_tree (wid s) at w p (ts s) ≡ part_tree (wid s) at w q (us s)
+            go true e k = part_all (wid s) at w p (ts s) e l ∙ h k ∙ sym (part_all (wid s) at w q (us s) e l)
+            go false e k = ap₂ (part_tree (wid s) at w) (h (left_in g b (m s) k)) (a s (own s (eq-eqb s s refl)) (right_in g b (m s) k))
         put_alike (Pick s e) m ts us p q b own l h a = changed_alike s _ _ (union (reads wid through o e) (union b (m s))) m ts us
             (λ k. let rest = right_in g (reads wid through o e) (union b (m s)) k in
             ap₂ (λ x y. picked x (size e) y (ts s) (wid s)) (good_same e l.1 (left_in g (reads wid through o e) (union b (m s)) k) (size e)) (h (left_in g b (m s) rest))

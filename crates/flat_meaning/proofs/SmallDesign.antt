@@ -59,6 +59,8 @@ is_sound = record {
   assigned = All-cons (IsSoundAssign small) complement_of_d [] (refl, (refl, (let h : 1 ≤ 1 = omega arith in h))) (All-nil (IsSoundAssign small));
   processed = All-nil _;
   clocked = All-cons (λ (p : ℕ × Stmt). IsSoundClocked small p.1) (3, body) [] (record { fits = (refl, tt); registers = registers }) (All-nil _);
+  clocks = All-cons (λ (p : ℕ × Stmt). 1 ≤ size_in small p.0) (3, body) [] (let h : 1 ≤ 1 = omega arith in h) (All-nil _);
+  outputs = All-nil _;
   one_driver = one_driver;
 }
 

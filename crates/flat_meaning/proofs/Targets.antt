@@ -1,15 +1,15 @@
 -- Assigning to a target keeps trees and values bitwise_xnor.
-use Rattle.std.proofs.Common.{◌≡◌, ℕ, zero, suc, ◌+◌, ◌-◌, ◌^◌, ◌<◌, ◌≤◌, Bool, true, false, cond, not, ◌&&◌, ◌||◌, ◌==◌, nat_lt, refl, sym, ap, ap₂, subst, ◌∙◌, arith, le_refl, lt-ltb, le-ltb, eqb-true, eq-eqb, ne_eqb, zero-add, mod-eq_of_lt}
-use Rattle.cell_graph.specs.Tree.{Tree, Const, Eq, Mux, Slice, number, width, bit}
+use Rattle.std.proofs.Common.{◌≡◌, ℕ, zero, suc, ◌+◌, ◌-◌, ◌^◌, ◌<◌, ◌≤◌, Bool, true, false, cond, not, ◌&&◌, ◌||◌, ◌==◌, nat_lt, refl, sym, ap, ap₂, subst, ◌∙◌, arith, le_refl, lt-ltb, le-ltb, ltb-true, eqb-true, eq-eqb, ne_eqb, zero-add, mod-eq_of_lt}
+use Rattle.cell_graph.specs.Tree.{Tree, Const, Eq, Mux, Concat, Slice, number, width, bit}
 use Rattle.cell_graph.specs.Reading.{Reading}
 use Rattle.cell_graph.proofs.Words.{number-lt, number-bits}
-use Rattle.std.proofs.lemmas.Bool.{or_right}
+use Rattle.std.proofs.lemmas.Bool.{and_parts, or_right}
 use Rattle.flat_meaning.specs.Values.{Word, Words}
 use Rattle.flat_meaning.specs.Flat.{Expr, Number, Read, At, Unary, Binary, Choose, Gate, Join, Repeat, Exprs, no_exprs, expr, Target, Whole, Part, Pick, Group, Targets, no_targets, target, size, target_size, target_sizes, is_target, are_targets}
 use Rattle.flat_meaning.specs.Meaning.{value, cat, index, change, put, put_all}
-use Rattle.flat_meaning.specs.Trees.{Trees, Selects, tree, change_tree, part_tree, picked, put_tree, put_trees}
+use Rattle.flat_meaning.specs.Trees.{Trees, Selects, glue, tree, change_tree, part_tree, picked, put_tree, put_trees}
 use Rattle.flat_meaning.specs.Fits.{Fits, AllFit}
-use Rattle.flat_meaning.specs.Deps.{Bits, union, Deps, AllIn, replace, reads, all_reads, put_deps, puts_deps}
+use Rattle.flat_meaning.specs.Deps.{Bits, union, Deps, is_all, AllIn, replace, reads, all_reads, put_deps, puts_deps}
 use Rattle.flat_meaning.specs.Law.{AreWords}
 use Rattle.flat_meaning.specs.Assigned.{Done, is_within, covers, cover, FitsTarget, FitTargets}
 use Rattle.flat_meaning.proofs.Words.{never_same, by_lt, IsWord, as_word, const_word, eq_word, mux_word, slice_word, glue_word, empty_word}
@@ -57,6 +57,24 @@ module _ (wid : ℕ → ℕ) (ok : (sig at width : ℕ) → Type 0) (g : Bits) (
     all_fit no_exprs f h = tt
     all_fit (expr e es) f h = (both_fit e f.0 (left_in g (reads wid through d e) (all_reads wid through d es) h), all_fit es f.1 (right_in g (reads wid through d e) (all_reads wid through d es) h))
 
+pub is_all-same : (n w : ℕ) → is_all n w ≡ true → w ≡ n
+is_all-same n w h = eqb-true w n (and_parts (nat_lt 0 w) (w == n) h).1
+
+-- where all bits are new, nothing of the old tree is left
+pub part_all : (n at w : ℕ) (new old : Tree) → is_all n w ≡ true → at + w ≤ n → part_tree n at w new old ≡ new
+part_all n at w new old h room =
+    let some = ltb-true 0 w (and_parts (nat_lt 0 w) (w == n) h).0 in
+    let e = is_all-same n w h in
+    ap (λ x. cond x high (cond (n - (at + w) == 0) low (Concat high low))) (ne_eqb (w + at) 0 (λ x. omega arith))
+    ∙ ap (λ x. cond x low (Concat high low)) (eq-eqb (n - (at + w)) 0 (omega arith))
+    ∙ ap (λ x. cond x new (cond (w == 0) (Slice old 0 at) (Concat new (Slice old 0 at)))) (eq-eqb at 0 (omega arith))
+  where
+    high : Tree
+    high = Slice old (at + w) (n - (at + w))
+
+    low : Tree
+    low = glue w new at (Slice old 0 at)
+
 module _ (r : Reading) where
   pub own_word : (t : Tree) (n : ℕ) → width t ≡ n → IsWord r t n (bit r t)
   own_word t n e = record { wide = e; bits = λ i h. refl }
@@ -73,6 +91,16 @@ module _ (r : Reading) where
       (λ k. by_lt (λ u. cond u (f (i - at)) (bit r old (at + w + (i - (w + at)))) ≡ cond (nat_lt i (at + w)) (f (i - at)) (bit r old i)) i (w + at)
       (λ j. ap (λ x. cond x (f (i - at)) (bit r old i)) (sym (lt-ltb i (at + w) (omega arith))))
       (λ j. ap (bit r old) (let z : at + w + (i - (w + at)) ≡ i = omega arith in z) ∙ ap (λ x. cond x (f (i - at)) (bit r old i)) (sym (le-ltb i (at + w) (omega arith))))))
+
+  -- and so they are where they are all
+  whole_word : (n at w : ℕ) (new old : Tree) {f : Word} → is_all n w ≡ true → at + w ≤ n → IsWord r new w f → (g : Word)
+      → IsWord r (part_tree n at w new old) n (λ i. cond (is_within at w i) (f (i - at)) (g i))
+  whole_word n at w new old {f} h room p g =
+      let z : at ≡ 0 = let k = is_all-same n w h in omega arith in
+      subst (λ (k : ℕ). IsWord r (part_tree n at w new old) k (λ i. cond (is_within at w i) (f (i - at)) (g i))) (is_all-same n w h)
+      (as_word r (subst (λ (t : Tree). IsWord r t w f) (sym (part_all n at w new old h room)) p)
+      (λ i l. ap f (let y : i ≡ i - at = omega arith in y)
+      ∙ ap (λ x. cond x (f (i - at)) (g i)) (sym (ap₂ (λ x y. not x && y) (le-ltb i at (omega arith)) (lt-ltb i (at + w) (omega arith))))))
 
   -- one bit, chosen by an index, is new
   picked_word : (index new old : Tree) (m : ℕ) {f g : Word} (n : ℕ) → n ≤ 255 → IsWord r index m g → IsWord r new 1 f → width old ≡ n → (k : ℕ) → k ≤ n
@@ -148,16 +176,25 @@ module _ (r : Reading) where
               λ i h j. q.bits i h ∙ ap f (let z : i ≡ i - 0 = omega arith in z)
                   ∙ ap (λ u. cond u (f (i - 0)) (st s i)) (sym (ap₂ (λ x y. not x && y) (le-ltb i 0 (omega arith)) (lt-ltb i (0 + wid s) (omega arith)))),
             )) a
-        put_agree (Part s at w) d m ts st new f b own l p a =
-            let local = own s (eq-eqb s s refl) in
-            changed s (part_tree (wid s) at w new (ts s)) (union b (m s)) d m ts st at w f (is_within at w) local
-            (λ k. let good = right_in g b (m s) k in
-            let q = part_word (wid s) at w new (ts s) (let k = sized s in omega arith) l (p (left_in g b (m s) k)) (a.wide s local good) in
-            (q.wide, λ i h k. q.bits i h ∙ old good (is_within at w i) i h (f (i - at)) k)) a
+        put_agree (Part s at w) d m ts st new f b own l p a = go (is_all (wid s) w) refl
           where
+            t : Tree
+            t = part_tree (wid s) at w new (ts s)
+
+            local : is_local s ≡ true
+            local = own s (eq-eqb s s refl)
+
             old : AllIn g (m s) → (u : Bool) (i : ℕ) → i < wid s → (y : Bool) → (u || d s i) ≡ true → cond u y (bit r (ts s) i) ≡ cond u y (st s i)
             old good true i h y k = refl
-            old good false i h y k = a.same s (own s (eq-eqb s s refl)) good i h k
+            old good false i h y k = a.same s local good i h k
+
+            go : (u : Bool) → is_all (wid s) w ≡ u → Agree (λ x i. covers wid (Part s at w) x i || d x i) (replace s (cond u b (union b (m s))) m) (change_tree s t ts) (change s at w f st)
+            go false e = changed s t (union b (m s)) d m ts st at w f (is_within at w) local
+                (λ k. let good = right_in g b (m s) k in
+                let q = part_word (wid s) at w new (ts s) (let k = sized s in omega arith) l (p (left_in g b (m s) k)) (a.wide s local good) in
+                (q.wide, λ i h k. q.bits i h ∙ old good (is_within at w i) i h (f (i - at)) k)) a
+            go true e = changed s t b d m ts st at w f (is_within at w) local
+                (λ k. let q = whole_word (wid s) at w new (ts s) e l (p k) (st s) in (q.wide, λ i h k. q.bits i h)) a
         put_agree (Pick s e) d m ts st new f b own l p a =
             let local = own s (eq-eqb s s refl) in
             let n = index u e in

@@ -1,5 +1,5 @@
 -- The bits that a tree is made of: those that the expressions of its own making read. A signal's set is replaced where its tree is.
-use Rattle.std.specs.Prelude.{◌≡◌, ℕ, Bool, true, false, cond, ◌&&◌, ◌||◌, ◌==◌}
+use Rattle.std.specs.Prelude.{◌≡◌, ℕ, Bool, true, false, cond, ◌&&◌, ◌||◌, ◌==◌, nat_lt}
 use Rattle.flat_meaning.specs.Flat.{Expr, Number, Read, At, Unary, Binary, Choose, Gate, Join, Repeat, Exprs, no_exprs, expr, Target, Whole, Part, Pick, Group, Targets, no_targets, target, Stmt, Null, Set, If, Case, Block, Items, no_items, default_item, item, Stmts, no_stmts, stmt, case_size, assigns, case_assigns}
 use Rattle.flat_meaning.specs.Full.{is_full}
 use Rattle.flat_meaning.specs.Assigned.{is_within}
@@ -27,6 +27,10 @@ replace s b d x = cond (x == s) b (d x)
 abbrev pub merge_deps : (ℕ → Bool) → Bits → Deps → Deps → Deps → Deps
 merge_deps assigned c a b old x = cond (assigned x) (union c (union (a x) (b x))) (old x)
 
+-- w bits are a signal's n bits, all of them
+abbrev pub is_all : (n w : ℕ) → Bool
+is_all n w = nat_lt 0 w && (w == n)
+
 -- each bit of the set is one of those
 abbrev pub AllIn : Bits → Bits → Type 0
 AllIn good b = (s i : ℕ) → b s i ≡ true → good s i ≡ true
@@ -49,11 +53,11 @@ module _ (wid : ℕ → ℕ) (through : Deps → (sig at width : ℕ) → Bits) 
     all_reads d no_exprs = none
     all_reads d (expr e es) = union (reads d e) (all_reads d es)
 
-  -- an assignment to a part keeps what the rests are made of; r are the sets that indices read through
+  -- an assignment to a part keeps what the rests are made of, if there are rests; r are the sets that indices read through
   abbrev mutual
     pub put_deps : (r : Deps) → Target → Bits → Deps → Deps
     put_deps r (Whole s) b d = replace s b d
-    put_deps r (Part s at w) b d = replace s (union b (d s)) d
+    put_deps r (Part s at w) b d = replace s (cond (is_all (wid s) w) b (union b (d s))) d
     put_deps r (Pick s e) b d = replace s (union (reads r e) (union b (d s))) d
     put_deps r (Group gs) b d = puts_deps r gs b d
 

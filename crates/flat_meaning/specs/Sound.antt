@@ -36,10 +36,12 @@ module _ (f : Flat) where
     pub fits : IsClocked (size_in f) (inside f) body
     pub registers : (s : ℕ) → assigns body s ≡ true → is_variable f s ≡ true
 
-  -- the rules of flattening that the law rests on; no bit has two drivers
+  -- the rules of flattening that elaboration rests on; no bit has two drivers, and clocks and outputs are signals
   pub record IsSound : Type 0 where
     pub sized : AreWords (size_in f)
     pub assigned : All IsSoundAssign f.assigns
     pub processed : All IsSoundComb f.combs
     pub clocked : All (λ p. IsSoundClocked p.1) f.clocked
+    pub clocks : All (λ p. 1 ≤ size_in f p.0) f.clocked
+    pub outputs : All (λ s. 1 ≤ size_in f s) f.outputs
     pub one_driver : (s i : ℕ) → i < size_in f s → drivers f s i ≤ 1
