@@ -1,5 +1,5 @@
 -- The labels of a case, item by item.
-use Rattle.std.proofs.Common.{◌≡◌, ◌≢◌, ℕ, zero, suc, ◌+◌, ◌-◌, ◌^◌, ◌<◌, ◌≤◌, max, min, length, get_or, pow_pos, ne_eqb, Bool, true, false, ◌&&◌, ◌||◌, ◌==◌, nat_lt, List, [], ◌∷◌, ◌++◌, map, Option, Some, None, Box, Global, refl, sym, ap, ap₂, subst, ◌∙◌, arith}
+use Rattle.std.proofs.Common.{◌≡◌, ◌≢◌, ℕ, zero, suc, ◌-◌, ◌^◌, ◌<◌, ◌≤◌, max, min, length, get_or, pow_pos, ne_eqb, Bool, true, false, ◌&&◌, ◌||◌, ◌==◌, nat_lt, List, [], ◌∷◌, ◌++◌, map, Option, Some, None, Box, Global, refl, sym, ap, ap₂, ◌∙◌, arith}
 use Rattle.std.specs.List.{list_all, list_any}
 use Rattle.std.proofs.lemmas.List.Folds.{list_any-append}
 use Rattle.std.proofs.lemmas.Bool.{and_parts}
@@ -14,7 +14,7 @@ use Rattle.flat_form.specs.declared.flat.FStmt.TheOpen.{FCaseItem-F}
 use Rattle.flat_form.specs.declared.flat.FStmt.TheFolds.{fold-roll-FCaseItem}
 use Rattle.flat_form.specs.View as v
 use Rattle.flat_form.specs.View.{expr_of, exprs_of, Arm, arm_of, items_of, last_of}
-use Rattle.flat_form.specs.Sizes.{kept_of, is_sized, are_labels_sized}
+use Rattle.flat_form.specs.Sizes.{is_sized, are_labels_sized}
 use Rattle.flat_meaning.proofs.Words.{by_lt}
 use Rattle.flat_form.proofs.Sized.{sized_width}
 use Rattle.flat_form.proofs.Constants.{these, InputGives}

@@ -6,3 +6,4 @@ pub mod MaskBits
 pub mod Constants
 pub mod ConstantForms
 pub mod Labels
+pub mod WholeNumbers

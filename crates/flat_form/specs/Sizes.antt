@@ -95,7 +95,7 @@ module _ (wid : ℕ → ℕ) where
   stmt_step (FStmt-F.Block parts) = list_true parts
 
   abbrev pub arm_step : FCaseItem-F Bool Bool → Bool
-  arm_step i = list_all is_sized i.labels && i.body
+  arm_step i = is_some_list i.labels && (list_all is_sized i.labels && i.body)
 
   abbrev pub is_stmt_sized : FStmt → Bool
   is_stmt_sized = fold-FStmt Bool Bool stmt_step arm_step

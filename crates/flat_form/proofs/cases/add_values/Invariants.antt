@@ -1,7 +1,6 @@
-use Rattle.std.proofs.Common.{◌≡◌, ◌≤◌, ℕ, true, drop, ◌||◌, ◌==◌}
-use Rattle.std.specs.List.{list_all, list_any}
+use Rattle.std.proofs.Common.{◌≡◌, ◌≤◌, true, drop}
+use Rattle.std.specs.List.{list_all}
 use Rattle.flat_meaning.specs.Flat.{largest}
-use Rattle.flat_meaning.specs.Full.{has_label}
 use Rattle.flat_form.specs.Sizes.{is_sized}
 use Rattle.flat_form.proofs.Constants.{these}
 use Rattle.flat_form.proofs.Labels.{AddsLabels}

@@ -1,4 +1,4 @@
-use Rattle.std.proofs.Common.{◌≡◌, ◌≤◌, max, true, map, drop}
+use Rattle.std.proofs.Common.{◌≡◌, max, true, drop}
 use Rattle.std.specs.List.{list_all}
 use Rattle.flat_meaning.specs.Flat.{largest}
 use Rattle.flat_form.specs.Sizes.{is_sized}

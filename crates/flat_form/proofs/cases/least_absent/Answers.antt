@@ -1,4 +1,4 @@
-use Rattle.std.proofs.Common.{ℕ, ◌<◌, arith}
+use Rattle.std.proofs.Common.{arith}
 use Rattle.flat_form.proofs.Labels.{none-among}
 use Rattle.flat_form.proofs.cases.least_absent.Goals as goal
 
