@@ -189,7 +189,8 @@ fn add_given(look: &Look, stmt: &Stmt, given: &mut Vec<Given>) -> Result<bool, N
     Ok(true)
 }
 
-/// Whether the target is an index alone that is no constant.
+/// Whether an index that is no constant stands in the target.
+#[cycle(has_variable_index)]
 fn has_variable_index(look: &Look, target: &Target) -> Result<bool, NoMemory> {
     match target {
         Target::At { index, .. } => {
@@ -197,8 +198,19 @@ fn has_variable_index(look: &Look, target: &Target) -> Result<bool, NoMemory> {
             let index = resolve(look, index, &mut unheard)?;
             Ok(!index.is_constant)
         }
+        Target::Join(parts) => have_variable_index(look, parts.as_slice()),
         _ => Ok(false),
     }
+}
+
+#[cycle(has_variable_index)]
+fn have_variable_index(look: &Look, targets: &[Target]) -> Result<bool, NoMemory> {
+    for target in targets {
+        if has_variable_index(look, target)? {
+            return Ok(true);
+        }
+    }
+    Ok(false)
 }
 
 /// Gives the target its bits of a word, whose lowest `top` bits are those of the target and of all on its right.
