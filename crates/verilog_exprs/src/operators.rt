@@ -53,45 +53,6 @@ fn binary_of(mark: MarkKind) -> Option<BinaryOp>
     }
 }
 
-/// The mark of the operator.
-pub fn unary_mark(op: UnaryOp) -> MarkKind {
-    match op {
-        UnaryOp::Not => MarkKind::Tilde,
-        UnaryOp::LogicNot => MarkKind::Bang,
-        UnaryOp::And => MarkKind::Ampersand,
-        UnaryOp::Or => MarkKind::Bar,
-        UnaryOp::Xor => MarkKind::Caret,
-        UnaryOp::Nand => MarkKind::TildeAmpersand,
-        UnaryOp::Nor => MarkKind::TildeBar,
-        UnaryOp::Xnor => MarkKind::TildeCaret,
-    }
-}
-
-/// The mark of the operator.
-pub fn binary_mark(op: BinaryOp) -> MarkKind {
-    match op {
-        BinaryOp::Mul => MarkKind::Star,
-        BinaryOp::Div => MarkKind::Slash,
-        BinaryOp::Mod => MarkKind::Percent,
-        BinaryOp::Add => MarkKind::Plus,
-        BinaryOp::Sub => MarkKind::Minus,
-        BinaryOp::Shl => MarkKind::ShiftLeft,
-        BinaryOp::Shr => MarkKind::ShiftRight,
-        BinaryOp::Lt => MarkKind::Less,
-        BinaryOp::Le => MarkKind::LessEqual,
-        BinaryOp::Gt => MarkKind::Greater,
-        BinaryOp::Ge => MarkKind::GreaterEqual,
-        BinaryOp::Eq => MarkKind::EqualEqual,
-        BinaryOp::Ne => MarkKind::BangEqual,
-        BinaryOp::And => MarkKind::Ampersand,
-        BinaryOp::Xor => MarkKind::Caret,
-        BinaryOp::Xnor => MarkKind::TildeCaret,
-        BinaryOp::Or => MarkKind::Bar,
-        BinaryOp::LogicAnd => MarkKind::AmpersandAmpersand,
-        BinaryOp::LogicOr => MarkKind::BarBar,
-    }
-}
-
 /// How tight the operator binds, from 0 for the tightest.
 fn level_of(op: BinaryOp) -> u8
     ensures { result ≡ reading.level_of op }
