@@ -1,12 +1,13 @@
 -- Declared signals within the limits, and that nothing but a declaration adds one.
 use Rattle.std.proofs.Common.{◌≡◌, ℕ, zero, suc, ◌+◌, ◌≤◌, false, nat_lt, List, [], ◌∷◌, ◌++◌, length, map, ◌∙◌, Option, Some, None, refl, sym, ap, ◌∙◌, subst, arith, ltb-false}
-use Rattle.flat_unfolding.specs.Outcome.{Text, good, refused_if}
-use Rattle.flat_unfolding.specs.Names.{Range, span, width_of, Entry, width_at, Names}
-use Rattle.flat_unfolding.specs.Parameters.{is_wide}
+use Rattle.flat_unfolding.specs.Outcome.{Text, breaks_if, good, refused_if}
+use Rattle.flat_unfolding.specs.Names.{Range, span, width_of, Look, Entry, width_at, Names}
+use Rattle.flat_unfolding.specs.Parameters.{is_wide, bounds_read, range_read}
+use Rattle.verilog_reading.specs.SourceTree.{Bounds}
 use Rattle.flat_unfolding.specs.Declarations.{added}
 use Rattle.flat_unfolding.specs.Design.{Stage, change_entry}
 use Rattle.flat_unfolding.specs.Laws.{Kept, kept, StandsBehind}
-use Rattle.flat_unfolding.proofs.Steps.{good_is, good_then, not_refused}
+use Rattle.flat_unfolding.proofs.Steps.{good_is, good_then, not_refused, not_broken, none_of_both}
 
 -- every signal has 64 bits at most, and there are 65,536 at most
 pub record Fine (es : List Entry) : Type 0 where
@@ -82,9 +83,14 @@ added_keeps s fs names t e h p =
 
 -- ---- the entries of a declaration
 
-pub not_wide : (r : Option Range) → is_wide r ≡ false → width_of r ≤ 64
+not_wide : (r : Option Range) → is_wide r ≡ false → width_of r ≤ 64
 not_wide None e = let h : 1 ≤ 64 = omega arith in h
 not_wide (Some r) e = ltb-false 64 (span r) e
+
+pub range_narrow : (look : Look) (x : Text) (b : Option Bounds) → (range_read look x b).broken ≡ [] → width_of (range_read look x b).range ≤ 64
+range_narrow look x None e = not_wide None refl
+range_narrow look x (Some b) e = let a = bounds_read look b in
+    not_wide a.range (not_broken (is_wide a.range) 308 x (none_of_both a.broken (breaks_if (is_wide a.range) 308 x) e).1)
 
 pub narrow_entries : (f : Text → Entry) (n : ℕ) → n ≤ 64 → ((x : Text) → width_of (f x).range ≡ n) → (xs : List Text) (s : ℕ) → width_at (map f xs) s ≤ 64
 narrow_entries f n l h [] s = let k : 0 ≤ 64 = omega arith in k

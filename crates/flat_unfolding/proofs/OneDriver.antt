@@ -19,7 +19,7 @@ none_from p n (suc more) e (suc i) l =
     let h : n + suc i ≡ suc n + i = omega arith in let m : i < more = omega (arith, l) in
     ap p h ∙ none_from p (suc n) more (none_passes p n (p n) (first_from p (suc n) more) refl e).1 i m
 
-no_bit : (rule : ℕ) (x : Signal) (o : Option ℕ) (later : Outcome (Unit {0})) (u : Unit {0}) → refuse_bit rule x o later ≡ good u → (o ≡ None) × (later ≡ good u)
+pub no_bit : (rule : ℕ) (x : Signal) (o : Option ℕ) (later : Outcome (Unit {0})) (u : Unit {0}) → refuse_bit rule x o later ≡ good u → (o ≡ None) × (later ≡ good u)
 no_bit rule x None later u e = (refl, e)
 no_bit rule x (Some i) later u e = absurd (search (rules, e))
 

@@ -1,7 +1,10 @@
 -- What a step that refuses nothing tells.
-use Rattle.std.proofs.Common.{◌≡◌, ℕ, Bool, true, false, List, [], ◌∷◌, ◌++◌, Option, refl, subst, rules}
+use Rattle.std.proofs.Common.{◌≡◌, ℕ, Bool, true, false, List, [], ◌∷◌, ◌++◌, Option, Some, refl, subst, rules}
 use Rattle.cdc_base.specs.declared.fault.Place.{Place}
 use Rattle.flat_unfolding.specs.Outcome.{Text, Broken, breaks_if, Outcome, good, bad, then_, each, refused_if, Order, judged}
+
+pub some_is : {A : Type 0} (a b : A) → Some a ≡ Some b → a ≡ b
+some_is a b e = search (rules, e)
 
 pub good_is : {A : Type 0} (a b : A) → good a ≡ good b → a ≡ b
 good_is a b e = search (rules, e)

@@ -11,27 +11,27 @@ use Rattle.verilog_ast.specs.declared.Event.{Event}
 use Rattle.verilog_ast.specs.declared.Event.TheVariants as event
 use Rattle.verilog_reading.specs.ExprTree.{ExprTree, TargetTree, whole}
 use Rattle.verilog_reading.specs.StmtTree.{StmtTree}
-use Rattle.verilog_reading.specs.SourceTree.{Bounds, ParamTree, DeclTree, ConnsTree, BodyTree, param, decl, assign, gate, instance, always, initial, ModuleTree}
+use Rattle.verilog_reading.specs.SourceTree.{ParamTree, DeclTree, ConnsTree, BodyTree, param, decl, assign, gate, instance, always, initial, ModuleTree}
 use Rattle.flat_meaning.specs.Flat.{Expr, Target}
 use Rattle.flat_meaning.specs.Law.{AreWords}
 use Rattle.flat_meaning.specs.Design.{Flat, width_in, size_in}
-use Rattle.flat_unfolding.specs.Outcome.{Text, Broken, breaks_if, good, each, refused_if, Order, by_number, judged}
-use Rattle.flat_unfolding.specs.Names.{Range, width_of, meaning, Meaning, a_signal, Names, is_declared, meaning_in, Direction, inward, Entry, Look, width_at, direction_at, printed_part}
+use Rattle.flat_unfolding.specs.Outcome.{Text, Broken, good, each, refused_if, Order, by_number, judged}
+use Rattle.flat_unfolding.specs.Names.{Range, width_of, meaning, Meaning, a_signal, Names, is_declared, meaning_in, Direction, inward, Entry, width_at, direction_at, printed_part}
 use Rattle.flat_unfolding.specs.Expressions.{Term, read}
 use Rattle.flat_unfolding.specs.Memories.{word_names}
 use Rattle.flat_unfolding.specs.Design.{Design, no_design, Stage, look_of, with_design}
 use Rattle.flat_unfolding.specs.Starts.{start_of}
 use Rattle.flat_unfolding.specs.Wires.{assign_item, gate_item}
 use Rattle.flat_unfolding.specs.Processes.{always_item}
-use Rattle.flat_unfolding.specs.Parameters.{is_wide, bounds_read, range_read, Overrides, parameter_order, parameter, params_of, parameters}
+use Rattle.flat_unfolding.specs.Parameters.{range_read, Overrides, parameter_order, parameter, params_of, parameters}
 use Rattle.flat_unfolding.specs.Declarations.{is_plain_output, declaration_order, Site, numbered, again, range_rule, array_read, declaration_rules, entry, declared_again, add_declared, declaration, header_of, header_decls, sites, header_twice, has_direction, directed, declarations}
 use Rattle.flat_unfolding.specs.Instances.{override_rules, overrides_of, Link, into, out_of, connection_rules, links_of, into_port, out_of_port, connect_one, connect_all, connected}
 use Rattle.flat_unfolding.specs.Drivers.{driven_once}
 use Rattle.flat_unfolding.specs.Signals.{signals_from, flat_design}
 use Rattle.flat_unfolding.specs.Unfolding.{module_named, value_item, declared_value, Visit, instance_of, instance_item, item_of, item, header_values, visit, top_input, directed_port, top_port, top_ports, modules_differ, finished, from_top}
 use Rattle.flat_unfolding.specs.Laws.{OneDriverLaw, LimitsLaw, NumbersLaw}
-use Rattle.flat_unfolding.proofs.Steps.{good_is, good_then, judged_is, not_broken, none_of_both, each_keeps}
-use Rattle.flat_unfolding.proofs.Entries.{Fine, none_are_fine, not_wide, narrow_entries, Sound, sound_itself, change_sound, added_sound}
+use Rattle.flat_unfolding.proofs.Steps.{good_is, good_then, judged_is, none_of_both, each_keeps}
+use Rattle.flat_unfolding.proofs.Entries.{Fine, none_are_fine, range_narrow, narrow_entries, Sound, sound_itself, change_sound, added_sound}
 use Rattle.flat_unfolding.proofs.OneDriver.{one_driver}
 
 -- a design that is accepted had its drivers tried
@@ -121,11 +121,6 @@ module _ (before : List Entry) where
   parameter_keeps : (overrides : Overrides) (s : Stage) (q : Place × ParamTree) (t : Stage) → parameter overrides s q ≡ good t → SoundStage s → SoundStage t
   parameter_keeps overrides s q t e h = judged_keeps parameter_order q.0 _ _ t e h
 
-  range_narrow : (look : Look) (x : Text) (b : Option Bounds) → (range_read look x b).broken ≡ [] → width_of (range_read look x b).range ≤ 64
-  range_narrow look x None e = not_wide None refl
-  range_narrow look x (Some b) e = let a = bounds_read look b in
-      not_wide a.range (not_broken (is_wide a.range) 308 x (none_of_both a.broken (breaks_if (is_wide a.range) 308 x) e).1)
-
   declared_keeps : (s : Stage) (at : Site) (d : DeclTree) (r : Option Range) (again words : Option ℕ) (t : Stage) → add_declared s at d r again words ≡ good t
       → width_of r ≤ 64 → SoundStage s → SoundStage t
   declared_keeps s at d r (Some n) words t e l h = good_keeps _ t e (change_sound (declared_again d.kind) (λ a. refl) n before s.design.entries h)
@@ -202,7 +197,7 @@ visit_keeps modules (suc n) before prefix visiting m overrides ports k d e q h =
 
 -- ---- the flat design
 
-signal_widths : (d : Design) (n : ℕ) (es : List Entry) (s : ℕ) → width_in (signals_from d n es) s ≡ width_at es s
+pub signal_widths : (d : Design) (n : ℕ) (es : List Entry) (s : ℕ) → width_in (signals_from d n es) s ≡ width_at es s
 signal_widths d n [] s = refl
 signal_widths d n (e ∷ es) zero = refl
 signal_widths d n (e ∷ es) (suc s) = signal_widths d (suc n) es s

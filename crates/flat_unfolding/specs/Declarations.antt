@@ -56,12 +56,12 @@ pub record Site : Type 0 where
   pub place : Place
 
 -- the signal that is declared once more: an old-style `output` may be declared again as `wire` or `reg`, once
+abbrev pub if_open : List Entry → Option Meaning → Option ℕ
+if_open entries (Some (a_signal s)) = cond (option_map_or (λ (e : Entry). e.is_open) (slice_get entries s) false) (Some s) None
+if_open entries m = None
+
 abbrev pub again : Look → DeclTree → Option ℕ
-again look d = cond (is_inner (direction_of d.kind) && is_none d.array) (go (meaning look d.name)) None
-  where
-    go : Option Meaning → Option ℕ
-    go (Some (a_signal s)) = cond (option_map_or (λ (e : Entry). e.is_open) (slice_get look.entries s) false) (Some s) None
-    go m = None
+again look d = cond (is_inner (direction_of d.kind) && is_none d.array) (if_open look.entries (meaning look d.name)) None
 
 -- E306: a direction for a name that isn't in the header, or a value where none may stand
 abbrev pub breaks_form : Site → DeclTree → Bool
@@ -77,14 +77,14 @@ pub record Words : Type 0 where
   pub count : Option ℕ
   pub broken : List Broken
 
+abbrev pub count_rules : Look → DeclTree → Option ℕ → List Broken
+count_rules look d None = breaks 319 d.name
+count_rules look d (Some n) = taken look.names (word_names d.name 0 n)
+
 abbrev pub array_read : Look → DeclTree → Option Bounds → Words
 array_read look d None = record { count = None; broken = [] }
 array_read look d (Some b) = let a = bounds_read look b in let n = words_of d.kind a.range in
-    record { count = n; broken = filter (λ (x : Broken). x.number == 305) a.broken ++ go n }
-  where
-    go : Option ℕ → List Broken
-    go None = breaks 319 d.name
-    go (Some n) = taken look.names (word_names d.name 0 n)
+    record { count = n; broken = filter (λ (x : Broken). x.number == 305) a.broken ++ count_rules look d n }
 
 abbrev pub declaration_rules : Look → Site → DeclTree → List Broken
 declaration_rules look at d = let r = range_read look d.name d.range in

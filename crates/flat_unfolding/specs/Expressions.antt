@@ -74,20 +74,20 @@ pub record Select : Type 0 where
   pub at : ℕ
   pub bits : ℕ
 
+abbrev pub one_bit : Option ℕ → Option Select
+one_bit None = None
+one_bit (Some at) = Some (record { at = at; bits = 1 })
+
 abbrev pub bit_select : Option Range → ℕ → Option Select
-bit_select r i = go (offset_in r i)
-  where
-    go : Option ℕ → Option Select
-    go None = None
-    go (Some at) = Some (record { at = at; bits = 1 })
+bit_select r i = one_bit (offset_in r i)
 
 -- none where a bound is outside the range, or the bounds have the other direction than the range's
+abbrev pub bits_between : Option ℕ → Option ℕ → Option Select
+bits_between (Some high) (Some low) = cond (nat_lt high low) None (Some (record { at = low; bits = high - low + 1 }))
+bits_between a b = None
+
 abbrev pub part_select : Option Range → Range → Option Select
-part_select r p = go (offset_in r p.left) (offset_in r p.right)
-  where
-    go : Option ℕ → Option ℕ → Option Select
-    go (Some high) (Some low) = cond (nat_lt high low) None (Some (record { at = low; bits = high - low + 1 }))
-    go a b = None
+part_select r p = bits_between (offset_in r p.left) (offset_in r p.right)
 
 -- E315, but for this: `right` is 0, `left` isn't smaller, and 2 to the index's size is at most the width
 abbrev pub may_index : Option Range → ℕ → Bool
@@ -133,14 +133,14 @@ module _ (look : Look) where
   -- ---- a name alone
 
   -- E305, E319: a memory stands with an index
+  abbrev pub meant_term : Text → Option Meaning → Term
+  meant_term x (Some (a_param p)) = constant (Number p.width p.value)
+  meant_term x (Some (a_signal s)) = variable (whole_of look s)
+  meant_term x (Some (a_memory m)) = spoilt no_expr false (breaks 319 x)
+  meant_term x m = spoilt no_expr false (unknown look x)
+
   abbrev pub name_term : Text → Term
-  name_term x = go (meaning look x)
-    where
-      go : Option Meaning → Term
-      go (Some (a_param p)) = constant (Number p.width p.value)
-      go (Some (a_signal s)) = variable (whole_of look s)
-      go (Some (a_memory m)) = spoilt no_expr false (breaks 319 x)
-      go m = spoilt no_expr false (unknown look x)
+  name_term x = meant_term x (meaning look x)
 
   -- ---- an index
 
@@ -177,34 +177,34 @@ module _ (look : Look) where
   memory_index x m i = cond i.is_constant (word_bits x (word_of m (own_value i.expr)))
       (cond (2 ^ size i.expr == m.words) (variable (words_from m i.expr 0 (m.words - 1))) (spoilt i.expr false (breaks 315 x)))
 
+  abbrev pub also_first : List Broken → Term → Term
+  also_first bs t = spoilt t.expr t.is_constant (bs ++ t.broken)
+
+  abbrev pub is_param : Option Meaning → Bool
+  is_param (Some (a_param p)) = true
+  is_param m = false
+
+  abbrev pub meant_index : Text → Term → Option Meaning → Term
+  meant_index x i (Some (a_param p)) = param_index x p i
+  meant_index x i (Some (a_signal s)) = signal_index x s i
+  meant_index x i (Some (a_memory m)) = memory_index x m i
+  meant_index x i m = spoilt i.expr false []
+
   abbrev pub index_term : Text → Term → Term
-  index_term x i = also_first (unknown look x ++ i.broken) (cond (is_sound i) (go (meaning look x)) (spoilt i.expr (on_param (meaning look x) && i.is_constant) []))
-    where
-      also_first : List Broken → Term → Term
-      also_first bs t = spoilt t.expr t.is_constant (bs ++ t.broken)
-
-      on_param : Option Meaning → Bool
-      on_param (Some (a_param p)) = true
-      on_param m = false
-
-      go : Option Meaning → Term
-      go (Some (a_param p)) = param_index x p i
-      go (Some (a_signal s)) = signal_index x s i
-      go (Some (a_memory m)) = memory_index x m i
-      go m = spoilt i.expr false []
+  index_term x i = also_first (unknown look x ++ i.broken) (cond (is_sound i) (meant_index x i (meaning look x)) (spoilt i.expr (is_param (meaning look x) && i.is_constant) []))
 
   -- ---- a part: E314, and E319 of a memory
 
+  abbrev pub meant_part : Text → Option Range → Option Meaning → Term
+  meant_part x (Some p) (Some (a_param a)) = param_bits x a (part_select a.range p)
+  meant_part x (Some p) (Some (a_signal s)) = signal_bits x s (part_select (range_at look.entries s) p)
+  meant_part x None (Some (a_param a)) = spoilt no_expr true []
+  meant_part x o (Some (a_memory m)) = spoilt no_expr false (breaks 319 x)
+  meant_part x o m = spoilt no_expr false []
+
   abbrev pub part_term : Text → Term → Term → Term
-  part_term x left right = let l = as_bound left in let r = as_bound right in let rest = go (range_of l r) (meaning look x) in
+  part_term x left right = let l = as_bound left in let r = as_bound right in let rest = meant_part x (range_of l r) (meaning look x) in
       spoilt rest.expr rest.is_constant (unknown look x ++ l.broken ++ r.broken ++ rest.broken)
-    where
-      go : Option Range → Option Meaning → Term
-      go (Some p) (Some (a_param a)) = param_bits x a (part_select a.range p)
-      go (Some p) (Some (a_signal s)) = signal_bits x s (part_select (range_at look.entries s) p)
-      go None (Some (a_param a)) = spoilt no_expr true []
-      go o (Some (a_memory m)) = spoilt no_expr false (breaks 319 x)
-      go o m = spoilt no_expr false []
 
   -- ---- expressions
 

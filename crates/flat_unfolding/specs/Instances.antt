@@ -92,20 +92,21 @@ pub record Linked : Type 0 where
   pub link : Option Link
   pub broken : List Broken
 
+module _ (look : Look) (value : ExprTree) where
+  abbrev pub only_read : Linked
+  only_read = record { link = None; broken = (read look value).broken }
+
+  abbrev pub linked_at : Text → Option Direction → Linked
+  linked_at x None = only_read
+  linked_at x (Some inward) = let v = read look value in record { link = Some (into x v.expr (reset_of look value)); broken = v.broken }
+  linked_at x (Some d) = let a = driven look value in record { link = Some (out_of x a.target); broken = a.broken }
+
+  abbrev pub linked_to : ModuleTree → Option Text → Linked
+  linked_to m None = only_read
+  linked_to m (Some x) = linked_at x (port_direction m x)
+
 abbrev pub linked : Look → ModuleTree → Joint → Linked
-linked look m j = with_name j.name
-  where
-    only_read : Linked
-    only_read = record { link = None; broken = (read look j.value).broken }
-
-    go : Text → Option Direction → Linked
-    go x None = only_read
-    go x (Some inward) = let v = read look j.value in record { link = Some (into x v.expr (reset_of look j.value)); broken = v.broken }
-    go x (Some d) = let a = driven look j.value in record { link = Some (out_of x a.target); broken = a.broken }
-
-    with_name : Option Text → Linked
-    with_name None = only_read
-    with_name (Some x) = go x (port_direction m x)
+linked look m j = linked_to look j.value m j.name
 
 abbrev pub is_for : Text → Joint → Bool
 is_for x j = option_map_or (bytes_eq x) j.name false

@@ -1,15 +1,25 @@
 -- What holds of every unfolding.
-use Rattle.std.specs.Prelude.{◌≡◌, ℕ, ◌+◌, ◌<◌, ◌≤◌, List, [], ◌∷◌, ◌++◌, length, map, All, Contains, Option, Some}
+use Rattle.std.specs.Prelude.{◌≡◌, ◌≢◌, ℕ, ◌+◌, ◌<◌, ◌≤◌, List, [], ◌∷◌, ◌++◌, length, map, All, Contains, Option, Some}
 use Rattle.cdc_base.specs.declared.signal.ResetPin.{ResetPin}
 use Rattle.verilog_reading.specs.SourceTree.{ModuleTree}
 use Rattle.flat_meaning.specs.Law.{AreWords}
-use Rattle.flat_meaning.specs.Design.{Flat, size_in, drivers}
+use Rattle.cdc_base.specs.declared.signal.SigKind.TheVariants.{Register}
+use Rattle.flat_meaning.specs.Flat.{Stmt}
+use Rattle.flat_meaning.specs.Design.{Flat, size_in, kind_in, drivers}
+use Rattle.flat_meaning.specs.Sound.{IsSound}
+use Rattle.flat_unfolding.specs.Drivers.{assigned_by, bodies}
 use Rattle.flat_unfolding.specs.Outcome.{Text, Broken, Order, first_of_all, good}
 use Rattle.cdc_base.specs.declared.fault.Place.{Place}
 use Rattle.flat_unfolding.specs.Names.{Range, Entry}
 use Rattle.flat_unfolding.specs.Parameters.{Overrides}
 use Rattle.flat_unfolding.specs.Instances.{Link, connected}
 use Rattle.flat_unfolding.specs.Design.{Design, Stage}
+use Rattle.flat_unfolding.specs.Formed.{IsSourceFormed}
+use Rattle.flat_form.specs.declared.flat.Flat as f
+use Rattle.flat_form.specs.View.{flat_of}
+use Rattle.flat_form.specs.Sizes.{IsWellSized}
+use Rattle.flat_unfolding.specs.Sized.{IsSizedFlat}
+use Rattle.flat_unfolding.specs.Widths.{KeepsSizes}
 use Rattle.flat_unfolding.specs.Unfolding.{module_named, visit, unfolded}
 
 -- of the rules that an item breaks the refusal tells one
@@ -53,3 +63,24 @@ StandsBehind before after = (more : List Kept) × (map kept after ≡ map kept b
 abbrev pub NumbersLaw : Type 0
 NumbersLaw = (modules : List ModuleTree) (n : ℕ) (prefix : Text) (visiting : List Text) (m : ModuleTree) (overrides : Overrides) (links : List Link) (d e : Design)
     → visit modules n prefix visiting m overrides (connected links) d ≡ good e → StandsBehind d.entries e.entries
+
+-- each word of the flat design has 1 to 64 bits, numbers fit in theirs, and what is selected lies in its signal
+abbrev pub SizesLaw : Type 0
+SizesLaw = (modules : List ModuleTree) → IsSourceFormed modules → (top : Text) (resets : List ResetPin) (f : Flat) → unfolded modules top resets ≡ good f → IsSizedFlat f
+
+-- the flat design keeps the rules that the law of elaboration rests on
+abbrev pub SoundLaw : Type 0
+SoundLaw = (modules : List ModuleTree) → IsSourceFormed modules → (top : Text) (resets : List ResetPin) (f : Flat) → unfolded modules top resets ≡ good f → IsSound f
+
+-- what the layers above may rest on: one clocked process assigns a register, none another signal, and a clock has one bit
+pub record IsClockedOnce (f : Flat) : Type 0 where
+  pub registers : (s : ℕ) → kind_in f.signals s ≡ Register → assigned_by (bodies f) s ≡ 1
+  pub others : (s : ℕ) → kind_in f.signals s ≢ Register → assigned_by (bodies f) s ≡ 0
+  pub clocks : All (λ (p : ℕ × Stmt). size_in f p.0 ≡ 1) f.clocked
+
+abbrev pub ClockedOnceLaw : Type 0
+ClockedOnceLaw = (modules : List ModuleTree) → IsSourceFormed modules → (top : Text) (resets : List ResetPin) (f : Flat) → unfolded modules top resets ≡ good f → IsClockedOnce f
+
+-- with the widths that it keeps: where each is the size of what it stands for, a flat design that unfolds so is well sized
+abbrev pub WellSizedLaw : Type 0
+WellSizedLaw = (modules : List ModuleTree) → IsSourceFormed modules → (top : Text) (resets : List ResetPin) (flat : f.Flat) → unfolded modules top resets ≡ good (flat_of flat) → KeepsSizes flat → IsWellSized flat

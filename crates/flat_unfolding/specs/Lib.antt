@@ -17,4 +17,7 @@ pub mod Instances
 pub mod Signals
 pub mod Drivers
 pub mod Unfolding
+pub mod Formed
+pub mod Sized
+pub mod Widths
 pub mod Laws

@@ -111,12 +111,12 @@ abbrev pub level : Bool → ResetPin → ℕ
 level active r = cond active (cond r.high 1 0) (cond r.high 0 1)
 
 -- the bits of a signal from a place on: a reset reads as its level
+abbrev pub bits_read : (active : Bool) → (sig at width : ℕ) → Option ResetPin → Expr
+bits_read active s at w None = Read s at w
+bits_read active s at w (Some r) = Number w (cond (at == 0) (level active r) 0)
+
 abbrev pub bits_of : Look → (sig at width : ℕ) → Expr
-bits_of look s at w = go (reset_at look.entries s)
-  where
-    go : Option ResetPin → Expr
-    go None = Read s at w
-    go (Some r) = Number w (cond (at == 0) (level look.active r) 0)
+bits_of look s at w = bits_read look.active s at w (reset_at look.entries s)
 
 abbrev pub whole_of : Look → ℕ → Expr
 whole_of look s = bits_of look s 0 (width_at look.entries s)

@@ -41,21 +41,21 @@ second_edge edges = None
 
 module _ (look : Look) where
   -- E305, and E316: the name of an edge is that of a signal
+  abbrev pub meant_edge : Text → Edge → Option Meaning → List Broken
+  meant_edge first e (Some (a_signal s)) = []
+  meant_edge first e (Some m) = breaks 316 first
+  meant_edge first e None = unknown look e.name
+
   abbrev pub edge_rules : Text → Edge → List Broken
-  edge_rules first e = go (meaning look e.name)
-    where
-      go : Option Meaning → List Broken
-      go (Some (a_signal s)) = []
-      go (Some m) = breaks 316 first
-      go None = unknown look e.name
+  edge_rules first e = meant_edge first e (meaning look e.name)
+
+  abbrev pub meant_clock : Option Meaning → Option ℕ
+  meant_clock (Some (a_signal s)) = Some s
+  meant_clock m = None
 
   abbrev pub clock_of : List Edge → Option ℕ
   clock_of [] = None
-  clock_of (e ∷ rest) = go (meaning look e.name)
-    where
-      go : Option Meaning → Option ℕ
-      go (Some (a_signal s)) = Some s
-      go m = None
+  clock_of (e ∷ rest) = meant_clock (meaning look e.name)
 
   -- E316: the event has its form, and the clock one bit
   abbrev pub event_rules : List Edge → List Broken
@@ -76,12 +76,12 @@ module _ (look : Look) where
   clocked_rules edges body = event_rules edges ++ (done look (edge_kind edges) body).broken ++ reset_rules look (first_edge edges) (second_of edges) (form_of edges body)
 
   -- the `else` branch of reset form, else the whole
+  abbrev pub body_without : StmtTree → Option ResetForm → Stmt
+  body_without body None = (done look clocked body).stmt
+  body_without body (Some f) = (done look clocked f.rest).stmt
+
   abbrev pub clocked_body : List Edge → StmtTree → Stmt
-  clocked_body edges body = go (form_of edges body)
-    where
-      go : Option ResetForm → Stmt
-      go None = (done look clocked body).stmt
-      go (Some f) = (done look clocked f.rest).stmt
+  clocked_body edges body = body_without body (form_of edges body)
 
   abbrev pub reset_gives : Option ResetForm → List Given
   reset_gives None = []

@@ -75,9 +75,9 @@ module _ (wid : ℕ → ℕ) where
   is_latch body s i = may_assign wid body s i && (not (surely wid body none s i) || early body none s i)
 
 -- E311 names the first such signal by its number
+abbrev pub latch_of : List Entry → Option ℕ → List Broken
+latch_of entries None = []
+latch_of entries (Some s) = breaks 311 (own_at entries s)
+
 abbrev pub latch_rule : List Entry → Stmt → List Broken
-latch_rule entries body = go (first_from (λ s. any_below (is_latch (width_at entries) body s) (width_at entries s)) 0 (length entries))
-  where
-    go : Option ℕ → List Broken
-    go None = []
-    go (Some s) = breaks 311 (own_at entries s)
+latch_rule entries body = latch_of entries (first_from (λ s. any_below (is_latch (width_at entries) body s) (width_at entries s)) 0 (length entries))

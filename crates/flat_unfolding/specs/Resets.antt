@@ -128,13 +128,13 @@ pub record ResetForm : Type 0 where
   pub given : Option (List Given)
   pub rest : StmtTree
 
+abbrev pub form_in : Look → StmtTree → Option ResetForm
+form_in look (when c s) = option_map (λ ss. record { signals = ss; given = branch_given look s; rest = null }) (reset_signals look c)
+form_in look (either c s z) = option_map (λ ss. record { signals = ss; given = branch_given look s; rest = z }) (reset_signals look c)
+form_in look s = None
+
 abbrev pub reset_form : Look → StmtTree → Option ResetForm
-reset_form look body = go (peeled body)
-  where
-    go : StmtTree → Option ResetForm
-    go (when c s) = option_map (λ ss. record { signals = ss; given = branch_given look s; rest = null }) (reset_signals look c)
-    go (either c s z) = option_map (λ ss. record { signals = ss; given = branch_given look s; rest = z }) (reset_signals look c)
-    go s = None
+reset_form look body = form_in look (peeled body)
 
 -- the edge at which a reset becomes active
 abbrev pub is_active_edge : EdgeKind → ResetPin → Bool

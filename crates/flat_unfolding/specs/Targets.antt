@@ -1,5 +1,5 @@
 -- Targets with their names resolved, and the rules that they break.
-use Rattle.std.specs.Prelude.{ℕ, ◌+◌, ◌^◌, Bool, true, false, cond, not, ◌&&◌, ◌==◌, nat_lt, List, [], ◌∷◌, ◌++◌, map, flat_map, Option, Some, None, slice_get}
+use Rattle.std.specs.Prelude.{ℕ, ◌+◌, ◌^◌, Bool, true, false, cond, not, ◌&&◌, ◌==◌, nat_lt, List, [], ◌∷◌, ◌++◌, map, flat_map, Option, Some, None, slice_get, option_map}
 use Rattle.std.specs.Option.{option_map_or, option_or}
 use Rattle.verilog_reading.specs.ExprTree.{ExprTree, name, index, part, join, ExprTrees, no_trees, and_trees, TargetTree, whole, index_of, part_of, join_of, TargetTrees, no_parts, and_parts}
 use Rattle.flat_meaning.specs.Flat.{Expr, size, Target, Whole, Part, Pick, Group, Targets, no_targets, target}
@@ -67,13 +67,13 @@ module _ (look : Look) (use_ : Use) where
   abbrev pub name_rules : Text → List Broken
   name_rules x = unknown look x ++ breaks_if (not (is_assignable use_ look.entries (meaning look x))) 313 x
 
+  abbrev pub meant_whole : Text → Option Meaning → Aim
+  meant_whole x (Some (a_signal s)) = aim_at (Whole s) (width_at look.entries s)
+  meant_whole x (Some (a_memory m)) = nowhere (breaks 319 x)
+  meant_whole x m = nowhere []
+
   abbrev pub whole_aim : Text → Aim
-  whole_aim x = behind (name_rules x) (go (meaning look x))
-    where
-      go : Option Meaning → Aim
-      go (Some (a_signal s)) = aim_at (Whole s) (width_at look.entries s)
-      go (Some (a_memory m)) = nowhere (breaks 319 x)
-      go m = nowhere []
+  whole_aim x = behind (name_rules x) (meant_whole x (meaning look x))
 
   -- a constant select: E314 outside the range
   abbrev pub select_aim : Text → ℕ → Option Select → Aim
@@ -93,31 +93,31 @@ module _ (look : Look) (use_ : Use) where
   memory_goal x m i = cond i.is_constant (fixed (word_aim x (word_of m (own_value i.expr))))
       (cond (2 ^ size i.expr == m.words) (a_word m i.expr []) (fixed (nowhere (breaks 315 x))))
 
-  abbrev pub index_goal : Text → Term → Goal
-  index_goal x i = after (name_rules x ++ i.broken) (cond (is_sound i) (go (meaning look x)) (fixed (nowhere [])))
-    where
-      after : List Broken → Goal → Goal
-      after bs (fixed a) = fixed (behind bs a)
-      after bs (a_word m e cs) = a_word m e (bs ++ cs)
+  abbrev pub after : List Broken → Goal → Goal
+  after bs (fixed a) = fixed (behind bs a)
+  after bs (a_word m e cs) = a_word m e (bs ++ cs)
 
-      go : Option Meaning → Goal
-      go (Some (a_signal s)) = fixed (signal_aim x s i)
-      go (Some (a_memory m)) = memory_goal x m i
-      go m = fixed (nowhere [])
+  abbrev pub meant_goal : Text → Term → Option Meaning → Goal
+  meant_goal x i (Some (a_signal s)) = fixed (signal_aim x s i)
+  meant_goal x i (Some (a_memory m)) = memory_goal x m i
+  meant_goal x i m = fixed (nowhere [])
+
+  abbrev pub index_goal : Text → Term → Goal
+  index_goal x i = after (name_rules x ++ i.broken) (cond (is_sound i) (meant_goal x i (meaning look x)) (fixed (nowhere [])))
 
   -- E319: such a word stands in a target concatenation, or where no process assigns
   abbrev pub as_fixed : Text → Goal → Aim
   as_fixed x (fixed a) = a
   as_fixed x (a_word m i bs) = nowhere (bs ++ breaks 319 x)
 
+  abbrev pub meant_range : Text → Option Range → Option Meaning → Aim
+  meant_range x (Some p) (Some (a_signal s)) = select_aim x s (part_select (range_at look.entries s) p)
+  meant_range x o (Some (a_memory m)) = nowhere (breaks 319 x)
+  meant_range x o m = nowhere []
+
   abbrev pub part_aim : Text → Term → Term → Aim
   part_aim x left right = let l = as_bound left in let r = as_bound right in
-      behind (name_rules x ++ l.broken ++ r.broken) (go (range_of l r) (meaning look x))
-    where
-      go : Option Range → Option Meaning → Aim
-      go (Some p) (Some (a_signal s)) = select_aim x s (part_select (range_at look.entries s) p)
-      go o (Some (a_memory m)) = nowhere (breaks 319 x)
-      go o m = nowhere []
+      behind (name_rules x ++ l.broken ++ r.broken) (meant_range x (range_of l r) (meaning look x))
 
   abbrev mutual
     pub aim : TargetTree → Aim
@@ -148,12 +148,12 @@ abbrev mutual
   first_pick_in (target t ts) = option_or (first_pick t) (first_pick_in ts)
 
 -- E313: no variable index chooses what `assign`, a gate or an output assigns
+abbrev pub picked_rule : Look → Option ℕ → List Broken
+picked_rule look None = []
+picked_rule look (Some s) = breaks 313 (own_at look.entries s)
+
 abbrev pub pick_rule : Look → Target → List Broken
-pick_rule look t = go (first_pick t)
-  where
-    go : Option ℕ → List Broken
-    go None = []
-    go (Some s) = breaks 313 (own_at look.entries s)
+pick_rule look t = picked_rule look (first_pick t)
 
 abbrev pub wire_aim : Look → TargetTree → Aim
 wire_aim look t = let a = aim look of_wires t in record a { broken = a.broken ++ pick_rule look a.target }
@@ -176,11 +176,7 @@ abbrev mutual
   as_target (name x) = Some (whole x)
   as_target (index x i) = Some (index_of x i)
   as_target (part x l r) = Some (part_of x l r)
-  as_target (join parts) = option_map_join (as_targets parts)
-    where
-      option_map_join : Option TargetTrees → Option TargetTree
-      option_map_join None = None
-      option_map_join (Some ts) = Some (join_of ts)
+  as_target (join parts) = option_map join_of (as_targets parts)
   as_target e = None
 
   pub as_targets : ExprTrees → Option TargetTrees
@@ -188,9 +184,9 @@ abbrev mutual
   as_targets (and_trees e rest) = both and_parts (as_target e) (as_targets rest)
 
 -- the target that a gate's first terminal or an output's connection drives: E313 where it is no target
+abbrev pub driven_at : Look → Option TargetTree → Term → Aim
+driven_at look (Some t) r = wire_aim look t
+driven_at look None r = record { target = Group no_targets; bits = cond (is_sound r) (Some (size r.expr)) None; broken = r.broken ++ breaks 313 [] }
+
 abbrev pub driven : Look → ExprTree → Aim
-driven look e = go (as_target e) (read look e)
-  where
-    go : Option TargetTree → Term → Aim
-    go (Some t) r = wire_aim look t
-    go None r = record { target = Group no_targets; bits = cond (is_sound r) (Some (size r.expr)) None; broken = r.broken ++ breaks 313 [] }
+driven look e = driven_at look (as_target e) (read look e)

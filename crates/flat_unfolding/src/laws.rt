@@ -1,5 +1,5 @@
 //! What holds of every unfolding.
-ghost use Rattle.flat_unfolding.specs.Laws.{OneIsToldLaw, FirstIsToldLaw, OneDriverLaw, LimitsLaw, DepthLaw, NumbersLaw};
+ghost use Rattle.flat_unfolding.specs.Laws.{OneIsToldLaw, FirstIsToldLaw, OneDriverLaw, LimitsLaw, DepthLaw, NumbersLaw, SizesLaw, WellSizedLaw, SoundLaw, ClockedOnceLaw};
 
 /// Of the rules that an item breaks, the refusal tells the one that is tried first.
 pub fn first_rule_is_told()
@@ -25,4 +25,20 @@ pub fn depth_is_no_rule()
 /// Signals are numbered as visits declare them: a module's come before those of its instances.
 pub fn signals_keep_their_numbers()
     ensures { NumbersLaw }
+{}
+
+/// Each word of a flat design has 1 to 64 bits, and what is selected lies in its signal.
+pub fn words_have_bits()
+    ensures bits { SizesLaw }
+    ensures kept { WellSizedLaw }
+{}
+
+/// A flat design keeps the rules that the law of elaboration rests on: no latch, targets of their kinds, and reads inside signals.
+pub fn unfoldings_are_sound()
+    ensures { SoundLaw }
+{}
+
+/// A register is what exactly one clocked process assigns; clocks have one bit.
+pub fn registers_have_one_process()
+    ensures { ClockedOnceLaw }
 {}

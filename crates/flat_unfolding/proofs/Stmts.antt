@@ -1,0 +1,112 @@
+-- Statements that break no rule are well sized.
+use Rattle.std.proofs.Common.{◌≡◌, ℕ, zero, suc, ◌+◌, ◌^◌, ◌<◌, ◌≤◌, Bool, true, false, cond, ◌&&◌, List, [], ◌∷◌, ◌++◌, refl, arith, rules}
+use Rattle.std.specs.Prelude.{All}
+use Rattle.std.proofs.lemmas.List.Elements.{All-head, All-tail}
+use Rattle.verilog_reading.specs.ExprTree.{ExprTree, TargetTree}
+use Rattle.verilog_reading.specs.StmtTree.{StmtTree, null, set, when, either, switch, switch_else, block, StmtTrees, no_rows, and_rows, ArmTrees, no_arms, and_arms}
+use Rattle.flat_meaning.specs.Flat.{Expr, size, case_size, Stmt, Null, Items, no_items, default_item, item}
+use Rattle.flat_meaning.specs.Full.{is_full}
+use Rattle.flat_meaning.specs.Law.{AreWords}
+use Rattle.flat_unfolding.specs.Outcome.{Text, breaks_if}
+use Rattle.flat_unfolding.specs.Names.{Memory, a_memory, Look, meaning, width_at}
+use Rattle.flat_unfolding.specs.Expressions.{Term, is_sound, all_broken, joined, read}
+use Rattle.flat_unfolding.specs.Targets.{of_registers, Goal, fixed, a_word, goal, first_name}
+use Rattle.flat_unfolding.specs.Memories.{writes_from}
+use Rattle.flat_unfolding.specs.Statements.{Kind, is_stray, Arms, word_set, goal_broken, is_word, with_last, missing_last, set_done, read_list, done, done_all, arms}
+use Rattle.flat_unfolding.specs.Formed.{IsFormed, AreLabels, IsStmtFormed, AreRowsFormed, AreArmsFormed}
+use Rattle.flat_unfolding.specs.Sized.{IsSized, AreSized, AreLabelsSized, IsStmtSized, AreItemsSized, AreStmtsSized}
+use Rattle.flat_unfolding.proofs.Steps.{not_broken, none_of_both}
+use Rattle.flat_unfolding.proofs.Known.{reg_at, Stands, StandsIf}
+use Rattle.flat_unfolding.proofs.Terms.{IsTermSized, sized, size_wide}
+use Rattle.flat_unfolding.proofs.Aims.{IsGoalSized, goal_sized}
+
+module _ (look : Look) (words : AreWords (width_at look.entries)) (known : (x : Text) → StandsIf look.entries (meaning look x)) (kind : Kind) where
+  abbrev wid : ℕ → ℕ
+  wid = width_at look.entries
+
+  abbrev is_reg : ℕ → Bool
+  is_reg = reg_at look.entries
+
+  abbrev IsDone : Stmt → Type 0
+  IsDone = IsStmtSized wid is_reg
+
+  -- ---- words of memories
+
+  writes_sized : (m : Memory) (i v : Expr) → Stands look.entries (a_memory m) → 2 ^ size i ≡ m.words → IsSized wid i → IsSized wid v → (n more : ℕ) → n + more ≤ m.words
+      → AreStmtsSized wid is_reg (writes_from m i v n more)
+  writes_sized m i v h k s t n zero l = tt
+  writes_sized m i v h k s t n (suc more) l =
+      let w = size_wide wid words i s in let a : n < m.words = omega arith in let o = h.1 n a in
+      (((refl, s, (w.0, w.1, (let b : n < 2 ^ size i = omega arith in b))), ((o.1, o.0), t), tt), writes_sized m i v h k s t (suc n) more (let c : suc n + more ≤ m.words = omega arith in c))
+
+  word_set_sized : (blocking : Bool) (g : Goal) (v : Expr) → IsGoalSized look words known of_registers is_reg g → goal_broken g ≡ [] → (blocking && is_word g) ≡ false → IsSized wid v
+      → IsDone (word_set blocking g v)
+  word_set_sized blocking (fixed a) v h e b s = ((h e).0, s)
+  word_set_sized true (a_word m i bs) v h e b s = absurd (search (rules, b))
+  word_set_sized false (a_word m i bs) v h e b s = let g = h e in writes_sized m i v g.2 g.0 g.1 s 0 m.words (let l : 0 + m.words ≤ m.words = omega arith in l)
+
+  set_sized : (blocking : Bool) (t : TargetTree) (g : Goal) (v : Term) → IsGoalSized look words known of_registers is_reg g → IsTermSized look words v → (set_done look kind blocking t g v).broken ≡ []
+      → IsDone (set_done look kind blocking t g v).stmt
+  set_sized blocking t g v h k e =
+      let p = none_of_both (goal_broken g ++ v.broken ++ breaks_if (is_stray kind blocking) 313 (first_name t)) (breaks_if (blocking && is_word g) 319 (first_name t)) e in
+      let q = none_of_both (goal_broken g ++ v.broken) (breaks_if (is_stray kind blocking) 313 (first_name t)) p.0 in
+      let r = none_of_both (goal_broken g) v.broken q.0 in
+      word_set_sized blocking g v.expr h r.0 (not_broken (blocking && is_word g) 319 (first_name t) p.1) (k r.1)
+
+  -- ---- items of a `case`
+
+  last_sized : (is last : Items) → AreItemsSized wid is_reg is → AreItemsSized wid is_reg last → AreItemsSized wid is_reg (with_last is last)
+  last_sized no_items last h k = k
+  last_sized (default_item s) last h k = h
+  last_sized (item ls s rest) last h k = (h.0, h.1, last_sized rest last h.2 k)
+
+  missing_sized : (e : Term) (rows : Arms) → AreItemsSized wid is_reg (missing_last e rows)
+  missing_sized e rows = go (is_sound e && rows.is_sound && rows.is_constant && is_full (case_size e.expr rows.items) rows.items)
+    where
+      go : (b : Bool) → AreItemsSized wid is_reg (cond b no_items (default_item Null))
+      go true = tt
+      go false = tt
+
+  list_sized : (es : List ExprTree) → All IsFormed es → all_broken (read_list look kind es) ≡ [] → AreSized wid (joined (read_list look kind es))
+  list_sized [] h e = tt
+  list_sized (a ∷ es) h e =
+      let p = none_of_both (read look a).broken (all_broken (read_list look kind es)) e in
+      (sized look words known a (All-head IsFormed a es h) p.0, list_sized es (All-tail IsFormed a es h) p.1)
+
+  labels_sized : (es : List ExprTree) → AreLabels es → all_broken (read_list look kind es) ≡ [] → AreLabelsSized wid (joined (read_list look kind es))
+  labels_sized [] h e = absurd h
+  labels_sized (a ∷ es) h e = list_sized (a ∷ es) h e
+
+  -- ---- statements
+
+  mutual
+    pub done_sized : (s : StmtTree) → IsStmtFormed s → (done look kind s).broken ≡ [] → IsDone (done look kind s).stmt
+    done_sized null h e = tt
+    done_sized (set blocking t v) h e = set_sized blocking t (goal look t) (read look v) (goal_sized look words known t h.0) (sized look words known v h.1) e
+    done_sized (when c s) h e = let p = none_of_both (read look c).broken (done look kind s).broken e in (sized look words known c h.0 p.0, done_sized s h.1 p.1, tt)
+    done_sized (either c s z) h e =
+        let p = none_of_both ((read look c).broken ++ (done look kind s).broken) (done look kind z).broken e in
+        let q = none_of_both (read look c).broken (done look kind s).broken p.0 in
+        (sized look words known c h.0 q.0, done_sized s h.1 q.1, done_sized z h.2 p.1)
+    done_sized (switch v rows) h e =
+        let k = read look v in let a = arms look kind rows in
+        let p = none_of_both k.broken a.broken e in
+        (sized look words known v h.0 p.0, last_sized a.items (missing_last k a) (arms_sized rows h.1 p.1) (missing_sized k a))
+    done_sized (switch_else v rows d) h e =
+        let k = read look v in let a = arms look kind rows in let z = done look kind d in
+        let p = none_of_both (k.broken ++ a.broken) z.broken e in
+        let q = none_of_both k.broken a.broken p.0 in
+        (sized look words known v h.0 q.0, last_sized a.items (default_item z.stmt) (arms_sized rows h.1 q.1) (done_sized d h.2 p.1))
+    done_sized (block rows) h e = all_done_sized rows h e
+
+    pub all_done_sized : (ss : StmtTrees) → AreRowsFormed ss → (done_all look kind ss).broken ≡ [] → AreStmtsSized wid is_reg (done_all look kind ss).stmts
+    all_done_sized no_rows h e = tt
+    all_done_sized (and_rows s rest) h e = let p = none_of_both (done look kind s).broken (done_all look kind rest).broken e in (done_sized s h.0 p.0, all_done_sized rest h.1 p.1)
+
+    pub arms_sized : (rows : ArmTrees) → AreArmsFormed rows → (arms look kind rows).broken ≡ [] → AreItemsSized wid is_reg (arms look kind rows).items
+    arms_sized no_arms h e = tt
+    arms_sized (and_arms labels s rest) h e =
+        let ls = read_list look kind labels in let a = done look kind s in let b = arms look kind rest in
+        let p = none_of_both (all_broken ls ++ a.broken) b.broken e in
+        let q = none_of_both (all_broken ls) a.broken p.0 in
+        (labels_sized labels h.0 q.0, done_sized s h.1 q.1, arms_sized rest h.2 p.1)

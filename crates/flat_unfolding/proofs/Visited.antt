@@ -1,0 +1,207 @@
+-- What visits make of a design that is well sized, and the flat design that comes of it.
+use Rattle.std.proofs.Common.{◌≡◌, ℕ, zero, suc, ◌≤◌, Bool, true, false, cond, List, [], ◌∷◌, ◌++◌, length, map, Option, Some, None, refl, subst, rules, find, bytes_eq}
+use Rattle.std.specs.Prelude.{All, codes, flat_map, filter_map}
+use Rattle.std.specs.List.{cons_option}
+use Rattle.std.proofs.lemmas.List.Elements.{All-head, All-cons, All-nil, All-tail, All-push, All-append}
+use Rattle.cdc_base.specs.declared.fault.Place.{Place}
+use Rattle.cdc_base.specs.declared.signal.Signal.{Signal}
+use Rattle.cdc_base.specs.declared.signal.ResetPin.{ResetPin}
+use Rattle.cdc_base.specs.Words.{is_in}
+use Rattle.verilog_reading.specs.SourceTree.{ParamTree, DeclTree, PortTree, ConnsTree, BodyTree, param, decl, assign, gate, instance, always, initial, ItemTree, ModuleTree}
+use Rattle.flat_meaning.specs.Flat.{Expr, size, Target, Stmt}
+use Rattle.flat_meaning.specs.Design.{Flat, size_in}
+use Rattle.flat_unfolding.specs.Outcome.{Text, Outcome, good, each, refused_if, by_number, judged}
+use Rattle.flat_unfolding.specs.Names.{an_instance, Meaning, is_declared, Entry, width_at, printed_part}
+use Rattle.flat_unfolding.specs.Parameters.{Override, Overrides, parameter, param_in, params_of, parameters}
+use Rattle.flat_unfolding.specs.Declarations.{header_of, header_decls, declarations}
+use Rattle.flat_unfolding.specs.Instances.{override_rules, overrides_of, connection_rules, links_of, connected}
+use Rattle.flat_unfolding.specs.Design.{Design, no_design, Stage, look_of}
+use Rattle.flat_unfolding.specs.Drivers.{driven_once}
+use Rattle.flat_unfolding.specs.Signals.{signal_of, signals_from, flat_design}
+use Rattle.flat_unfolding.specs.Starts.{initial_starts, so_far}
+use Rattle.flat_unfolding.specs.Unfolding.{module_named, declared_value, Visit, instance_of, instance_item, item_of, item, header_values, visit, top_ports, modules_differ, finished, from_top, unfolded}
+use Rattle.flat_unfolding.specs.Formed.{IsFormed, IsFormedIf, IsPortFormed, IsBodyFormed, IsModuleFormed, IsSourceFormed}
+use Rattle.flat_unfolding.specs.Sized.{IsSized, IsTargetSized, IsStmtSized, any, IsSizedFlat}
+use Rattle.flat_unfolding.specs.Laws.{SizesLaw}
+use Rattle.flat_unfolding.proofs.Steps.{good_is, good_then, judged_is, none_of_both, some_is}
+use Rattle.flat_unfolding.proofs.Terms.{IsWide}
+use Rattle.flat_unfolding.proofs.Known.{reg_at, top_at, IsNamed}
+use Rattle.flat_unfolding.proofs.Grown.{told_none, width_some, Grows, grows_itself, grows_on, names_on, all_on, expr_agrees, target_agrees, stmt_agrees}
+use Rattle.flat_unfolding.proofs.Stages.{IsEntry, drivable_at, IsAssignIn, IsCombIn, IsClockedIn, IsDesign, IsStage, IsNext, stays, assign_next, gate_next, always_next, starts_next, value_next}
+use Rattle.flat_unfolding.proofs.Declared.{IsDeclaring, AreWide, parameter_declares, declarations_declare}
+use Rattle.flat_unfolding.proofs.Directed.{declarations_know_ports}
+use Rattle.flat_unfolding.proofs.Ports.{links_fine, overrides_fine, OpensPorts, connected_opens, top_opens}
+use Rattle.flat_unfolding.proofs.Visits.{signal_widths}
+
+-- ---- steps over what is well formed
+
+each_all : {A S : Type 0} (Q : A → Type 0) (P : S → Type 0) (f : S → A → Outcome S) → ((s : S) (a : A) (t : S) → Q a → f s a ≡ good t → P s → P t) → (s : S) (xs : List A) (t : S) → All Q xs → each f s xs ≡ good t → P s → P t
+each_all Q P f h s [] t q e p = subst P (good_is s t e) p
+each_all Q P f h s (x ∷ xs) t q e p = let g = good_then (f s x) (λ u. each f u xs) t e in each_all Q P f h g.0 xs t (All-tail Q x xs q) g.2 (h s x g.0 (All-head Q x xs q) g.1 p)
+
+-- a stage behind the first
+record IsBehind (d : Design) (s : Stage) : Type 0 where
+  pub stage : IsStage s
+  pub grows : Grows d.entries s.design.entries
+
+next_behind : (d : Design) (s t : Stage) → IsNext s t → IsBehind d s → IsBehind d t
+next_behind d s t n h = record { stage = n.stage; grows = grows_on d.entries s.design.entries t.design.entries h.grows n.grows }
+
+map_all : {A B : Type 0} (P : B → Type 0) (f : A → B) (xs : List A) → All (λ a. P (f a)) xs → All P (map f xs)
+map_all P f [] h = All-nil P
+map_all P f (x ∷ xs) h = All-cons P (f x) (map f xs) (All-head (λ a. P (f a)) x xs h) (map_all P f xs (All-tail (λ a. P (f a)) x xs h))
+
+abbrev IsParamFormed : Place × ParamTree → Type 0
+IsParamFormed q = IsFormed q.1.value
+
+item_params : (i : ItemTree) → IsBodyFormed i.body → All IsParamFormed (param_in i)
+item_params i = go i.body
+  where
+    go : (b : BodyTree) → IsBodyFormed b → All IsParamFormed (param_in (record { place = i.place; body = b }))
+    go (param p) h = All-cons IsParamFormed (i.place, p) [] h (All-nil IsParamFormed)
+    go (decl d) h = All-nil IsParamFormed
+    go (assign x v) h = All-nil IsParamFormed
+    go (gate kind es) h = All-nil IsParamFormed
+    go (instance child params x ports) h = All-nil IsParamFormed
+    go (always event body) h = All-nil IsParamFormed
+    go (initial body) h = All-nil IsParamFormed
+
+items_params : (is : List ItemTree) → All (λ (i : ItemTree). IsBodyFormed i.body) is → All IsParamFormed (flat_map param_in is)
+items_params [] h = All-nil IsParamFormed
+items_params (i ∷ is) h = All-append IsParamFormed (param_in i) (flat_map param_in is) (item_params i (All-head (λ (i : ItemTree). IsBodyFormed i.body) i is h)) (items_params is (All-tail (λ (i : ItemTree). IsBodyFormed i.body) i is h))
+
+params_formed : (m : ModuleTree) → IsModuleFormed m → All IsParamFormed (params_of m)
+params_formed m h = All-append IsParamFormed (map (λ p. (m.place, p)) m.params) (flat_map param_in m.items) (map_all IsParamFormed (λ p. (m.place, p)) m.params h.params) (items_params m.items h.items)
+
+abbrev IsDeclFormed : DeclTree → Type 0
+IsDeclFormed d = IsFormedIf d.init
+
+ports_formed : (ps : List PortTree) → All IsPortFormed ps → All IsDeclFormed (filter_map (λ (p : PortTree). p.decl) ps)
+ports_formed [] h = All-nil IsDeclFormed
+ports_formed (p ∷ ps) h = go p.decl (All-head IsPortFormed p ps h) (ports_formed ps (All-tail IsPortFormed p ps h))
+  where
+    go : (o : Option DeclTree) → IsPortFormed (record { name = p.name; decl = o }) → All IsDeclFormed (filter_map (λ (p : PortTree). p.decl) ps) → All IsDeclFormed (cons_option o (filter_map (λ (p : PortTree). p.decl) ps))
+    go None f rest = rest
+    go (Some d) f rest = All-cons IsDeclFormed d (filter_map (λ (p : PortTree). p.decl) ps) f rest
+
+-- ---- visits
+
+-- a visit keeps designs well sized, and only declares further signals
+abbrev KeepsSizes : Visit → Type 0
+KeepsSizes v = (prefix : Text) (visiting : List Text) (m : ModuleTree) (overrides : Overrides) (ports : Stage → Stage) (d e : Design) → v prefix visiting m overrides ports d ≡ good e
+    → IsModuleFormed m → AreWide overrides → OpensPorts m d ports → IsDesign d → IsDesign e × Grows d.entries e.entries
+
+module _ (modules : List ModuleTree) (formed : IsSourceFormed modules) where
+  found_formed : (x : Text) (ms : List ModuleTree) → IsSourceFormed ms → (m : ModuleTree) → find (λ (m : ModuleTree). bytes_eq m.name x) ms ≡ Some m → IsModuleFormed m
+  found_formed x [] h m e = absurd (search (rules, e))
+  found_formed x (n ∷ ms) h m e = go (bytes_eq n.name x) e (found_formed x ms (All-tail IsModuleFormed n ms h) m)
+    where
+      go : (b : Bool) → cond b (Some n) (find (λ (m : ModuleTree). bytes_eq m.name x) ms) ≡ Some m → (find (λ (m : ModuleTree). bytes_eq m.name x) ms ≡ Some m → IsModuleFormed m) → IsModuleFormed m
+      go true e k = subst IsModuleFormed (some_is n m e) (All-head IsModuleFormed n ms h)
+      go false e k = k e
+
+  module _ (visiting : List Text) (prefix : Text) (v : Visit) (keeps : KeepsSizes v) where
+    instance_next : (s : Stage) → IsStage s → (p : Place) (m : ModuleTree) → IsModuleFormed m → (params : ConnsTree) (x : Text) (ports : ConnsTree) → IsBodyFormed (instance m.name params x ports) → (t : Stage)
+        → instance_of modules visiting prefix v s p m params x ports ≡ good t → IsNext s t
+    instance_next s h p m f params x ports g t e =
+        let look = look_of s in let links = links_of look m ports in
+        let a = good_then (refused_if (is_in visiting m.name) 303 (Some p) m.name) _ t e in
+        let b = good_then (refused_if (is_declared s.names x) 304 (Some p) x) _ t a.2 in
+        let c = good_then (judged by_number p (override_rules look m params ++ connection_rules look m ports) (tt {0})) _ t b.2 in
+        let j = none_of_both (override_rules look m params) (connection_rules look m ports) (judged_is by_number p _ _ c.0 c.1).0 in
+        let d = good_then (v (prefix ++ printed_part x ++ codes ".") (m.name ∷ visiting) m (overrides_of look m params) (connected links) s.design) _ t c.2 in
+        let k = keeps (prefix ++ printed_part x ++ codes ".") (m.name ∷ visiting) m (overrides_of look m params) (connected links) s.design d.0 d.1 f
+        (overrides_fine s h m params g.0 j.0) (connected_opens m s.design links (links_fine s h m ports g.1 j.1)) h.design in
+        let es = d.0.entries in
+        subst (IsNext s) (good_is _ t d.2) record {
+          stage = record {
+            names = All-push (λ (q : Text × Meaning). IsNamed es q.1) s.names (x, an_instance) (names_on s.design.entries es s.names k.1 h.names) tt;
+            design = k.0;
+          };
+          grows = k.1;
+        }
+
+    item_next : (s : Stage) → IsStage s → (p : Place) (body : BodyTree) → IsBodyFormed body → (t : Stage) → item_of modules visiting prefix v s p body ≡ good t → IsNext s t
+    item_next s h p (param q) f t e = subst (IsNext s) (good_is s t e) (stays s h)
+    item_next s h p (decl d) f t e = value_next s h p d.name d.init d.kind t f e
+    item_next s h p (assign x w) f t e = assign_next s h p x w t f.0 f.1 e
+    item_next s h p (gate kind es) f t e = gate_next s h p kind es t f e
+    item_next s h p (instance child params x ports) f t e = go (module_named child modules) (found_formed child modules formed) e
+      where
+        go : (o : Option ModuleTree) → ((m : ModuleTree) → o ≡ Some m → IsModuleFormed m) → instance_item modules visiting prefix v s p o child params x ports ≡ good t → IsNext s t
+        go None k e = absurd (search (rules, e))
+        go (Some m) k e = instance_next s h p m (k m refl) params x ports f t e
+    item_next s h p (always event body) f t e = always_next s h p event body t f e
+    item_next s h p (initial body) f t e = starts_next s h p (initial_starts (look_of s) (so_far s) body) t e
+
+  visit_sizes : (n : ℕ) → KeepsSizes (visit modules n)
+  visit_sizes zero prefix visiting m overrides ports d e q f o k h = absurd (search (rules, q))
+  visit_sizes (suc n) prefix visiting m overrides ports d e q f o k h =
+      let first : Stage = record { names = []; design = d } in
+      let a = good_then (parameters overrides m first) _ e q in
+      let b = good_then (declarations prefix m a.0) _ e a.2 in
+      let c = good_then (header_values m (ports b.0)) _ e b.2 in
+      let i = good_then (each (item modules visiting prefix (visit modules n)) c.0 m.items) (λ t. good t.design) e c.2 in
+      let begun : IsDeclaring d first = record {
+        same = refl;
+        grows = grows_itself d.entries;
+        entries = h.entries;
+        names = All-nil _;
+        fresh = All-nil _;
+        plain = none_beyond d.entries;
+      } in
+      let fa = each_all IsParamFormed (IsDeclaring d) (parameter overrides) (parameter_declares d overrides o) first (params_of m) a.0 (params_formed m f) a.1 begun in
+      let fb = declarations_declare d prefix m a.0 b.0 b.1 fa in
+      let opened = k b.0 h fb (declarations_know_ports d prefix m a.0 b.0 b.1 fa) in
+      let fo : IsBehind d (ports b.0) = record { stage = opened.stage; grows = opened.grows } in
+      let fc = each_all IsDeclFormed (IsBehind d) (λ s (x : DeclTree). declared_value s m.place x) (λ s x t w z y. next_behind d s t (value_next s y.stage m.place x.name x.init x.kind t w z) y)
+      (ports b.0) (header_decls m) c.0 (ports_formed m.ports f.ports) c.1 fo in
+      let fi = each_all (λ (x : ItemTree). IsBodyFormed x.body) (IsBehind d) (item modules visiting prefix (visit modules n))
+      (λ s x t w z y. next_behind d s t (item_next visiting prefix (visit modules n) (visit_sizes n) s y.stage x.place x.body w t z) y) c.0 m.items i.0 f.items i.1 fc in
+      subst (λ (x : Design). IsDesign x × Grows d.entries x.entries) (good_is i.0.design e i.2) (fi.stage.design, fi.grows)
+    where
+      none_beyond : (es : List Entry) (i : ℕ) → length es ≤ i → top_at es i ≡ false
+      none_beyond es i l = told_none (λ (e : Entry). e.is_top_input) false es i l
+
+no_design_is : IsDesign no_design
+no_design_is = record { entries = All-nil _; assigns = All-nil _; combs = All-nil _; clocked = All-nil _; outputs = All-nil _ }
+
+-- what an unfolding was before its drivers were tried
+pub reached : (modules : List ModuleTree) → IsSourceFormed modules → (top : Text) (resets : List ResetPin) (f : Flat) → unfolded modules top resets ≡ good f → (d : Design) × IsDesign d × (finished d ≡ good f)
+reached modules formed top resets f e =
+    let g = good_then (modules_differ modules) (λ u. from_top modules resets top (module_named top modules)) f e in
+    go (module_named top modules) (found_formed modules formed top modules formed) g.2
+  where
+    go : (o : Option ModuleTree) → ((m : ModuleTree) → o ≡ Some m → IsModuleFormed m) → from_top modules resets top o ≡ good f → (d : Design) × IsDesign d × (finished d ≡ good f)
+    go None k e = absurd (search (rules, e))
+    go (Some m) k e =
+        let g = good_then (visit modules (length modules) [] (m.name ∷ []) m [] (top_ports resets (header_of m)) no_design) finished f e in
+        let v = visit_sizes modules formed (length modules) [] (m.name ∷ []) m [] (top_ports resets (header_of m)) no_design g.0 g.1 (k m refl) (All-nil (λ (q : Text × Override). IsWide (size q.1.value))) (top_opens m resets (header_of m)) no_design_is in
+        (g.0, v.0, g.2)
+
+-- ---- the flat design
+
+pub flat_agrees : (d : Design) (s : ℕ) → 1 ≤ width_at d.entries s → size_in (flat_design d) s ≡ width_at d.entries s
+flat_agrees d s h = signal_widths d 0 d.entries s
+
+signals_sized : (d : Design) (n : ℕ) (es : List Entry) → All IsEntry es → All (λ (x : Signal). (1 ≤ x.width) × (x.width ≤ 64)) (signals_from d n es)
+signals_sized d n [] h = All-nil _
+signals_sized d n (e ∷ es) h =
+    All-cons (λ (x : Signal). (1 ≤ x.width) × (x.width ≤ 64)) (signal_of d n e) (signals_from d (suc n) es) (width_some e.range, (All-head IsEntry e es h).narrow) (signals_sized d (suc n) es (All-tail IsEntry e es h))
+
+pub flat_sized : (d : Design) → IsDesign d → IsSizedFlat (flat_design d)
+flat_sized d h =
+    let wid = width_at d.entries in let flat = size_in (flat_design d) in let agree = flat_agrees d in
+    record {
+      signals = signals_sized d 0 d.entries h.entries;
+      assigns = all_on (IsAssignIn d.entries) (λ (a : Target × Expr). IsTargetSized flat any a.0 × IsSized flat a.1) d.assigns
+          (λ a k. (target_agrees wid flat agree (drivable_at d.entries) any (λ s l e. refl) a.0 k.0, expr_agrees wid flat agree a.1 k.2)) h.assigns;
+      combs = all_on (IsCombIn d.entries) (IsStmtSized flat any) d.combs (λ body k. stmt_agrees wid flat agree (reg_at d.entries) any (λ s l e. refl) body k.0) h.combs;
+      clocked = all_on (IsClockedIn d.entries) (λ (p : ℕ × Stmt). IsStmtSized flat any p.1) d.clocked (λ p k. stmt_agrees wid flat agree (reg_at d.entries) any (λ s l e. refl) p.1 k.1) h.clocked;
+    }
+
+pub sizes_law : SizesLaw
+sizes_law modules formed top resets f e =
+    let r = reached modules formed top resets f e in
+    let g = good_then (driven_once (flat_design r.0)) (λ u. good (flat_design r.0)) f r.2 in
+    subst IsSizedFlat (good_is (flat_design r.0) f g.2) (flat_sized r.0 r.1)

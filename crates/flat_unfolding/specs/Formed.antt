@@ -1,0 +1,97 @@
+-- Sources as readings of texts give them: a number fits in its 1 to 64 bits, and no list of parts or labels is empty.
+use Rattle.std.specs.Prelude.{◌^◌, ◌<◌, ◌≤◌, List, [], ◌∷◌, All, Option, Some, None}
+use Rattle.verilog_reading.specs.ExprTree.{ExprTree, number, name, index, part, unary, binary, choice, join, repeat, paren, ExprTrees, no_trees, and_trees, TargetTree, whole, index_of, part_of, join_of, TargetTrees, no_parts, and_parts}
+use Rattle.verilog_reading.specs.StmtTree.{StmtTree, null, set, when, either, switch, switch_else, block, StmtTrees, no_rows, and_rows, ArmTrees, no_arms, and_arms}
+use Rattle.verilog_reading.specs.SourceTree.{ParamTree, DeclTree, PortTree, ConnTree, ConnsTree, ordered, named, BodyTree, param, decl, assign, gate, instance, always, initial, ItemTree, ModuleTree}
+
+-- some parts
+abbrev pub AreSome : ExprTrees → Type 0
+AreSome no_trees = ⊥
+AreSome (and_trees a rest) = Unit {0}
+
+abbrev mutual
+  pub IsFormed : ExprTree → Type 0
+  IsFormed (number v w plain) = (1 ≤ w) × (w ≤ 64) × (v < 2 ^ w)
+  IsFormed (name x) = Unit {0}
+  IsFormed (index x i) = IsFormed i
+  IsFormed (part x l r) = IsFormed l × IsFormed r
+  IsFormed (unary op a) = IsFormed a
+  IsFormed (binary op a b) = IsFormed a × IsFormed b
+  IsFormed (choice c a b) = IsFormed c × IsFormed a × IsFormed b
+  IsFormed (join parts) = AreSome parts × AreFormed parts
+  IsFormed (repeat count parts) = IsFormed count × AreSome parts × AreFormed parts
+  IsFormed (paren a) = IsFormed a
+
+  pub AreFormed : ExprTrees → Type 0
+  AreFormed no_trees = Unit {0}
+  AreFormed (and_trees a rest) = IsFormed a × AreFormed rest
+
+abbrev pub AreSomeParts : TargetTrees → Type 0
+AreSomeParts no_parts = ⊥
+AreSomeParts (and_parts t rest) = Unit {0}
+
+abbrev mutual
+  pub IsTargetFormed : TargetTree → Type 0
+  IsTargetFormed (whole x) = Unit {0}
+  IsTargetFormed (index_of x i) = IsFormed i
+  IsTargetFormed (part_of x l r) = IsFormed l × IsFormed r
+  IsTargetFormed (join_of parts) = AreSomeParts parts × AreTargetsFormed parts
+
+  pub AreTargetsFormed : TargetTrees → Type 0
+  AreTargetsFormed no_parts = Unit {0}
+  AreTargetsFormed (and_parts t rest) = IsTargetFormed t × AreTargetsFormed rest
+
+-- labels of an item: one at least
+abbrev pub AreLabels : List ExprTree → Type 0
+AreLabels [] = ⊥
+AreLabels (e ∷ es) = All IsFormed (e ∷ es)
+
+abbrev mutual
+  pub IsStmtFormed : StmtTree → Type 0
+  IsStmtFormed null = Unit {0}
+  IsStmtFormed (set blocking t e) = IsTargetFormed t × IsFormed e
+  IsStmtFormed (when c s) = IsFormed c × IsStmtFormed s
+  IsStmtFormed (either c s z) = IsFormed c × IsStmtFormed s × IsStmtFormed z
+  IsStmtFormed (switch e arms) = IsFormed e × AreArmsFormed arms
+  IsStmtFormed (switch_else e arms d) = IsFormed e × AreArmsFormed arms × IsStmtFormed d
+  IsStmtFormed (block rows) = AreRowsFormed rows
+
+  pub AreRowsFormed : StmtTrees → Type 0
+  AreRowsFormed no_rows = Unit {0}
+  AreRowsFormed (and_rows s rest) = IsStmtFormed s × AreRowsFormed rest
+
+  pub AreArmsFormed : ArmTrees → Type 0
+  AreArmsFormed no_arms = Unit {0}
+  AreArmsFormed (and_arms labels s rest) = AreLabels labels × IsStmtFormed s × AreArmsFormed rest
+
+abbrev pub IsFormedIf : Option ExprTree → Type 0
+IsFormedIf None = Unit {0}
+IsFormedIf (Some e) = IsFormed e
+
+abbrev pub IsPortFormed : PortTree → Type 0
+IsPortFormed p = go p.decl
+  where
+    go : Option DeclTree → Type 0
+    go None = Unit {0}
+    go (Some d) = IsFormedIf d.init
+
+abbrev pub AreConnsFormed : ConnsTree → Type 0
+AreConnsFormed (ordered entries) = All IsFormedIf entries
+AreConnsFormed (named conns) = All (λ (c : ConnTree). IsFormedIf c.value) conns
+
+abbrev pub IsBodyFormed : BodyTree → Type 0
+IsBodyFormed (param p) = IsFormed p.value
+IsBodyFormed (decl d) = IsFormedIf d.init
+IsBodyFormed (assign t e) = IsTargetFormed t × IsFormed e
+IsBodyFormed (gate kind terminals) = All IsFormed terminals
+IsBodyFormed (instance child params x ports) = AreConnsFormed params × AreConnsFormed ports
+IsBodyFormed (always event body) = IsStmtFormed body
+IsBodyFormed (initial body) = IsStmtFormed body
+
+pub record IsModuleFormed (m : ModuleTree) : Type 0 where
+  pub params : All (λ (p : ParamTree). IsFormed p.value) m.params
+  pub ports : All IsPortFormed m.ports
+  pub items : All (λ (i : ItemTree). IsBodyFormed i.body) m.items
+
+abbrev pub IsSourceFormed : List ModuleTree → Type 0
+IsSourceFormed modules = All IsModuleFormed modules
