@@ -1,5 +1,9 @@
 pub mod Around
+pub mod Begun
+pub mod Cases
+pub mod Collected
 pub mod Copies
+pub mod Drafted
 pub mod Forms
 pub mod Growing
 pub mod Joining
@@ -9,8 +13,13 @@ pub mod Operators
 pub mod Parts
 pub mod PartsOfWords
 pub mod Processes
+pub mod Readable
+pub mod Registers
+pub mod Runs
 pub mod Seen
 pub mod Shares
+pub mod Sorted
+pub mod Statements
 pub mod Stays
 pub mod Steps
 pub mod Walked

@@ -16,15 +16,15 @@ at_key x k = go (nat_lt x k) refl (x == k) refl
     go false p false q = refl
 
 -- the first entry that is left, and the others
-pub lookup_first : (x k : ℕ) (v : CellId) (left rest : List (ℕ × CellId)) → left ≡ (k, v) ∷ rest → lookup (is_at (nat_cmp x)) left ≡ cond (x == k) (Some v) (lookup (is_at (nat_cmp x)) rest)
+pub lookup_first : {V : Type 0} (x k : ℕ) (v : V) (left rest : List (ℕ × V)) → left ≡ (k, v) ∷ rest → lookup (is_at (nat_cmp x)) left ≡ cond (x == k) (Some v) (lookup (is_at (nat_cmp x)) rest)
 lookup_first x k v left rest e = ap (lookup (is_at (nat_cmp x))) e ∙ ap (λ b. cond b (Some v) (lookup (is_at (nat_cmp x)) rest)) (at_key x k)
 
-some_first : (d b : Bool) (v : CellId) (o : Option CellId) → ((d || b) || is_some o) ≡ (d || is_some (cond b (Some v) o))
+some_first : {V : Type 0} (d b : Bool) (v : V) (o : Option V) → ((d || b) || is_some o) ≡ (d || is_some (cond b (Some v) o))
 some_first true b v o = refl
 some_first false true v o = refl
 some_first false false v o = refl
 
-pub keys_first : (x k : ℕ) (v : CellId) (left rest : List (ℕ × CellId)) (done whole : Bool) → left ≡ (k, v) ∷ rest → (done || is_some (lookup (is_at (nat_cmp x)) left)) ≡ whole
+pub keys_first : {V : Type 0} (x k : ℕ) (v : V) (left rest : List (ℕ × V)) (done whole : Bool) → left ≡ (k, v) ∷ rest → (done || is_some (lookup (is_at (nat_cmp x)) left)) ≡ whole
     → ((done || (x == k)) || is_some (lookup (is_at (nat_cmp x)) rest)) ≡ whole
 keys_first x k v left rest done whole e h = some_first done (x == k) v (lookup (is_at (nat_cmp x)) rest) ∙ ap (λ o. done || is_some o) (sym (lookup_first x k v left rest e)) ∙ h
 
@@ -44,7 +44,7 @@ eq_one false = refl
 same_eq : (k x : ℕ) → (k == x) ≡ (x == k)
 same_eq k x = grind arith
 
-at_query : (k x : ℕ) → is_at (nat_cmp k) x ≡ (x == k)
+pub at_query : (k x : ℕ) → is_at (nat_cmp k) x ≡ (x == k)
 at_query k x = go (nat_lt k x) refl (x == k) refl
   where
     go : (b : Bool) → nat_lt k x ≡ b → (d : Bool) → (x == k) ≡ d → is_eq (cond b Less (cond (k == x) Equal Greater)) ≡ d

@@ -1,8 +1,11 @@
 pub mod Changes
 pub mod Choices
+pub mod Collected
 pub mod Drafts
 pub mod Growth
 pub mod Operators
 pub mod Presents
 pub mod Shares
+pub mod Sketched
 pub mod Sketches
+pub mod Statements

@@ -4,7 +4,7 @@ use Rattle.cell_graph.specs.declared.cell.CellId.{CellId}
 use Rattle.flat_meaning.specs.Trees.{Selects}
 use Rattle.flat_meaning.specs.Pieces as meaning
 use Rattle.flat_meaning.specs.Design.{Flat, size_in}
-use Rattle.flat_meaning.specs.SignalTrees.{pieces_of, tree_of, next_tree_of, clock_tree_of}
+use Rattle.flat_meaning.specs.SignalTrees.{AreTrees, pieces_of, tree_of, next_tree_of, clock_tree_of}
 use Rattle.driver_trees.specs.declared.draft.Draft.{Draft}
 use Rattle.driver_trees.specs.declared.sketch.Sketch.{Sketch}
 use Rattle.driver_trees.specs.declared.sketch.Piece.{Piece}
@@ -32,11 +32,11 @@ abbrev pub AreOrdered : List Piece → Type 0
 AreOrdered [] = Unit {0}
 AreOrdered (p ∷ ps) = All (IsBefore p) ps × AreOrdered ps
 
--- a register's next value and clock
+-- a register's next value and clock; a register's own tree is its variable where the selects are a design's trees
 pub record IsRegisterIn (f : Flat) (ds : List Draft) (r : Register) : Type 0 where
   pub next : IsDraftOf ds r.next (size_in f r.sig)
   pub clock : IsDraftOf ds r.clock 1
-  pub next_tree : (sel : Selects) → tree_in sel ds r.next ≡ next_tree_of f sel r.sig
+  pub next_tree : (sel : Selects) → AreTrees f sel → tree_in sel ds r.next ≡ next_tree_of f sel r.sig
   pub clock_tree : (sel : Selects) → tree_in sel ds r.clock ≡ clock_tree_of f sel r.sig
 
 pub record IsSketchOf (f : Flat) (ds : List Draft) (s : Sketch) : Type 0 where

@@ -2,7 +2,6 @@
 #![tactic(auto)]
 
 mod assigned;
-mod constant;
 pub mod draft;
 mod expr;
 mod mask;
