@@ -1,8 +1,10 @@
+pub mod Components
 pub mod Fronts
 pub mod Loops
 pub mod Meets
 pub mod Members
 pub mod Rows
 pub mod Steps
+pub mod Through
 pub mod Turned
 pub mod Ways

@@ -68,14 +68,6 @@ no_loop ls o before once (v, h, back) =
         let at = place_in o i x h in
         front-in o at.0 i w (let l = at.1 in omega arith) (before at.0 x w at.2 l)
 
--- where none of the vertices leads back to itself, a walk's order has ends first
-pub ends_before : (ls : List (List ℕ)) (o : List ℕ) → IsDepthFirst ls o → (HasLoop ls o → ⊥) → (i v w : ℕ) → slice_get o i ≡ Some v → IsLink ls v w → Contains (take (i + 1) o) w
-ends_before ls o depth none i v w at l =
-    elim (depth i v v w at (in_front o (i + 1) i v (omega arith) at) l) [
-      | inl k ↦ k
-      | inr r ↦ absurd (none (v, contains_get o i v at, record { next = w; first = l; rest = r }))
-    ]
-
 -- ---- the vertices before a place of an order, marked
 
 -- an end of the vertex at place i that doesn't stand before it

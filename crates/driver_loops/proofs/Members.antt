@@ -1,10 +1,10 @@
 -- Members of lists by their places, and marks.
-use Rattle.std.proofs.Common.{◌≡◌, ◌∙◌, ◌⊎◌, inl, inr, sym, ap, subst, refl, arith, ℕ, zero, suc, ◌<◌, ◌≤◌, ◌+◌, List, [], ◌∷◌, ◌++◌, Some, None, slice_get, Bool, true, false, length, take, get_or, set}
+use Rattle.std.proofs.Common.{◌≡◌, ◌∙◌, ◌⊎◌, ◌↔◌, inl, inr, sym, ap, subst, refl, arith, ℕ, zero, suc, ◌<◌, ◌≤◌, ◌+◌, List, [], ◌∷◌, ◌++◌, Some, None, slice_get, Bool, true, false, length, take, get_or, set}
 use Rattle.std.specs.Prelude.{◌||◌, replicate, OnOk, OnErr, Result, Ok, Err}
 use Rattle.std.specs.List.{Contains, AllPairs, list_any}
 use Rattle.std.proofs.lemmas.Option.{slice_get_within, slice_get-get_or, get_or_from_slice_get}
-use Rattle.std.proofs.lemmas.List.{get_or_append_left, get_or_at, length-append, take_more}
-use Rattle.std.proofs.lemmas.List.Elements.{Contains-push_cases}
+use Rattle.std.proofs.lemmas.List.{get_or_append_left, get_or_at, length-append, length-set, take_more}
+use Rattle.std.proofs.lemmas.List.Elements.{Contains-push, Contains-push_cases, Contains-append_left}
 use Rattle.driver_loops.specs.Walks.{IsMarked, is_unmarked}
 
 pub contains_get : {A : Type 0} (xs : List A) (k : ℕ) (x : A) → slice_get xs k ≡ Some x → Contains xs x
@@ -97,6 +97,43 @@ none_marked zero v h = absurd (cc)
 none_marked (suc n) zero h = absurd (cc)
 none_marked (suc n) (suc v) h = none_marked n v h
 
+-- the first vertices, all marked
+
+module _ (old : List Bool) (vs : List ℕ) where
+  abbrev pub AreMarkedUpTo : ℕ → List Bool → Type 0
+  AreMarkedUpTo i marks = (v : ℕ) → IsMarked marks v ↔ (IsMarked old v ⊎ (Contains (take i vs) v × (v < length old)))
+
+  pub none_more_marked : AreMarkedUpTo 0 old
+  none_more_marked v = (λ h. inl h, λ h. elim h [ inl k ↦ k | inr k ↦ absurd (nothing_in v k.0) ])
+
+  pub one_more_marked : (i : ℕ) (marks : List Bool) → i < length vs → length marks ≡ length old → AreMarkedUpTo i marks → AreMarkedUpTo (i + 1) (set marks (get_or vs i 0) true)
+  one_more_marked i marks lt same is v = (there, back)
+    where
+      x : ℕ
+      x = get_or vs i 0
+
+      more : take (i + 1) vs ≡ take i vs ++ x ∷ []
+      more = take_more vs i 0 lt
+
+      there : IsMarked (set marks x true) v → IsMarked old v ⊎ (Contains (take (i + 1) vs) v × (v < length old))
+      there h = elim (mark_cases marks x v h) [
+        | inl k ↦ elim ((is v).0 k) [
+          | inl j ↦ inl j
+          | inr j ↦ inr (subst (λ ys. Contains ys v) (sym more) (Contains-append_left (take i vs) (x ∷ []) v j.0), j.1)
+        ]
+        | inr e ↦
+            let in' = slice_get_within (set marks x true) v true h in
+            let n = length-set marks x true in
+            inr (subst (λ ys. Contains ys v) (sym more) (subst (λ y. Contains (take i vs ++ x ∷ []) y) e (Contains-push (take i vs) x)), omega arith)
+      ]
+
+      back : IsMarked old v ⊎ (Contains (take (i + 1) vs) v × (v < length old)) → IsMarked (set marks x true) v
+      back (inl k) = mark_stays marks x v ((is v).1 (inl k))
+      back (inr k) = elim (Contains-push_cases (take i vs) x v (subst (λ ys. Contains ys v) more k.0)) [
+        | inl j ↦ mark_stays marks x v ((is v).1 (inr (j, k.1)))
+        | inr e ↦ subst (IsMarked (set marks x true)) e (mark_here marks x (let l = k.1 in omega arith))
+      ]
+
 -- ---- what some item has
 
 pub any-some : (p : ℕ → Bool) (xs : List ℕ) → list_any p xs ≡ true → (x : ℕ) × Contains xs x × (p x ≡ true)
@@ -127,10 +164,6 @@ pub any-none : (p : ℕ → Bool) (xs : List ℕ) (x : ℕ) → list_any p xs �
 any-none p xs x h within = let at = get_contains xs x within in none_at p x xs at.0 h at.2
 
 -- ---- results
-
-pub on_ok : {T E : Type 0} {P Q : Type 0} (r : Result T E) → (P → Q) → OnOk r P → OnOk r Q
-on_ok (Ok t) f h = f h
-on_ok (Err e) f h = tt
 
 pub on_both : {T E : Type 0} {P Q R : Type 0} (r : Result T E) → (P → Q → R) → OnOk r P → OnOk r Q → OnOk r R
 on_both (Ok t) f h k = f h k

@@ -2,7 +2,6 @@
 use Rattle.std.proofs.Common.{◌≡◌, ◌≢◌, ◌∙◌, ◌⊎◌, ◌↔◌, inl, inr, sym, ap, ap₂, subst, refl, arith, ℕ, zero, suc, ◌<◌, ◌≤◌, ◌+◌, List, [], ◌∷◌, ◌++◌, length, take, get_or, max, nat_eq, Bool, true, false}
 use Rattle.std.specs.List.{All, Contains}
 use Rattle.std.specs.List.Sorted.{IsNonDecreasingBy, IsPermutation}
-use Rattle.std.specs.Prelude.{IfOk, Result, Ok, Err}
 use Rattle.std.proofs.lemmas.List.Sorted.{Contains-permutation, IsPermutation-sym}
 use Rattle.std.proofs.lemmas.Bool.Decides.{nat_tests}
 use Rattle.std.proofs.lemmas.List.{take_more, take_all, get_or_default}
@@ -122,9 +121,6 @@ module _ (ends : List ℕ) (count vertex : ℕ) (old : List (ℕ × ℕ)) where
   abbrev pub AreTurned : ℕ → List (ℕ × ℕ) → Type 0
   AreTurned i new = (w v : ℕ) → Contains new (w, v) ↔ (Contains old (w, v) ⊎ ((v ≡ vertex) × (Contains (take i ends) w × (w < count))))
 
-  pub none_turned : AreTurned 0 old
-  none_turned w v = (λ h. inl h, λ h. elim h [ inl k ↦ k | inr k ↦ absurd (nothing_in w k.1.0) ])
-
   module _ (i : ℕ) (lt : i < length ends) (now : List (ℕ × ℕ)) (is : AreTurned i now) where
     next : take (i + 1) ends ≡ take i ends ++ get_or ends i 0 ∷ []
     next = take_more ends i 0 lt
@@ -190,9 +186,6 @@ module _ (ls : List (List ℕ)) (vertices : List ℕ) where
   abbrev pub AreAllTurned : ℕ → List (ℕ × ℕ) → Type 0
   AreAllTurned i new = (w v : ℕ) → Contains new (w, v) ↔ (Contains (take i vertices) v × IsLink ls v w)
 
-  pub none_of_all : AreAllTurned 0 []
-  none_of_all w v = (λ h. absurd (nothing_in (w, v) h), λ h. absurd (nothing_in v h.0))
-
   pub one_vertex_more : (i : ℕ) → i < length vertices → (old new : List (ℕ × ℕ)) → AreAllTurned i old
       → ((w v : ℕ) → Contains new (w, v) ↔ (Contains old (w, v) ⊎ ((v ≡ get_or vertices i 0) × IsLink ls (get_or vertices i 0) w))) → AreAllTurned (i + 1) new
   one_vertex_more i lt old new is step w v = (there, back)
@@ -232,7 +225,3 @@ module _ (ls : List (List ℕ)) (vertices : List ℕ) where
             (subst (λ vs. Contains vs v) all r.0, r.1),
         λ h. (joined w v).1 (Contains-permutation old new (w, v) same ((is w v).1 (subst (λ vs. Contains vs v) (sym all) h.0, h.1))),
       )
-
-pub if_ok : {T E : Type 0} {P Q : T → Type 0} (r : Result T E) → ((t : T) → P t → Q t) → IfOk r P → IfOk r Q
-if_ok (Ok t) f h = f t h
-if_ok (Err e) f h = tt

@@ -1,5 +1,5 @@
 -- Directed graphs, and how they are kept.
-use Rattle.std.specs.Prelude.{ℕ, ◌<◌, ◌≤◌, List, [], ◌∷◌, ◌++◌, length, unwrap_or, slice_get, slice_range}
+use Rattle.std.specs.Prelude.{◌≡◌, ◌↔◌, ℕ, ◌<◌, ◌≤◌, List, [], ◌∷◌, ◌++◌, length, unwrap_or, slice_get, slice_range}
 use Rattle.std.specs.List.{Contains}
 
 -- the ends of a vertex's links; none where there is no such vertex
@@ -10,6 +10,11 @@ ends_of ls v = unwrap_or (slice_get ls v) []
 pub record IsLink (ls : List (List ℕ)) (v w : ℕ) : Type 0 where
   pub end : Contains (ends_of ls v) w
   pub vertex : w < length ls
+
+-- the links of these vertices, turned round
+pub record IsReversed (ls : List (List ℕ)) (vertices : List ℕ) (back : List (List ℕ)) : Type 0 where
+  pub size : length back ≡ length ls
+  pub turned : (v w : ℕ) → Contains (ends_of back w) v ↔ (Contains vertices v × IsLink ls v w)
 
 -- the last vertex leads to these as well
 abbrev pub extended : List (List ℕ) → List ℕ → List (List ℕ)

@@ -6,7 +6,7 @@ ghost use Rattle.std.specs.List.Sorted.{IsNonDecreasingBy, IsPartitionPoint};
 ghost use Rattle.driver_trees.specs.declared.sketch.Piece.{Piece as PieceOf};
 ghost use Rattle.driver_trees.specs.Sketches.{AreOrdered};
 ghost use Rattle.driver_loops.specs.Leads.{operand_ids, id_in, ids_in, is_wire_in, is_wire_kind, has_bits, meeting_places, draft_ends, links_of};
-ghost use Rattle.driver_loops.specs.Links.{IsLink, ends_of, start_at, extended};
+ghost use Rattle.driver_loops.specs.Links.{IsLink, IsReversed, ends_of, start_at, extended};
 
 use cdc_base::{NoMemory, SigKind, Signal};
 use cell_graph::{Cell, CellId};
@@ -151,8 +151,7 @@ impl Links {
 
     /// The links from the vertices given, turned round.
     pub fn reversed(&self, alloc: Global, vertices: &[u32]) -> Result<Links, NoMemory>
-        ensures len { IfOk result (λ back. length back ≡ length self.now) }
-        ensures exact { IfOk result (λ back. (v w : ℕ) → Contains (ends_of back w) v ↔ (Contains vertices.now v × IsLink self.now v w)) }
+        ensures { IfOk result (IsReversed self.now vertices.now) }
     {
         let mut turned = Vec::new(alloc);
         for vertex in vertices {

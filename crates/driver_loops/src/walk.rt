@@ -1,10 +1,10 @@
 //! Walks over links: orders in which operands come first, and loops. No walk recurses.
-ghost use Rattle.std.specs.Prelude.{◌≢◌, ◌≡◌, ◌++◌, ◌∷◌, ◌⊎◌, ◌↔◌, ℕ, ◌<◌, [], cond, set, true, false, length, replicate, IfOk, OnOk, List};
+ghost use Rattle.std.specs.Prelude.{◌≢◌, ◌≡◌, ◌++◌, ◌∷◌, ◌⊎◌, ◌↔◌, ℕ, ◌<◌, [], cond, set, true, false, length, replicate, drop, IfOk, OnOk, IsTrue, List};
 ghost use Rattle.std.specs.Bool.{MatchBool};
 ghost use Rattle.std.specs.List.{AllPairs, Contains, list_any};
-ghost use Rattle.driver_loops.specs.Links.{ends_of};
-ghost use Rattle.driver_loops.specs.Orders.{Reaches, IsOrderOf, IsFront, IsDepthFirst, EndsStandBefore, HasLoop};
-ghost use Rattle.driver_loops.specs.Walks.{IsDone, IsWalk, HasWalked, is_unmarked, first_step};
+ghost use Rattle.driver_loops.specs.Links.{ends_of, IsReversed};
+ghost use Rattle.driver_loops.specs.Orders.{Reaches, LeadsBack, IsOrderOf, IsFront, IsDepthFirst, EndsStandBefore, HasLoop};
+ghost use Rattle.driver_loops.specs.Walks.{IsDone, IsWalk, HasWalked, IsMarked, is_unmarked, first_step};
 
 use crate::links::Links;
 use cdc_base::NoMemory;
@@ -195,24 +195,61 @@ fn mark(marks: &mut Vec<bool>, vertex: u32)
     }
 }
 
-/// For each vertex of the order whether it leads back to itself through another one. Two vertices lead to each other
-/// exactly where a walk against the links joins them, its roots taken from the order's end.
-pub fn on_loops(alloc: Global, links: &Links, order: &[u32]) -> Result<Vec<bool>, NoMemory> {
+/// For each vertex whether it is of the order and leads back to itself.
+pub fn on_loops(alloc: Global, links: &Links, order: &[u32]) -> Result<Vec<bool>, NoMemory>
+    ensures size { IfOk result (λ marks. length marks.items ≡ length links.now) }
+    ensures exact { IfOk result (λ marks. (roots : List ℕ) → IsOrderOf links.now roots order.now →
+        (v : ℕ) → IsMarked marks.items v ↔ (Contains order.now v × LeadsBack links.now v)) }
+{
     let back = links.reversed(alloc, order)?;
+    loops_against(alloc, links, &back, order)
+}
+
+/// The same, given the order's links turned round. A walk along these, its roots taken from the order's end, adds at
+/// each root exactly the vertices that lead to the root and back.
+fn loops_against(
+    alloc: Global,
+    links: &Links,
+    back: &Links,
+    order: &[u32],
+) -> Result<Vec<bool>, NoMemory>
+    ensures size { IfOk result (λ marks. length marks.items ≡ length links.now) }
+    ensures exact { IfOk result (λ marks. (roots : List ℕ) → IsOrderOf links.now roots order.now → IsReversed links.now order.now back.now →
+        (v : ℕ) → IsMarked marks.items v ↔ (Contains order.now v × LeadsBack links.now v)) }
+{
     let mut walk = Walk::new(alloc, links.len())?;
     let mut on_loops = unmarked(alloc, links.len())?;
-    for root in order.iter().rev() {
+    let mut left = order;
+    while let Some((root, rest)) = left.split_last() {
         let from = walk.order.len();
-        walk.go(&back, *root)?;
-        let joined = walk.order.get(from..).unwrap_or(&[]);
-        if joined.len() > 1 {
-            mark_all(&mut on_loops, joined);
+        walk.go(back, *root)?;
+        let added = behind(walk.order.as_slice(), from);
+        if are_on_loop(links, *root, added) {
+            mark_all(&mut on_loops, added);
         }
+        left = rest;
     }
     Ok(on_loops)
 }
 
-fn mark_all(marks: &mut Vec<bool>, vertices: &[u32]) {
+/// The vertices from a place on.
+fn behind(vertices: &[u32], place: usize) -> &[u32]
+    ensures { result.now ≡ drop place vertices.now }
+{
+    vertices.get(place..).unwrap_or(&[])
+}
+
+/// Whether vertices that lead to the root and back lie on a loop: they are several, or the root leads to itself.
+fn are_on_loop(links: &Links, root: u32, vertices: &[u32]) -> bool
+    ensures { IsTrue result ↔ ((1 < length vertices.now) ⊎ Contains (ends_of links.now root) root) }
+{
+    vertices.len() > 1 || links.from(root).contains(&root)
+}
+
+fn mark_all(marks: &mut Vec<bool>, vertices: &[u32])
+    ensures size { length marks.new.items ≡ length marks.old.items }
+    ensures exact { (v : ℕ) → IsMarked marks.new.items v ↔ (IsMarked marks.old.items v ⊎ (Contains vertices.now v × (v < length marks.old.items))) }
+{
     for vertex in vertices {
         mark(marks, *vertex);
     }

@@ -1,7 +1,8 @@
 use Rattle.std.proofs.Common.{◌∙◌, sym, ap, subst, [], ◌∷◌, length}
 use Rattle.std.proofs.lemmas.List.{length_push}
+use Rattle.std.proofs.lemmas.Result.{on_ok_weaker}
 use Rattle.driver_loops.specs.Links.{rows, extended, AreStarts}
-use Rattle.driver_loops.proofs.Members.{on_ok, on_either}
+use Rattle.driver_loops.proofs.Members.{on_either}
 use Rattle.driver_loops.proofs.Rows.{starts-add, rows-add}
 use Rattle.driver_loops.proofs.links.Links.add.Goals as goal
 
@@ -17,6 +18,6 @@ invariant_of-self c =
 pub returns : goal.returns
 returns c =
     let ss = c.self.inside.starts.items in
-    on_ok c.grow.result
+    on_ok_weaker c.grow.result
     (λ e. ap (rows ss) e ∙ rows-add ss c.self.inside.ends.items c.args.end c.self.invariant ∙ ap (λ rs. extended rs (c.args.end ∷ [])) c.self.view_is)
     c.grow.ensures.grown

@@ -1,7 +1,7 @@
 use Rattle.std.proofs.Common.{◌≡◌, ◌∙◌, sym, ap, cond, [], ◌∷◌, ◌++◌}
+use Rattle.std.proofs.lemmas.Result.{on_ok_weaker}
 use Rattle.driver_loops.specs.Leads.{operand_ids, meeting_places, form_ends, draft_ends}
 use Rattle.driver_loops.specs.Links.{extended}
-use Rattle.driver_loops.proofs.Members.{on_ok}
 use Rattle.driver_loops.proofs.Rows.{extended-begun}
 use Rattle.driver_loops.proofs.links.Links.add_draft.Goals as goal
 
@@ -10,7 +10,7 @@ returns-in-Made c =
     let old = c.args.self.now in
     let d = c.args.draft.now in
     let ends : draft_ends c.args.signals.now c.args.first c.args.pieces.now d ≡ operand_ids c.in-Made.cell = ap (form_ends c.args.signals.now c.args.first c.args.pieces.now d.width) c.in-Made.is in
-    on_ok c.add_operands.result
+    on_ok_weaker c.add_operands.result
     (λ e ordered. e ∙ ap (λ rs. extended rs (operand_ids c.in-Made.cell)) c.in_ok-begin.ensures ∙ extended-begun old (operand_ids c.in-Made.cell) ∙ ap (λ es. old ++ es ∷ []) (sym ends))
     c.add_operands.ensures
 
@@ -22,6 +22,6 @@ returns-then-is_wire c =
     let met = meeting_places c.args.first ps c.in-Read.sig c.in-Read.at d.width in
     let ends : draft_ends c.args.signals.now c.args.first ps d ≡ met =
     ap (form_ends c.args.signals.now c.args.first ps d.width) c.in-Read.is ∙ ap (λ b. cond b met []) (sym c.is_wire.ensures ∙ c.if-is_wire.true) in
-    on_ok c.add_pieces.result
+    on_ok_weaker c.add_pieces.result
     (λ f ordered. f ordered ∙ ap (λ rs. extended rs met) c.in_ok-begin.ensures ∙ extended-begun old met ∙ ap (λ es. old ++ es ∷ []) (sym ends))
     c.add_pieces.ensures

@@ -1,6 +1,7 @@
 use Rattle.std.proofs.Common.{◌≡◌, ◌∙◌, sym, ap, subst, rules, [], ◌∷◌, ◌++◌, length}
+use Rattle.std.proofs.lemmas.Result.{on_ok_weaker}
 use Rattle.driver_loops.specs.Links.{rows, AreStarts}
-use Rattle.driver_loops.proofs.Members.{on_ok, on_either}
+use Rattle.driver_loops.proofs.Members.{on_either}
 use Rattle.driver_loops.proofs.Rows.{starts-begin, rows-begin}
 use Rattle.driver_loops.proofs.links.Links.begin.Goals as goal
 
@@ -19,6 +20,6 @@ returns c =
     let ss = c.self.inside.starts.items in
     let es = c.self.inside.ends.items in
     let l : c.len.result ≡ length es = search rules in
-    on_ok c.grow.result
+    on_ok_weaker c.grow.result
     (λ e. ap (λ starts. rows starts es) (e ∙ ap (λ k. ss ++ k ∷ []) l) ∙ rows-begin ss es ∙ ap (λ rs. rs ++ [] ∷ []) c.self.view_is)
     c.grow.ensures.grown

@@ -1,4 +1,4 @@
-use Rattle.std.proofs.Common.{◌≡◌, ◌∙◌, ap, arith, ◌+◌, [], ◌∷◌, length}
+use Rattle.std.proofs.Common.{◌∙◌, ap, arith, ◌+◌, [], length}
 use Rattle.std.proofs.lemmas.List.{length_push}
 use Rattle.driver_loops.specs.Links.{ends_of}
 use Rattle.driver_loops.proofs.Turned.{begun_ends}

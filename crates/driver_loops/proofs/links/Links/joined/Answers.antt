@@ -1,7 +1,6 @@
-use Rattle.std.proofs.Common.{◌≡◌, ◌∙◌, ◌↔◌, sym, ap, subst, arith, ℕ, List, [], ◌∷◌, ◌+◌, length, get_or, take}
+use Rattle.std.proofs.Common.{sym, subst, arith, ◌+◌}
 use Rattle.std.specs.List.{Contains}
 use Rattle.std.proofs.lemmas.List.{take_all}
-use Rattle.driver_loops.specs.Links.{ends_of, extended}
 use Rattle.driver_loops.proofs.Turned.{AreJoined, none_joined, more_joined}
 use Rattle.driver_loops.proofs.links.Links.joined.Goals as goal
 

@@ -1,5 +1,5 @@
 -- A link more is added, unless its end is no vertex.
-use Rattle.std.proofs.Common.{◌≡◌, ◌∙◌, ◌+◌, [], ◌∷◌, ◌++◌, sym, subst, get_or}
+use Rattle.std.proofs.Common.{◌≡◌, ◌+◌, [], ◌∷◌, ◌++◌, sym, subst, get_or}
 use Rattle.driver_loops.proofs.Turned.{AreTurned, one_passed, one_turned, all_turned}
 use Rattle.driver_loops.proofs.links.Links.turn.Goals as goal
 use Rattle.driver_loops.proofs.links.Links.turn.Goals.{then-end-count+in_ok-grow, else-end-count}

@@ -1,9 +1,10 @@
 -- A link more was followed, or the last vertex is done.
 use Rattle.std.proofs.Common.{◌≡◌, ◌∙◌, ◌≤◌, sym, ap, subst, length, get_or, Some, slice_get}
 use Rattle.std.proofs.lemmas.Option.{slice_get-get_or}
+use Rattle.std.proofs.lemmas.Result.{on_ok_weaker}
 use Rattle.driver_loops.specs.Links.{ends_of}
 use Rattle.driver_loops.specs.Walks.{IsWalk}
-use Rattle.driver_loops.proofs.Members.{on_ok, on_both}
+use Rattle.driver_loops.proofs.Members.{on_both}
 use Rattle.driver_loops.proofs.Steps.{turned, turned_back}
 use Rattle.driver_loops.proofs.walk.Walk.turn.Goals as goal
 
@@ -22,7 +23,7 @@ returns-in_ok-push c =
 
 pub returns-else-step-ends : goal.returns-else-step-ends
 returns-else-step-ends c =
-    on_ok c.push-else-step-ends.result
+    on_ok_weaker c.push-else-step-ends.result
     (λ more base root is.
     subst (IsWalk c.args.links.now base root c.args.self.now.entered.items c.args.self.now.way.items) (sym more)
     (turned_back c.args.links.now base root c.args.self.now.entered.items c.args.self.now.way.items c.args.step c.args.self.now.order.items is
