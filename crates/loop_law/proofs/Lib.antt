@@ -1,0 +1,10 @@
+pub mod Filled
+pub mod Members
+pub mod Trees
+pub mod Links
+pub mod LoopPieces
+pub mod Pieces
+pub mod Loops
+pub mod Walks
+pub mod Designs
+pub mod Examples
