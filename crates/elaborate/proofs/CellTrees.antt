@@ -17,7 +17,7 @@ use Rattle.driver_trees.specs.declared.draft.Draft.{Draft}
 use Rattle.driver_trees.specs.Drafts.{IsMade, draft_trees, tree_in, width_at}
 use Rattle.elaborate.specs.declared.lower.Tree.{Tree as Lowered}
 use Rattle.elaborate.specs.Grown.{Grows}
-use Rattle.elaborate.specs.Lowered.{HasTree, IsJoined, IsJoining, IsMadeOf, IsMet, cell_met, over, tree_met}
+use Rattle.elaborate.specs.Lowered.{HasTree, IsJoined, IsJoiningBy, IsMadeOf, IsMet, cell_met, over, tree_met}
 
 -- ---- in a later graph
 
@@ -51,17 +51,17 @@ not-none g ts v t w e is = let same : Some is.made ≡ None = sym is.found ∙ e
 pub cut-same : (n at w : ℕ) (t : Tree) → n ≡ w → cut n at w t ≡ t
 cut-same n at w t e = ap (λ b. cond b t (tree.Slice t at w)) (eq-eqb n w e)
 
-cut-other : (n at w : ℕ) (t : Tree) → n ≢ w → cut n at w t ≡ tree.Slice t at w
+pub cut-other : (n at w : ℕ) (t : Tree) → n ≢ w → cut n at w t ≡ tree.Slice t at w
 cut-other n at w t e = ap (λ b. cond b t (tree.Slice t at w)) (ne_eqb n w e)
 
-glue-both : (m n : ℕ) (t u : Tree) → 1 ≤ m → 1 ≤ n → glue m t n u ≡ tree.Concat t u
+pub glue-both : (m n : ℕ) (t u : Tree) → 1 ≤ m → 1 ≤ n → glue m t n u ≡ tree.Concat t u
 glue-both m n t u some more =
     ap (λ b. cond b t (cond (m == 0) u (tree.Concat t u))) (ne_eqb n 0 (λ e. omega arith)) ∙ ap (λ b. cond b u (tree.Concat t u)) (ne_eqb m 0 (λ e. omega arith))
 
 pub glue-none : (m n : ℕ) (t u : Tree) → n ≡ 0 → glue m t n u ≡ t
 glue-none m n t u e = ap (λ b. cond b t (cond (m == 0) u (tree.Concat t u))) (eq-eqb n 0 e)
 
-glue-low : (m n : ℕ) (t u : Tree) → m ≡ 0 → 1 ≤ n → glue m t n u ≡ u
+pub glue-low : (m n : ℕ) (t u : Tree) → m ≡ 0 → 1 ≤ n → glue m t n u ≡ u
 glue-low m n t u e some =
     ap (λ b. cond b t (cond (m == 0) u (tree.Concat t u))) (ne_eqb n 0 (λ z. omega arith)) ∙ ap (λ b. cond b u (tree.Concat t u)) (eq-eqb m 0 e)
 
@@ -110,8 +110,8 @@ module _ (at w : ℕ) (p : Piece) (left : List Piece) where
   met-missed : high ≤ low → met at w (p ∷ left) ≡ met at w left
   met-missed l = ap (λ b. cond b (part ∷ met at w left) (met at w left)) (le-ltb low high l)
 
-  pub joining-missed : (g : Cells) (o : Option Lowered) (n : ℕ) (whole : Tree) → high ≤ low → IsJoining g o n (p ∷ left) at w whole → IsJoining g o n left at w whole
-  joining-missed g o n whole l is = record {
+  pub joining-missed : (J : Tree → ℕ → Type 0) (n : ℕ) (whole : Tree) → high ≤ low → IsJoiningBy J n (p ∷ left) at w whole → IsJoiningBy J n left at w whole
+  joining-missed J n whole l is = record {
     low = is.low;
     is = is.is;
     within = is.within;
@@ -119,15 +119,15 @@ module _ (at w : ℕ) (p : Piece) (left : List Piece) where
   }
 
   -- low bits and, above them, a part that ends at the place k
-  abbrev joined_at : (n l k i : ℕ) → Tree → Tree
+  abbrev pub joined_at : (n l k i : ℕ) → Tree → Tree
   joined_at n l k i u = glue (k - l) (cut p.size i (k - l) p.tree) (l - at) (glue (l - at - n) (tree.Const (l - at - n) 0) n u)
 
-  pub joining-hit : (h : Cells) (made : Lowered) (n : ℕ) (u whole : Tree) (l k i b : ℕ) → low < high → l ≡ low → k ≡ high → i ≡ p.inside + (l - p.at) → b ≡ k - at
-      → whole ≡ join_pieces n u (met at w (p ∷ left)) w → HasTree h made (joined_at n l k i u) (k - l + (l - at)) → IsJoining h (Some made) b left at w whole
-  joining-hit h made n u whole l k i b hit el ek ei eb same has =
+  pub joining-hit : (J : Tree → ℕ → Type 0) (n : ℕ) (u whole : Tree) (l k i b : ℕ) → low < high → l ≡ low → k ≡ high → i ≡ p.inside + (l - p.at) → b ≡ k - at
+      → whole ≡ join_pieces n u (met at w (p ∷ left)) w → J (joined_at n l k i u) (k - l + (l - at)) → IsJoiningBy J b left at w whole
+  joining-hit J n u whole l k i b hit el ek ei eb same has =
       let size : k - l + (l - at) ≡ b = omega arith in record {
         low = joined_at n l k i u;
-        is = (omega arith, subst (λ x. HasTree h made (joined_at n l k i u) x) size has);
+        is = subst (λ x. J (joined_at n l k i u) x) size has;
         within = omega arith;
         same = same ∙ ap (λ ps. join_pieces n u ps w) (met-hit hit)
             ∙ ap₂ (λ x y. join_pieces (y - x + (x - at)) (joined_at n x y (p.inside + (x - p.at)) u) (met at w left) w) (sym el) (sym ek)

@@ -2,6 +2,7 @@
 use Rattle.std.proofs.Common.{◌≡◌, ◌∙◌, ◌⊎◌, inl, inr, refl, sym, ap, ap₂, subst, arith, ℕ, zero, suc, ◌+◌, ◌<◌, ◌≤◌, max, min, Bool, true, false, cond, ◌&&◌, ◌==◌, nat_lt, eq-eqb, lt-ltb, List, [], ◌∷◌, ◌++◌, length, length-append, map, take, All, Option, Some, None, slice_get, option_map, unwrap_or}
 use Rattle.std.specs.List.{Contains}
 use Rattle.std.proofs.lemmas.List.{length-map}
+use Rattle.std.proofs.lemmas.List.Elements.{Contains-append_right}
 use Rattle.std.proofs.lemmas.Option.{slice_get-map, slice_get_within}
 use Rattle.cdc_base.specs.declared.signal.Signal.{Signal}
 use Rattle.cdc_base.specs.declared.signal.SigKind.{SigKind}
@@ -15,16 +16,15 @@ use Rattle.driver_trees.specs.declared.draft.Draft.{Draft}
 use Rattle.driver_trees.specs.declared.draft.Form.{Form}
 use Rattle.driver_trees.specs.declared.draft.Form.TheVariants.{Read, Made}
 use Rattle.driver_trees.specs.declared.sketch.Piece.{Piece}
-use Rattle.driver_trees.specs.declared.sketch.Sketch.{Sketch}
 use Rattle.driver_trees.specs.Drafts.{AreDrafts, IsDraftAt}
-use Rattle.driver_trees.specs.Sketches.{IsPieceIn, IsSketchOf}
+use Rattle.driver_trees.specs.Sketches.{IsPieceIn}
 use Rattle.driver_loops.specs.Leads.{draft_ends, form_ends, has_bits, is_wire_in, links_of, meeting_places, operand_ids, piece_ends}
 use Rattle.driver_loops.specs.Links.{IsLink, ends_of}
 use Rattle.driver_loops.specs.Orders as orders
-use Rattle.driver_loops.specs.Orders.{IsFront, Reaches}
+use Rattle.driver_loops.specs.Orders.{IsFront, IsOrderOf, Reaches}
 use Rattle.driver_loops.proofs.Loops.{get_take, in_front, place_in, take_get}
-use Rattle.driver_loops.proofs.Members.{get_left}
-use Rattle.elaborate.specs.Lowered.{AreNeeded, EndsStandBefore, FormLeadsTo, LeadsTo, Meets}
+use Rattle.driver_loops.proofs.Members.{contains_get, get_left}
+use Rattle.elaborate.specs.Lowered.{EndsStandBefore, FormLeadsTo, LeadsTo, Meets}
 use Rattle.elaborate.proofs.Vertices.{all-at, operand-before}
 
 -- ---- operands
@@ -106,7 +106,7 @@ module _ (f : Flat) (ds : List Draft) (ps : List Piece) (drafts : AreDrafts (siz
   abbrev ls : List (List ℕ)
   ls = links_of f.signals ds ps
 
-  vertices : length ls ≡ length ds + length ps
+  pub vertices : length ls ≡ length ds + length ps
   vertices =
       length-append (map (draft_ends f.signals n ps) ds) (map piece_ends ps)
       ∙ ap₂ (λ x y. x + y) (length-map ds (draft_ends f.signals n ps)) (length-map ps piece_ends)
@@ -150,17 +150,17 @@ module _ (f : Flat) (ds : List Draft) (ps : List Piece) (drafts : AreDrafts (siz
       in_front (take k order) i found.0 e found.1 (get_take order k found.0 e (let l = found.1 in let m = here.0 in omega arith) found.2)
 
   -- what the front's roots are stands in it
-  root-in : (roots order : List ℕ) (k v : ℕ) → IsFront ls roots order k → Contains roots v → v < length ds → Contains (take k order) v
+  pub root-in : (roots order : List ℕ) (k v : ℕ) → IsFront ls roots order k → Contains roots v → v < length ds → Contains (take k order) v
   root-in roots order k v front given l =
       (front.reached v).1 (record { root = v; given = given; vertex = (let count = vertices in omega arith); way = Reaches.here })
 
-pub front-needed : (f : Flat) (ds : List Draft) (s : Sketch) → IsSketchOf f ds s → (roots order : List ℕ) (k : ℕ) → IsFront (links_of f.signals ds s.pieces.items) roots order k
-    → AreNeeded s roots → AreNeeded s (take k order)
-front-needed f ds s sketch roots order k front needed = record {
-  registers = λ i d l.
-      let r = sketch.registers i d l in let m = needed.registers i d l in (
-        root-in f ds s.pieces.items sketch.drafts sketch.stand roots order k _ front m.0 r.next.0,
-        root-in f ds s.pieces.items sketch.drafts sketch.stand roots order k _ front m.1 r.clock.0,
-      );
-  outputs = λ i d l. root-in f ds s.pieces.items sketch.drafts sketch.stand roots order k _ front (needed.outputs i d l) (sketch.outputs_stand i d l).0;
-}
+  -- an order that begins at the pieces has them
+  pub piece-in : (roots others order : List ℕ) → IsOrderOf ls (roots ++ others) order → ((i : ℕ) → i < length ps → slice_get others i ≡ Some (length ds + i)) → (i : ℕ) → i < length ps
+      → Contains order (length ds + i)
+  piece-in roots others order of listed i l =
+      (of.reached (length ds + i)).1 (record {
+        root = length ds + i;
+        given = Contains-append_right roots others (length ds + i) (contains_get others i (length ds + i) (listed i l));
+        vertex = (let count = vertices in omega arith);
+        way = Reaches.here;
+      })

@@ -1,7 +1,11 @@
 pub mod CellTrees
+pub mod Counts
 pub mod Fits
 pub mod Grown
 pub mod Leads
 pub mod NetTrees
+pub mod Orders
+pub mod Refusals
+pub mod Roots
 pub mod Shared
 pub mod Vertices

@@ -31,7 +31,7 @@ use Rattle.driver_trees.specs.Sketches.{AreOrdered, IsBefore, IsPieceIn, piece_o
 use Rattle.elaborate.specs.declared.lower.Tree.{Tree as Lowered}
 use Rattle.elaborate.specs.Words.{as_word, word_width}
 use Rattle.elaborate.specs.Grown.{Grows}
-use Rattle.elaborate.specs.Lowered.{IsJoining, IsTreeOf, Knows, tree_met}
+use Rattle.elaborate.specs.Lowered.{IsJoiningBy, IsTreeOf, Knows, tree_met}
 use Rattle.elaborate.proofs.CellTrees.{has-kept}
 use Rattle.flat_meaning.proofs.Words.{by_lt}
 
@@ -60,7 +60,7 @@ met-other (t ∷ ts) (suc v) (suc u) made other = met-other ts v u made (λ e. o
 
 -- ---- drafts
 
-get-push_new : {A : Type 0} (xs : List A) (y : A) (k : ℕ) → k ≡ length xs → slice_get (xs ++ y ∷ []) k ≡ Some y
+pub get-push_new : {A : Type 0} (xs : List A) (y : A) (k : ℕ) → k ≡ length xs → slice_get (xs ++ y ∷ []) k ≡ Some y
 get-push_new [] y k h = ap (slice_get (y ∷ [])) h
 get-push_new (x ∷ xs) y zero h = absurd (omega arith)
 get-push_new (x ∷ xs) y (suc k) h = get-push_new xs y k (omega arith)
@@ -234,16 +234,16 @@ module _ (ps : List Piece) (sig first past : ℕ) (before : IsPartitionPoint (λ
   none-behind i p at l e = let a = within-at (λ (q : Piece). sig < q.sig) ps past (length ps) i p behind.1 at l (slice_get_within ps i p at) in absurd (omega arith)
 
 -- what was joined up to piece k, and that the signal's pieces from there on lie above it
-pub record IsAt (sel : Selects) (ds : List Draft) (ps : List Piece) (g : Cells) (joined : Option Lowered) (n sig at w k : ℕ) : Type 0 where
-  pub join : IsJoining g joined n (pieces_in sel ds (drop k ps) sig) at w (wire_select (pieces_in sel ds ps sig) at w)
+pub record IsAt (sel : Selects) (ds : List Draft) (ps : List Piece) (J : Tree → ℕ → Type 0) (n sig at w k : ℕ) : Type 0 where
+  pub join : IsJoiningBy J n (pieces_in sel ds (drop k ps) sig) at w (wire_select (pieces_in sel ds ps sig) at w)
   pub above : (i : ℕ) (q : Piece) → k ≤ i → slice_get ps i ≡ Some q → q.sig ≡ sig → at + n ≤ max at q.at
 
-module _ (sel : Selects) (ds : List Draft) (ps : List Piece) (sig at w : ℕ) where
-  pub begins : (g : Cells) (k : ℕ) → ((i : ℕ) (p : Piece) → slice_get ps i ≡ Some p → i < k → p.sig ≢ sig) → IsAt sel ds ps g None 0 sig at w k
-  begins g k before = record {
+module _ (sel : Selects) (ds : List Draft) (ps : List Piece) (sig at w : ℕ) (J : Tree → ℕ → Type 0) where
+  pub begins : J (tree.Const 0 0) 0 → (k : ℕ) → ((i : ℕ) (p : Piece) → slice_get ps i ≡ Some p → i < k → p.sig ≢ sig) → IsAt sel ds ps J 0 sig at w k
+  begins is k before = record {
     join = record {
       low = tree.Const 0 0;
-      is = refl;
+      is = is;
       within = omega arith;
       same = ap (λ qs. join_pieces 0 (tree.Const 0 0) (met at w qs) w) (sym (skipped sel ds sig ps k before));
     };
@@ -251,18 +251,18 @@ module _ (sel : Selects) (ds : List Draft) (ps : List Piece) (sig at w : ℕ) wh
   }
 
   -- piece k is the next one
-  pub comes-next : (g : Cells) (o : Option Lowered) (n k : ℕ) (p : Piece) → slice_get ps k ≡ Some p → p.sig ≡ sig → IsAt sel ds ps g o n sig at w k
-      → IsJoining g o n (piece_of sel ds p ∷ pieces_in sel ds (drop (k + 1) ps) sig) at w (wire_select (pieces_in sel ds ps sig) at w)
-  comes-next g o n k p here own is =
+  pub comes-next : (n k : ℕ) (p : Piece) → slice_get ps k ≡ Some p → p.sig ≡ sig → IsAt sel ds ps J n sig at w k
+      → IsJoiningBy J n (piece_of sel ds p ∷ pieces_in sel ds (drop (k + 1) ps) sig) at w (wire_select (pieces_in sel ds ps sig) at w)
+  comes-next n k p here own is =
       let next : suc k ≡ k + 1 = omega arith in
-      subst (λ qs. IsJoining g o n qs at w (wire_select (pieces_in sel ds ps sig) at w))
+      subst (λ qs. IsJoiningBy J n qs at w (wire_select (pieces_in sel ds ps sig) at w))
       (own-first sel ds sig ps k p here own ∙ ap (λ j. piece_of sel ds p ∷ pieces_in sel ds (drop j ps) sig) next) is.join
 
   -- it was joined
-  pub goes-on : (h : Cells) (next : Option Lowered) (n m k : ℕ) (p : Piece) → AreOrdered ps → slice_get ps k ≡ Some p → p.sig ≡ sig → at + m ≤ max (at + n) (p.at + p.width)
+  pub goes-on : (n m k : ℕ) (p : Piece) → AreOrdered ps → slice_get ps k ≡ Some p → p.sig ≡ sig → at + m ≤ max (at + n) (p.at + p.width)
       → ((i : ℕ) (q : Piece) → k ≤ i → slice_get ps i ≡ Some q → q.sig ≡ sig → at + n ≤ max at q.at)
-      → IsJoining h next m (pieces_in sel ds (drop (k + 1) ps) sig) at w (wire_select (pieces_in sel ds ps sig) at w) → IsAt sel ds ps h next m sig at w (k + 1)
-  goes-on h next n m k p ordered here own short above join = record {
+      → IsJoiningBy J m (pieces_in sel ds (drop (k + 1) ps) sig) at w (wire_select (pieces_in sel ds ps sig) at w) → IsAt sel ds ps J m sig at w (k + 1)
+  goes-on n m k p ordered here own short above join = record {
     join = join;
     above = λ i q l e same.
         let b = (ordered-at ps k i p q ordered (omega arith) here e).0 (own ∙ sym same) in
@@ -270,9 +270,9 @@ module _ (sel : Selects) (ds : List Draft) (ps : List Piece) (sig at w : ℕ) wh
   }
 
   -- no piece of the signal is left
-  pub ends : (g : Cells) (o : Option Lowered) (n k : ℕ) → ((i : ℕ) (p : Piece) → slice_get ps i ≡ Some p → k ≤ i → p.sig ≢ sig) → IsAt sel ds ps g o n sig at w k
-      → IsJoining g o n [] at w (wire_select (pieces_in sel ds ps sig) at w)
-  ends g o n k none is = subst (λ qs. IsJoining g o n qs at w (wire_select (pieces_in sel ds ps sig) at w)) (none-left sel ds sig ps k none) is.join
+  pub ends : (n k : ℕ) → ((i : ℕ) (p : Piece) → slice_get ps i ≡ Some p → k ≤ i → p.sig ≢ sig) → IsAt sel ds ps J n sig at w k
+      → IsJoiningBy J n [] at w (wire_select (pieces_in sel ds ps sig) at w)
+  ends n k none is = subst (λ qs. IsJoiningBy J n qs at w (wire_select (pieces_in sel ds ps sig) at w)) (none-left sel ds sig ps k none) is.join
 
 -- ---- vertices
 

@@ -45,12 +45,15 @@ abbrev pub IsJoined : Cells → Option Lowered → Tree → ℕ → Type 0
 IsJoined g None t n = n ≡ 0
 IsJoined g (Some made) t n = (1 ≤ n) × HasTree g made t n
 
--- bits joined so far that, with the pieces left, make the whole of a select of w bits
-pub record IsJoining (g : Cells) (joined : Option Lowered) (n : ℕ) (left : List meaning.Piece) (at w : ℕ) (whole : Tree) : Type 0 where
+-- bits joined so far, of which something is known, that make with the pieces left the whole of a select of w bits
+pub record IsJoiningBy (J : Tree → ℕ → Type 0) (n : ℕ) (left : List meaning.Piece) (at w : ℕ) (whole : Tree) : Type 0 where
   pub low : Tree
-  pub is : IsJoined g joined low n
+  pub is : J low n
   pub within : n ≤ w
   pub same : whole ≡ join_pieces n low (met at w left) w
+
+abbrev pub IsJoining : Cells → Option Lowered → (n : ℕ) → List meaning.Piece → (at w : ℕ) → Tree → Type 0
+IsJoining g joined = IsJoiningBy (IsJoined g joined)
 
 -- ---- vertices
 

@@ -3,8 +3,7 @@
 //! The drafts of a flat design fit each other, and become cells as they are. Words that don't are fitted as the language
 //! fits them: zeros stand above the narrower one, and a condition is whether its word isn't zero. No word has more than
 //! 64 bits, and bits that aren't there are zero.
-ghost use Rattle.std.specs.Prelude.{◌≡◌, ◌≤◌, ◌<◌, ◌^◌, ℕ, length, Some, slice_get, IfOk, IfErr, OnOk};
-ghost use Rattle.refusals.specs.Numbers.{HasNumberIn, elaboration_numbers};
+ghost use Rattle.std.specs.Prelude.{◌≡◌, ◌≤◌, ◌<◌, ◌^◌, ℕ, length, Some, slice_get, IfOk, OnOk};
 ghost use Rattle.cell_graph.specs.Cells.{Cells, cell_width, signal_width as width_in, width_of, widths};
 ghost use Rattle.cell_graph.specs.Nets.{AreSized, IsWordOf};
 ghost use Rattle.cell_graph.specs.Shared.{IsShared};
@@ -14,7 +13,7 @@ ghost use Rattle.elaborate.specs.Grown.{Grows};
 ghost use Rattle.flat_meaning.specs.Design.{kind_in, kind_is_variable};
 ghost use Rattle.elaborate.specs.Words.{word_width};
 
-use cdc_base::{List, NoMemory, SigKind, Signal, Stop};
+use cdc_base::{List, NoMemory, SigKind, Signal};
 use cell_graph::word::low_bits;
 use cell_graph::{Cell, CellId, Graph, ReduceKind};
 use std::alloc::Global;
@@ -86,10 +85,7 @@ impl Builder {
     pub fn is_variable(&self, sig: u32) -> bool
         ensures { result ≡ kind_is_variable (kind_in self.now.signals sig) }
     {
-        match self.graph.signals().get(sig as usize) {
-            Some(signal) => is_variable_kind(signal.kind),
-            None => false,
-        }
+        is_variable_in(self.graph.signals(), sig)
     }
 
     /// The bits of the cell.
@@ -100,22 +96,22 @@ impl Builder {
         self.graph.width(id)
     }
 
-    /// Adds a cell that fits.
-    fn place(&mut self, cell: Cell) -> Result<CellId, Stop>
+    /// Adds a cell that fits. The cells of the design were counted before, so that the graph has room for them.
+    fn place(&mut self, cell: Cell) -> Result<CellId, NoMemory>
         requires { IsCellOf self.old (length self.old.cells) cell }
-        ensures numbered { IfErr result (HasNumberIn elaboration_numbers) }
         ensures signals { self.new.signals ≡ self.old.signals }
         ensures grown { OnOk result (Grows self.old self.new) }
         ensures word { IfOk result (λ id. IsWordOf self.new id (width_of self.new.signals (widths self.new.signals self.new.cells) cell)) }
         ensures found { IfOk result (λ id. slice_get self.new.cells id.0 ≡ Some cell) }
     {
-        let id = self.graph.add(cell)?;
+        let Ok(id) = self.graph.add(cell) else {
+            return Err(NoMemory);
+        };
         Ok(id)
     }
 
     /// The cell; a zero bit where the graph has none.
-    pub fn there(&mut self, id: CellId) -> Result<CellId, Stop>
-        ensures numbered { IfErr result (HasNumberIn elaboration_numbers) }
+    pub fn there(&mut self, id: CellId) -> Result<CellId, NoMemory>
         ensures signals { self.new.signals ≡ self.old.signals }
         ensures grown { OnOk result (Grows self.old self.new) }
         ensures word { IfOk result (λ c. IsWordOf self.new c (cell_width self.old id)) }
@@ -129,9 +125,8 @@ impl Builder {
     }
 
     /// The word at `width` bits: with zeros above, or its lowest bits.
-    pub fn fitted(&mut self, word: CellId, width: u8) -> Result<CellId, Stop>
+    pub fn fitted(&mut self, word: CellId, width: u8) -> Result<CellId, NoMemory>
         requires { (1 ≤ width) × (width ≤ 64) }
-        ensures numbered { IfErr result (HasNumberIn elaboration_numbers) }
         ensures signals { self.new.signals ≡ self.old.signals }
         ensures grown { OnOk result (Grows self.old self.new) }
         ensures word { IfOk result (λ c. IsWordOf self.new c width) }
@@ -151,8 +146,7 @@ impl Builder {
     }
 
     /// Both words, the narrower one with zeros above.
-    fn alike(&mut self, a: CellId, b: CellId) -> Result<(CellId, CellId), Stop>
-        ensures numbered { IfErr result (HasNumberIn elaboration_numbers) }
+    fn alike(&mut self, a: CellId, b: CellId) -> Result<(CellId, CellId), NoMemory>
         ensures signals { self.new.signals ≡ self.old.signals }
         ensures grown { OnOk result (Grows self.old self.new) }
         ensures words { IfOk result (λ p. (w : ℕ) × (IsWordOf self.new p.0 w × IsWordOf self.new p.1 w)) }
@@ -165,8 +159,7 @@ impl Builder {
     }
 
     /// Both words, as wide as they are.
-    fn both(&mut self, a: CellId, b: CellId) -> Result<(CellId, CellId), Stop>
-        ensures numbered { IfErr result (HasNumberIn elaboration_numbers) }
+    fn both(&mut self, a: CellId, b: CellId) -> Result<(CellId, CellId), NoMemory>
         ensures signals { self.new.signals ≡ self.old.signals }
         ensures grown { OnOk result (Grows self.old self.new) }
         ensures words { IfOk result (λ p. IsWordOf self.new p.0 (cell_width self.old a) × IsWordOf self.new p.1 (cell_width self.old b)) }
@@ -179,8 +172,7 @@ impl Builder {
     }
 
     /// Whether the word isn't zero, as one bit.
-    fn truth(&mut self, word: CellId) -> Result<CellId, Stop>
-        ensures numbered { IfErr result (HasNumberIn elaboration_numbers) }
+    fn truth(&mut self, word: CellId) -> Result<CellId, NoMemory>
         ensures signals { self.new.signals ≡ self.old.signals }
         ensures grown { OnOk result (Grows self.old self.new) }
         ensures word { IfOk result (λ c. IsWordOf self.new c 1) }
@@ -210,8 +202,7 @@ impl Builder {
     }
 
     /// The one word above the other.
-    fn joined(&mut self, high: CellId, low: CellId) -> Result<Cell, Stop>
-        ensures numbered { IfErr result (HasNumberIn elaboration_numbers) }
+    fn joined(&mut self, high: CellId, low: CellId) -> Result<Cell, NoMemory>
         ensures signals { self.new.signals ≡ self.old.signals }
         ensures grown { OnOk result (Grows self.old self.new) }
         ensures fits { IfOk result (IsCellOf self.new (length self.new.cells)) }
@@ -235,8 +226,7 @@ impl Builder {
     }
 
     /// The `width` bits of the word from `at` on.
-    fn slice(&mut self, word: CellId, at: u8, width: u8) -> Result<Cell, Stop>
-        ensures numbered { IfErr result (HasNumberIn elaboration_numbers) }
+    fn slice(&mut self, word: CellId, at: u8, width: u8) -> Result<Cell, NoMemory>
         ensures signals { self.new.signals ≡ self.old.signals }
         ensures grown { OnOk result (Grows self.old self.new) }
         ensures fits { IfOk result (IsCellOf self.new (length self.new.cells)) }
@@ -263,9 +253,8 @@ impl Builder {
     }
 
     /// The word with zeros above, or its lowest bits.
-    fn extended(&mut self, word: CellId, width: u8) -> Result<Cell, Stop>
+    fn extended(&mut self, word: CellId, width: u8) -> Result<Cell, NoMemory>
         requires { (1 ≤ width) × (width ≤ 64) }
-        ensures numbered { IfErr result (HasNumberIn elaboration_numbers) }
         ensures signals { self.new.signals ≡ self.old.signals }
         ensures grown { OnOk result (Grows self.old self.new) }
         ensures fits { IfOk result (IsCellOf self.new (length self.new.cells)) }
@@ -280,8 +269,7 @@ impl Builder {
     }
 
     /// The cell over words that fit it: itself where its words do.
-    fn fit(&mut self, cell: Cell) -> Result<Cell, Stop>
-        ensures numbered { IfErr result (HasNumberIn elaboration_numbers) }
+    fn fit(&mut self, cell: Cell) -> Result<Cell, NoMemory>
         ensures signals { self.new.signals ≡ self.old.signals }
         ensures grown { OnOk result (Grows self.old self.new) }
         ensures fits { IfOk result (IsCellOf self.new (length self.new.cells)) }
@@ -346,8 +334,7 @@ impl Builder {
     }
 
     /// Adds the cell over words that fit it: the cell itself where its words do.
-    pub fn add(&mut self, cell: Cell) -> Result<CellId, Stop>
-        ensures numbered { IfErr result (HasNumberIn elaboration_numbers) }
+    pub fn add(&mut self, cell: Cell) -> Result<CellId, NoMemory>
         ensures signals { self.new.signals ≡ self.old.signals }
         ensures grown { OnOk result (Grows self.old self.new) }
         ensures found { IsCellOf self.old (length self.old.cells) cell → IfOk result (λ id. slice_get self.new.cells id.0 ≡ Some cell) }
@@ -374,6 +361,16 @@ fn constant(width: u8, value: u64) -> Cell
     Cell::Const {
         width: size,
         value: low_bits(value, size),
+    }
+}
+
+/// Whether the signal is a register or a top input.
+pub fn is_variable_in(signals: &[Signal], sig: u32) -> bool
+    ensures { result ≡ kind_is_variable (kind_in signals.now sig) }
+{
+    match signals.get(sig as usize) {
+        Some(signal) => is_variable_kind(signal.kind),
+        None => false,
     }
 }
 

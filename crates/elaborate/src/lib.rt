@@ -5,7 +5,7 @@
 //! as often as it is used.
 #![tactic(auto)]
 
-ghost use Rattle.std.specs.Prelude.{◌≡◌, ◌≤◌, ◌<◌, ℕ, length, map, take, vec_len, All, IfOk, IfErr, OnOk};
+ghost use Rattle.std.specs.Prelude.{◌≡◌, ◌≤◌, ◌<◌, ◌+◌, ℕ, true, Some, length, map, take, drop, slice_get, vec_len, All, IfOk, IfErr, IfNone, IfSome, OnOk};
 ghost use Rattle.cell_graph.specs.declared.cell.CellId.{CellId as Id};
 ghost use Rattle.cell_graph.specs.declared.net.Reg.{Reg as NetRegister};
 ghost use Rattle.driver_trees.specs.declared.sketch.Register.{Register as RegisterDraft};
@@ -23,16 +23,26 @@ ghost use Rattle.flat_meaning.specs.Design.{Flat as FlatOf};
 ghost use Rattle.driver_trees.specs.Sketches.{IsSketchOf};
 ghost use Rattle.flat_meaning.specs.SignalTrees.{AreTrees};
 ghost use Rattle.flat_meaning.specs.Trees.{Selects};
+ghost use Rattle.elaborate.specs.Counts.{HasRoom, capped, draft_cells, root_ids};
+ghost use Rattle.elaborate.specs.Counted.{CanCount};
+ghost use Rattle.elaborate.specs.Refusals.{IsAccepted, IsDesignOf, IsFirstMarked, IsNetRefusedFor, IsRefusedFor, NamesPiece, Tells};
+ghost use Rattle.flat_form.specs.Sizes.{IsWellSized};
+ghost use Rattle.flat_form.specs.View.{flat_of};
+ghost use Rattle.flat_meaning.specs.Segments.{IsLoopFree};
+ghost use Rattle.flat_meaning.specs.Sound.{IsSound};
 ghost use Rattle.elaborate.specs.Lowered.{AreMet, AreNeeded, CanLower, EndsStandBefore, IsDraftMet, Knows};
 ghost use Rattle.elaborate.specs.NetTrees.{HasTrees, IsRegisterOf};
 ghost use Rattle.elaborate.specs.Words.{AreStarted, IsRegOf, as_word, known_bits};
 
 mod builder;
+mod count;
 mod lower;
 mod refusal;
 
 use crate::builder::sized;
+use crate::count::Counts;
 use crate::lower::Lowering;
+use crate::refusal::past_limit;
 use cdc_base::limits::MAX_CELLS;
 use cdc_base::{List, NoMemory, SigKind, Signal, Stop};
 use cell_graph::word::low_bits;
@@ -41,7 +51,7 @@ use driver_loops::{Links, walk};
 use driver_trees::Sketch;
 use driver_trees::memory::{numbered, push};
 use flat_form::Flat;
-use refusals::past_limit;
+use loop_law::{first_loop_is_first, signals_lie_on_loops, well_sized_is_filled};
 use std::alloc::Global;
 
 /// Makes the cells of the design's registers and outputs.
@@ -61,7 +71,11 @@ pub fn elaborate(alloc: Global, flat: &Flat) -> Result<Net, Stop>
     ensures next_cells { IfOk result HasNextCells }
     ensures shared { IfOk result (λ net. IsShared net.graph) }
     ensures outputs_stand { IfOk result (λ net. All (λ (o : Id). o.0 < length net.graph.cells) net.outputs) }
+    ensures unfolds { IsWellSized flat.now → IsSound (flat_of flat.now) → IfOk result (λ net. (sel : Selects) → AreTrees (flat_of flat.now) sel → HasTrees (flat_of flat.now) sel net) }
+    ensures refused { IfErr result (Tells (IsRefusedFor flat.now)) }
+    ensures accepted { IfOk result (λ net. IsAccepted flat.now) }
 {
+    well_sized_is_filled();
     let signals = flat.signals.as_slice();
     if refusal::has_too_many_state_bits(signals) {
         return Err(past_limit(alloc, 605));
@@ -82,7 +96,11 @@ fn net_of(alloc: Global, signals: &[Signal], sketch: &Sketch) -> Result<Net, Sto
     ensures fit { IfOk result (λ net. All (IsRegOf net.graph) net.regs) }
     ensures outputs_stand { IfOk result (λ net. All (λ (o : Id). o.0 < length net.graph.cells) net.outputs) }
     ensures unfolds { IfOk result (λ net. (f : FlatOf) (sel : Selects) → f.signals ≡ signals.now → AreTrees f sel → IsSketchOf f sketch.now.drafts sketch.now → HasTrees f sel net) }
+    ensures refused { IfErr result (Tells (IsNetRefusedFor signals.now sketch.now)) }
+    ensures accepted { IfOk result (λ net. (f : FlatOf) → IsDesignOf f signals.now sketch.now → IsLoopFree f × HasRoom f) }
 {
+    signals_lie_on_loops();
+    first_loop_is_first();
     let links = Links::of(alloc, signals, sketch)?;
     let needed = roots_of(alloc, sketch)?;
     let others = pieces_of(alloc, sketch)?;
@@ -91,9 +109,14 @@ fn net_of(alloc: Global, signals: &[Signal], sketch: &Sketch) -> Result<Net, Sto
     let order = found.0.as_slice();
     let loops = walk::has_loop(alloc, &links, order)?;
     if loops {
-        return Err(loop_of(alloc, signals, sketch, &links, order)?);
+        let stop = loop_of(alloc, signals, sketch, &links, order)?;
+        return Err(stop);
     }
     let front = front_of(order, found.1);
+    let cells = cells_of(alloc, signals, sketch, front, roots)?;
+    if cells > MAX_CELLS {
+        return Err(past_limit(alloc, 602));
+    }
     let net = make_net(alloc, signals, sketch, front)?;
     Ok(net)
 }
@@ -106,7 +129,9 @@ fn front_of(order: &[u32], count: usize) -> &[u32]
 }
 
 /// The pieces as vertices.
-fn pieces_of(alloc: Global, sketch: &Sketch) -> Result<Vec<u32>, NoMemory> {
+fn pieces_of(alloc: Global, sketch: &Sketch) -> Result<Vec<u32>, NoMemory>
+    ensures { IfOk result (λ vertices. (i : ℕ) → i < length sketch.now.pieces.items → slice_get vertices.items i ≡ Some (length sketch.now.drafts + i)) }
+{
     let first = sketch.drafts.as_slice().len();
     let mut vertices = Vec::new(alloc);
     for place in 0..sketch.pieces.len() {
@@ -125,27 +150,59 @@ fn loop_of(
     order: &[u32],
 ) -> Result<Stop, NoMemory>
     ensures numbered { IfOk result (HasNumberIn elaboration_numbers) }
+    ensures told { IfOk result (Tells (NamesPiece signals.now sketch.now links.now order.now)) }
 {
     let on_loops = walk::on_loops(alloc, links, order)?;
-    let first = sketch.drafts.as_slice().len();
-    for (place, piece) in sketch.pieces.iter().enumerate() {
-        if on_loops
-            .get(first.saturating_add(place))
-            .copied()
-            .unwrap_or(false)
-        {
-            if let Some(signal) = signals.get(piece.sig as usize) {
-                return Ok(refusal::combinational_loop(alloc, signal));
-            }
+    match looped(signals, sketch, on_loops.as_slice()) {
+        Some(signal) => Ok(refusal::combinational_loop(alloc, signal)),
+        // A loop leads through a piece, so that one was found.
+        None => Err(NoMemory),
+    }
+}
+
+/// The signal of the first piece on a loop.
+fn looped<'a>(signals: &'a [Signal], sketch: &Sketch, on_loops: &[bool]) -> Option<&'a Signal>
+    ensures { IfSome result (λ s. IsFirstMarked signals.now sketch.now on_loops.now s.now) }
+{
+    let Some(place) = first_mark(behind(on_loops, sketch.drafts.as_slice().len())) else {
+        return None;
+    };
+    let Some(piece) = sketch.pieces.as_slice().get(place) else {
+        return None;
+    };
+    match signals.get(piece.sig as usize) {
+        Some(signal) => Some(signal),
+        None => None,
+    }
+}
+
+/// The marks from a place on.
+fn behind(marks: &[bool], place: usize) -> &[bool]
+    ensures { result.now ≡ drop place marks.now }
+{
+    marks.get(place..).unwrap_or(&[])
+}
+
+/// The place of the first mark.
+fn first_mark(marks: &[bool]) -> Option<usize>
+    ensures first { IfSome result (λ n. (slice_get marks.now n ≡ Some true) × ((m : ℕ) → m < n → slice_get marks.now m ≡ Some true → ⊥)) }
+    ensures none { IfNone result ((m : ℕ) → slice_get marks.now m ≡ Some true → ⊥) }
+{
+    for place in 0..marks.len() {
+        if marks[place] {
+            return Some(place);
         }
     }
-    // A loop leads through a piece, so that one was found.
-    Err(NoMemory)
+    None
 }
 
 /// The cells of registers and outputs. The order has all that they need, each vertex behind those that it leads to.
-fn make_net(alloc: Global, signals: &[Signal], sketch: &Sketch, order: &[u32]) -> Result<Net, Stop>
-    ensures numbered { IfErr result (HasNumberIn elaboration_numbers) }
+fn make_net(
+    alloc: Global,
+    signals: &[Signal],
+    sketch: &Sketch,
+    order: &[u32],
+) -> Result<Net, NoMemory>
     ensures registers { IfOk result (λ net. map (λ (r : NetRegister). r.sig) net.regs ≡ map (λ (r : RegisterDraft). r.sig) sketch.now.registers.items) }
     ensures outputs { IfOk result (λ net. length net.outputs ≡ vec_len sketch.now.outputs) }
     ensures signals { IfOk result (λ net. net.graph.signals ≡ map as_word signals.now) }
@@ -157,9 +214,6 @@ fn make_net(alloc: Global, signals: &[Signal], sketch: &Sketch, order: &[u32]) -
         → EndsStandBefore f sketch.now.drafts sketch.now.pieces.items order.now → AreNeeded sketch.now order.now → HasTrees f sel net) }
 {
     let lowering = lowered(alloc, signals, sketch, order)?;
-    if cells_of(sketch, &lowering) > MAX_CELLS {
-        return Err(past_limit(alloc, 602));
-    }
     let net = finish(alloc, sketch, lowering)?;
     Ok(net)
 }
@@ -170,8 +224,7 @@ fn lowered(
     signals: &[Signal],
     sketch: &Sketch,
     order: &[u32],
-) -> Result<Lowering, Stop>
-    ensures numbered { IfErr result (HasNumberIn elaboration_numbers) }
+) -> Result<Lowering, NoMemory>
     ensures signals { IfOk result (λ lowering. lowering.graph.signals ≡ map as_word signals.now) }
     ensures known { IfOk result (λ lowering. (f : FlatOf) (sel : Selects) → CanLower f sel sketch.now.drafts sketch.now (map as_word signals.now)
         → EndsStandBefore f sketch.now.drafts sketch.now.pieces.items order.now
@@ -181,7 +234,7 @@ fn lowered(
     let drafts = sketch.drafts.as_slice();
     let pieces = sketch.pieces.as_slice();
     let Some(count) = drafts.len().checked_add(pieces.len()) else {
-        return Err(Stop::Memory);
+        return Err(NoMemory);
     };
     let mut lowering = Lowering::new(alloc, words, count)?;
     for vertex in order {
@@ -190,23 +243,35 @@ fn lowered(
     Ok(lowering)
 }
 
-/// The cells of the trees of registers and outputs, each use of a shared tree counted. The count stops at the end of
-/// `u32`.
-fn cells_of(sketch: &Sketch, lowering: &Lowering) -> u32 {
-    let mut cells = 0u32;
-    for register in &sketch.registers {
-        cells = cells.saturating_add(lowering.cells(register.clock));
-        cells = cells.saturating_add(lowering.cells(register.next));
+/// The cells of the roots' trees, each use of a shared tree counted. The order has all that the roots need, each vertex
+/// behind those that it leads to. The count stops at the end of `u32`.
+fn cells_of(
+    alloc: Global,
+    signals: &[Signal],
+    sketch: &Sketch,
+    order: &[u32],
+    roots: &[u32],
+) -> Result<u32, NoMemory>
+    ensures { IfOk result (λ cells. (f : FlatOf) (sel : Selects) → CanCount f sel sketch.now.drafts sketch.now signals.now
+        → EndsStandBefore f sketch.now.drafts sketch.now.pieces.items order.now
+        → ((v : ℕ) → Contains roots.now v → Contains order.now v × (v < length sketch.now.drafts))
+        → cells ≡ capped (draft_cells sel sketch.now.drafts roots.now)) }
+{
+    let drafts = sketch.drafts.as_slice();
+    let pieces = sketch.pieces.as_slice();
+    let Some(count) = drafts.len().checked_add(pieces.len()) else {
+        return Err(NoMemory);
+    };
+    let mut counts = Counts::new(alloc, count)?;
+    for vertex in order {
+        counts.meet(signals, sketch, *vertex as usize);
     }
-    for output in &sketch.outputs {
-        cells = cells.saturating_add(lowering.cells(*output));
-    }
-    cells
+    Ok(counts.sum(roots))
 }
 
 /// The drafts that the design needs: of each register its clock and next value, and of each output its value.
 fn roots_of(alloc: Global, sketch: &Sketch) -> Result<Vec<u32>, NoMemory>
-    ensures { IfOk result (λ roots. AreNeeded sketch.now roots.items) }
+    ensures { IfOk result (λ roots. roots.items ≡ root_ids sketch.now) }
 {
     let mut roots = Vec::new(alloc);
     for register in &sketch.registers {
@@ -219,8 +284,7 @@ fn roots_of(alloc: Global, sketch: &Sketch) -> Result<Vec<u32>, NoMemory>
     Ok(roots)
 }
 
-fn finish(alloc: Global, sketch: &Sketch, mut lowering: Lowering) -> Result<Net, Stop>
-    ensures numbered { IfErr result (HasNumberIn elaboration_numbers) }
+fn finish(alloc: Global, sketch: &Sketch, mut lowering: Lowering) -> Result<Net, NoMemory>
     ensures registers { IfOk result (λ net. map (λ (r : NetRegister). r.sig) net.regs ≡ map (λ (r : RegisterDraft). r.sig) sketch.now.registers.items) }
     ensures outputs { IfOk result (λ net. length net.outputs ≡ vec_len sketch.now.outputs) }
     ensures signals { IfOk result (λ net. net.graph.signals ≡ lowering.graph.signals) }
@@ -242,8 +306,7 @@ fn finish(alloc: Global, sketch: &Sketch, mut lowering: Lowering) -> Result<Net,
 }
 
 /// The registers, each with its next value at its own bits.
-fn registers(alloc: Global, sketch: &Sketch, lowering: &mut Lowering) -> Result<List<Reg>, Stop>
-    ensures numbered { IfErr result (HasNumberIn elaboration_numbers) }
+fn registers(alloc: Global, sketch: &Sketch, lowering: &mut Lowering) -> Result<List<Reg>, NoMemory>
     ensures signals { OnOk result (lowering.new.graph.signals ≡ lowering.old.graph.signals) }
     ensures same { OnOk result (lowering.new.trees ≡ lowering.old.trees) }
     ensures grown { OnOk result (Grows lowering.old.graph lowering.new.graph) }
@@ -267,8 +330,11 @@ fn registers(alloc: Global, sketch: &Sketch, lowering: &mut Lowering) -> Result<
     Ok(regs)
 }
 
-fn outputs(alloc: Global, sketch: &Sketch, lowering: &mut Lowering) -> Result<List<CellId>, Stop>
-    ensures numbered { IfErr result (HasNumberIn elaboration_numbers) }
+fn outputs(
+    alloc: Global,
+    sketch: &Sketch,
+    lowering: &mut Lowering,
+) -> Result<List<CellId>, NoMemory>
     ensures grown { OnOk result (Grows lowering.old.graph lowering.new.graph) }
     ensures outputs { IfOk result (λ outputs. length outputs ≡ vec_len sketch.now.outputs) }
     ensures stand { IfOk result (λ outputs. All (λ (o : Id). o.0 < length lowering.new.graph.cells) outputs) }

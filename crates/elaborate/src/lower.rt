@@ -1,5 +1,5 @@
 //! The cells of a design, made from its drafts once no wire leads back to itself.
-ghost use Rattle.std.specs.Prelude.{◌≡◌, ◌≤◌, ◌<◌, ◌+◌, ◌-◌, ◌^◌, ℕ, List as Items, [], ◌∷◌, length, max, false, Some, set, slice_get, ◌⊎◌, IfOk, IfErr, OnOk};
+ghost use Rattle.std.specs.Prelude.{◌≡◌, ◌≤◌, ◌<◌, ◌+◌, ◌-◌, ◌^◌, ℕ, List as Items, [], ◌∷◌, length, max, false, Some, set, slice_get, ◌⊎◌, IfOk, OnOk};
 ghost use Rattle.cell_graph.specs.Below.{IsOperand};
 ghost use Rattle.cell_graph.specs.Nets.{AreSized, IsWordOf};
 ghost use Rattle.cell_graph.specs.Tree.{Tree as TreeOf, Const as ConstTree};
@@ -14,22 +14,19 @@ ghost use Rattle.elaborate.specs.Lowered.{CanJoin, CanLower, FormLeadsTo, HasTre
 ghost use Rattle.flat_meaning.specs.Design.{Flat as FlatOf, is_variable, size_in};
 ghost use Rattle.flat_meaning.specs.Pieces.{Piece as PieceOf, wire_select};
 ghost use Rattle.flat_meaning.specs.Trees.{Selects, cut as cut_tree, glue};
-ghost use Rattle.refusals.specs.Numbers.{HasNumberIn, elaboration_numbers};
 
 use crate::builder::Builder;
-use cdc_base::{List, NoMemory, Signal, Stop};
+use cdc_base::{List, NoMemory, Signal};
 use cell_graph::{Cell, CellId};
-use driver_loops::links::{first_piece, operands, past_pieces};
+use driver_loops::links::{first_piece, past_pieces};
 use driver_trees::memory::filled;
 use driver_trees::{Draft, Form, Piece, Sketch};
 use std::alloc::Global;
 
-/// The cell of a tree, and how many cells the tree has where shared ones are counted each time. The count stops at the
-/// end of `u32`.
+/// The cell of a tree.
 #[derive(Clone, Copy, Drop)]
 pub struct Tree {
     pub cell: CellId,
-    pub cells: u32,
 }
 
 /// What was joined of a read from its lowest bit on; no tree where there is no bit yet.
@@ -58,11 +55,6 @@ impl Lowering {
         Ok(Lowering { graph, trees })
     }
 
-    /// How many cells the tree of a draft has.
-    pub fn cells(&self, draft: CellId) -> u32 {
-        self.operand(draft).cells
-    }
-
     /// The tree of a vertex that was met.
     fn tree(&self, vertex: usize) -> Option<Tree>
         ensures exact { result ≡ tree_met self.now.trees.items vertex }
@@ -72,9 +64,8 @@ impl Lowering {
     }
 
     /// The word of a draft that was met, at `width` bits.
-    pub fn word(&mut self, draft: CellId, width: u8) -> Result<CellId, Stop>
+    pub fn word(&mut self, draft: CellId, width: u8) -> Result<CellId, NoMemory>
         requires { (1 ≤ width) × (width ≤ 64) }
-        ensures numbered { IfErr result (HasNumberIn elaboration_numbers) }
         ensures signals { self.new.graph.signals ≡ self.old.graph.signals }
         ensures trees { self.new.trees ≡ self.old.trees }
         ensures grown { OnOk result (Grows self.old.graph self.new.graph) }
@@ -87,8 +78,7 @@ impl Lowering {
     }
 
     /// The word of a draft that was met.
-    pub fn output(&mut self, draft: CellId) -> Result<CellId, Stop>
-        ensures numbered { IfErr result (HasNumberIn elaboration_numbers) }
+    pub fn output(&mut self, draft: CellId) -> Result<CellId, NoMemory>
         ensures signals { self.new.graph.signals ≡ self.old.graph.signals }
         ensures trees { self.new.trees ≡ self.old.trees }
         ensures grown { OnOk result (Grows self.old.graph self.new.graph) }
@@ -106,13 +96,12 @@ impl Lowering {
     {
         match self.tree(id.0 as usize) {
             Some(tree) => tree,
-            None => Tree { cell: id, cells: 0 },
+            None => Tree { cell: id },
         }
     }
 
     /// Makes the tree of a vertex from those that it leads to.
-    pub fn meet(&mut self, sketch: &Sketch, vertex: usize) -> Result<(), Stop>
-        ensures numbered { IfErr result (HasNumberIn elaboration_numbers) }
+    pub fn meet(&mut self, sketch: &Sketch, vertex: usize) -> Result<(), NoMemory>
         ensures signals { self.new.graph.signals ≡ self.old.graph.signals }
         ensures counted { length self.new.trees.items ≡ length self.old.trees.items }
         ensures met { OnOk result ((f : FlatOf) (sel : Selects) → CanLower f sel sketch.now.drafts sketch.now self.old.graph.signals
@@ -138,8 +127,7 @@ impl Lowering {
     }
 
     /// The tree of a draft or of a piece, from those that it leads to.
-    fn made_for(&mut self, sketch: &Sketch, vertex: usize) -> Result<Tree, Stop>
-        ensures numbered { IfErr result (HasNumberIn elaboration_numbers) }
+    fn made_for(&mut self, sketch: &Sketch, vertex: usize) -> Result<Tree, NoMemory>
         ensures signals { self.new.graph.signals ≡ self.old.graph.signals }
         ensures trees { self.new.trees ≡ self.old.trees }
         ensures grown { OnOk result (Grows self.old.graph self.new.graph) }
@@ -165,16 +153,12 @@ impl Lowering {
         let place = vertex.saturating_sub(sketch.drafts.as_slice().len());
         match sketch.pieces.as_slice().get(place) {
             Some(piece) => self.operand(piece.tree),
-            None => Tree {
-                cell: CellId(0),
-                cells: 0,
-            },
+            None => Tree { cell: CellId(0) },
         }
     }
 
     /// Makes the tree of a draft from those that it leads to.
-    fn lower(&mut self, sketch: &Sketch, draft: Draft) -> Result<Tree, Stop>
-        ensures numbered { IfErr result (HasNumberIn elaboration_numbers) }
+    fn lower(&mut self, sketch: &Sketch, draft: Draft) -> Result<Tree, NoMemory>
         ensures signals { self.new.graph.signals ≡ self.old.graph.signals }
         ensures trees { self.new.trees ≡ self.old.trees }
         ensures grown { OnOk result (Grows self.old.graph self.new.graph) }
@@ -196,8 +180,7 @@ impl Lowering {
     }
 
     /// Adds a cell over trees that were made before.
-    fn add(&mut self, cell: Cell, below: u32) -> Result<Tree, Stop>
-        ensures numbered { IfErr result (HasNumberIn elaboration_numbers) }
+    fn add(&mut self, cell: Cell) -> Result<Tree, NoMemory>
         ensures signals { self.new.graph.signals ≡ self.old.graph.signals }
         ensures trees { self.new.trees ≡ self.old.trees }
         ensures grown { OnOk result (Grows self.old.graph self.new.graph) }
@@ -205,15 +188,11 @@ impl Lowering {
     {
         let id = self.graph.add(cell)?;
         self.graph.fits();
-        Ok(Tree {
-            cell: id,
-            cells: below.saturating_add(1),
-        })
+        Ok(Tree { cell: id })
     }
 
     /// The `width` bits of the tree from `at` on.
-    fn cut(&mut self, tree: Tree, at: u8, width: u8) -> Result<Tree, Stop>
-        ensures numbered { IfErr result (HasNumberIn elaboration_numbers) }
+    fn cut(&mut self, tree: Tree, at: u8, width: u8) -> Result<Tree, NoMemory>
         ensures signals { self.new.graph.signals ≡ self.old.graph.signals }
         ensures trees { self.new.trees ≡ self.old.trees }
         ensures grown { OnOk result (Grows self.old.graph self.new.graph) }
@@ -225,24 +204,22 @@ impl Lowering {
             return Ok(tree);
         }
         let a = tree.cell;
-        let bits = self.add(Cell::Slice { a, at, width }, tree.cells)?;
+        let bits = self.add(Cell::Slice { a, at, width })?;
         Ok(bits)
     }
 
-    fn zero(&mut self, width: u8) -> Result<Tree, Stop>
-        ensures numbered { IfErr result (HasNumberIn elaboration_numbers) }
+    fn zero(&mut self, width: u8) -> Result<Tree, NoMemory>
         ensures signals { self.new.graph.signals ≡ self.old.graph.signals }
         ensures trees { self.new.trees ≡ self.old.trees }
         ensures grown { OnOk result (Grows self.old.graph self.new.graph) }
         ensures zero { 1 ≤ width → width ≤ 64 → IfOk result (λ r. HasTree self.new.graph r (ConstTree width 0) width) }
     {
-        let zero = self.add(Cell::Const { width, value: 0 }, 0)?;
+        let zero = self.add(Cell::Const { width, value: 0 })?;
         Ok(zero)
     }
 
     /// The tree `high` and, below it, what was joined so far.
-    fn above(&mut self, high: Tree, low: Option<Tree>) -> Result<Tree, Stop>
-        ensures numbered { IfErr result (HasNumberIn elaboration_numbers) }
+    fn above(&mut self, high: Tree, low: Option<Tree>) -> Result<Tree, NoMemory>
         ensures signals { self.new.graph.signals ≡ self.old.graph.signals }
         ensures trees { self.new.trees ≡ self.old.trees }
         ensures grown { OnOk result (Grows self.old.graph self.new.graph) }
@@ -255,7 +232,7 @@ impl Lowering {
                     high: high.cell,
                     low: below.cell,
                 };
-                let both = self.add(cell, high.cells.saturating_add(below.cells))?;
+                let both = self.add(cell)?;
                 Ok(both)
             }
             None => Ok(high),
@@ -263,8 +240,7 @@ impl Lowering {
     }
 
     /// What `width` bits of a signal from `at` on stand for: those of its variable, or those of its drivers.
-    fn read(&mut self, sketch: &Sketch, sig: u32, at: u8, width: u8) -> Result<Tree, Stop>
-        ensures numbered { IfErr result (HasNumberIn elaboration_numbers) }
+    fn read(&mut self, sketch: &Sketch, sig: u32, at: u8, width: u8) -> Result<Tree, NoMemory>
         ensures signals { self.new.graph.signals ≡ self.old.graph.signals }
         ensures trees { self.new.trees ≡ self.old.trees }
         ensures grown { OnOk result (Grows self.old.graph self.new.graph) }
@@ -274,7 +250,7 @@ impl Lowering {
             → IfOk result (λ r. HasTree self.new.graph r (sel sig at width) width) }
     {
         if self.graph.is_variable(sig) {
-            let variable = self.add(Cell::Var { sig }, 0)?;
+            let variable = self.add(Cell::Var { sig })?;
             let bits = self.cut(variable, at, width)?;
             Ok(bits)
         } else {
@@ -284,8 +260,7 @@ impl Lowering {
     }
 
     /// What the signal's pieces give the bits read, with zeros where nothing drives them.
-    fn driven(&mut self, sketch: &Sketch, sig: u32, at: u8, width: u8) -> Result<Tree, Stop>
-        ensures numbered { IfErr result (HasNumberIn elaboration_numbers) }
+    fn driven(&mut self, sketch: &Sketch, sig: u32, at: u8, width: u8) -> Result<Tree, NoMemory>
         ensures signals { self.new.graph.signals ≡ self.old.graph.signals }
         ensures trees { self.new.trees ≡ self.old.trees }
         ensures grown { OnOk result (Grows self.old.graph self.new.graph) }
@@ -304,8 +279,7 @@ impl Lowering {
     }
 
     /// The parts of the signal's pieces that lie in the bits read, joined from the lowest, with zeros between them.
-    fn joined(&mut self, sketch: &Sketch, sig: u32, at: u8, width: u8) -> Result<Joined, Stop>
-        ensures numbered { IfErr result (HasNumberIn elaboration_numbers) }
+    fn joined(&mut self, sketch: &Sketch, sig: u32, at: u8, width: u8) -> Result<Joined, NoMemory>
         ensures signals { self.new.graph.signals ≡ self.old.graph.signals }
         ensures trees { self.new.trees ≡ self.old.trees }
         ensures grown { OnOk result (Grows self.old.graph self.new.graph) }
@@ -335,8 +309,7 @@ impl Lowering {
         piece: Piece,
         at: u8,
         width: u8,
-    ) -> Result<Joined, Stop>
-        ensures numbered { IfErr result (HasNumberIn elaboration_numbers) }
+    ) -> Result<Joined, NoMemory>
         ensures signals { self.new.graph.signals ≡ self.old.graph.signals }
         ensures trees { self.new.trees ≡ self.old.trees }
         ensures grown { OnOk result (Grows self.old.graph self.new.graph) }
@@ -365,8 +338,7 @@ impl Lowering {
     }
 
     /// The `bits` joined so far, with zeros above up to `end` bits.
-    fn filled(&mut self, joined: Option<Tree>, bits: u8, end: u8) -> Result<Option<Tree>, Stop>
-        ensures numbered { IfErr result (HasNumberIn elaboration_numbers) }
+    fn filled(&mut self, joined: Option<Tree>, bits: u8, end: u8) -> Result<Option<Tree>, NoMemory>
         ensures signals { self.new.graph.signals ≡ self.old.graph.signals }
         ensures trees { self.new.trees ≡ self.old.trees }
         ensures grown { OnOk result (Grows self.old.graph self.new.graph) }
@@ -388,16 +360,12 @@ impl Lowering {
         let vertex = sketch.drafts.as_slice().len().saturating_add(place);
         match self.tree(vertex) {
             Some(tree) => tree,
-            None => Tree {
-                cell: CellId(0),
-                cells: 0,
-            },
+            None => Tree { cell: CellId(0) },
         }
     }
 
     /// The cell of a draft, over the trees of its operands.
-    fn made(&mut self, cell: Cell) -> Result<Tree, Stop>
-        ensures numbered { IfErr result (HasNumberIn elaboration_numbers) }
+    fn made(&mut self, cell: Cell) -> Result<Tree, NoMemory>
         ensures signals { self.new.graph.signals ≡ self.old.graph.signals }
         ensures trees { self.new.trees ≡ self.old.trees }
         ensures grown { OnOk result (Grows self.old.graph self.new.graph) }
@@ -405,13 +373,7 @@ impl Lowering {
             → ((a : Id) → IsOperand cell a → IsMet self.old.graph self.old.trees.items a.0 (tree_in sel ds a) (width_at ds a))
             → IfOk result (λ r. HasTree self.new.graph r (unfolded [] (draft_trees sel ds) cell) w) }
     {
-        let mut below = 0u32;
-        for operand in operands(cell) {
-            if let Some(id) = operand {
-                below = below.saturating_add(self.operand(id).cells);
-            }
-        }
-        let tree = self.add(self.over_trees(cell), below)?;
+        let tree = self.add(self.over_trees(cell))?;
         Ok(tree)
     }
 

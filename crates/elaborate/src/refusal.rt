@@ -2,19 +2,35 @@
 ghost use Rattle.std.specs.Prelude.{◌≡◌, ◌<◌, ◌↔◌, IsTrue};
 ghost use Rattle.refusals.specs.Numbers.{HasNumberIn, elaboration_numbers};
 ghost use Rattle.elaborate.specs.Limits.{state_bits, own_bits as bits_of};
+ghost use Rattle.elaborate.specs.Refusals.{IsPastLimit, NamesSignal, Tells};
 
 use cdc_base::limits::MAX_STATE_BITS;
-use cdc_base::{Fault, NoMemory, SigKind, Signal, Stop};
+use cdc_base::{Fault, Name, NoMemory, SigKind, Signal, Stop};
 use std::alloc::Global;
 
 /// The signal leads back to itself through logic alone.
 pub fn combinational_loop(alloc: Global, signal: &Signal) -> Stop
     ensures numbered { HasNumberIn elaboration_numbers result }
+    ensures told { Tells (NamesSignal signal.now) result }
 {
     match signal.name.copy(alloc) {
         Ok(name) => Stop::Refused(Fault {
             number: 312,
             place: Some(signal.place),
+            name,
+        }),
+        Err(NoMemory) => Stop::Memory,
+    }
+}
+
+/// The design is past the limit with this number.
+pub fn past_limit(alloc: Global, number: u16) -> Stop
+    ensures told { Tells (IsPastLimit number) result }
+{
+    match Name::from_text(alloc, "") {
+        Ok(name) => Stop::Refused(Fault {
+            number,
+            place: None,
             name,
         }),
         Err(NoMemory) => Stop::Memory,

@@ -1,11 +1,7 @@
-use Rattle.std.proofs.Common.{refl, sym, subst}
-use Rattle.refusals.specs.Numbers.{elaboration_numbers}
+use Rattle.std.proofs.Common.{sym, subst}
 use Rattle.elaborate.specs.Lowered.{CanLower}
 use Rattle.elaborate.proofs.NetTrees.{all-met}
 use Rattle.elaborate.proofs.make_net.Goals as goal
-
-pub returns-then-cells_of-gt-MAX_CELLS-clause-numbered : goal.returns-then-cells_of-gt-MAX_CELLS-clause-numbered
-returns-then-cells_of-gt-MAX_CELLS-clause-numbered c = c.past_limit.ensures.numbered elaboration_numbers refl
 
 pub returns-clause-unfolds : goal.returns-clause-unfolds
 returns-clause-unfolds c = λ f sel can sorted needed.

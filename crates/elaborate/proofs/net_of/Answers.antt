@@ -1,19 +1,84 @@
-use Rattle.std.proofs.Common.{◌≡◌, ◌∙◌, sym, ap, subst, map, take}
-use Rattle.driver_loops.specs.Leads.{links_of}
-use Rattle.driver_loops.specs.Orders as orders
+use Rattle.std.proofs.Common.{◌≡◌, ◌∙◌, ◌++◌, ◌+◌, ℕ, refl, sym, ap, subst, arith, map, take, length, false, List, Some, slice_get}
+use Rattle.std.specs.Bool.{MatchBool}
+use Rattle.std.specs.List.{Contains}
+use Rattle.cdc_base.specs.declared.signal.Signal.{Signal}
+use Rattle.driver_trees.specs.declared.sketch.Sketch.{Sketch}
+use Rattle.driver_loops.specs.Orders.{HasLoop, IsFront, IsOrderOf}
+use Rattle.refusals.specs.Numbers.{elaboration_numbers}
+use Rattle.elaborate.specs.Counts.{HasRoom, HasTooManyCells, capped, draft_cells}
 use Rattle.elaborate.specs.Lowered.{AreNeeded, EndsStandBefore}
+use Rattle.elaborate.specs.Refusals.{IsNetRefusedFor, IsPastLimit, NamesPiece}
 use Rattle.elaborate.specs.Words.{as_word}
-use Rattle.elaborate.proofs.Leads.{front-ends, front-needed}
+use Rattle.elaborate.proofs.Orders.{IsWalked, front-counted, front-needed, front-sorted, loop-named, walked-free}
+use Rattle.elaborate.proofs.Refusals.{limit-numbered, tells-also}
 use Rattle.elaborate.proofs.net_of.Goals as goal
+
+pub returns-then-loops-clause-refused : goal.returns-then-loops-clause-refused
+returns-then-loops-clause-refused c =
+    let s = c.args.sketch.now in let signals = c.args.signals.now in let ls = c.in_ok-links.links in
+    let roots = c.as_slice-roots.result.now in let others = c.as_slice.result.now in let order = c.as_slice-order.result.now in let count = c.in_ok-found.found.1 in
+    let walked : IsWalked signals s ls roots others order count = record {
+      linked = c.in_ok-links.ensures;
+      listed = c.as_slice-roots.ensures.value ∙ c.in_ok-needed.ensures;
+      pieces = λ i l. ap (λ (xs : List ℕ). slice_get xs i) c.as_slice.ensures.value ∙ c.in_ok-others.ensures i l;
+      is_order = subst (IsOrderOf ls (roots ++ others)) (sym c.as_slice-order.ensures.value) c.in_ok-found.ensures.order;
+      front = subst (λ o. IsFront ls roots o count) (sym c.as_slice-order.ensures.value) c.in_ok-found.ensures.front;
+    } in
+    tells-also (NamesPiece signals s ls order) (IsNetRefusedFor signals s)
+    (λ fault told. IsNetRefusedFor.loop told.names.number (λ f is. loop-named signals s ls roots others order count walked f is c.first_loop_is_first.ensures fault told)) c.in_ok-stop.stop c.in_ok-stop.ensures.told
+
+pub returns-then-cells-gt-MAX_CELLS-clause-numbered : goal.returns-then-cells-gt-MAX_CELLS-clause-numbered
+returns-then-cells-gt-MAX_CELLS-clause-numbered c = limit-numbered 602 refl c.past_limit.result c.past_limit.ensures.told
+
+pub returns-then-cells-gt-MAX_CELLS-clause-refused : goal.returns-then-cells-gt-MAX_CELLS-clause-refused
+returns-then-cells-gt-MAX_CELLS-clause-refused c =
+    let s = c.args.sketch.now in let signals = c.args.signals.now in let ls = c.in_ok-links.links in
+    let roots = c.as_slice-roots.result.now in let others = c.as_slice.result.now in let order = c.as_slice-order.result.now in let count = c.in_ok-found.found.1 in
+    let walked : IsWalked signals s ls roots others order count = record {
+      linked = c.in_ok-links.ensures;
+      listed = c.as_slice-roots.ensures.value ∙ c.in_ok-needed.ensures;
+      pieces = λ i l. ap (λ (xs : List ℕ). slice_get xs i) c.as_slice.ensures.value ∙ c.in_ok-others.ensures i l;
+      is_order = subst (IsOrderOf ls (roots ++ others)) (sym c.as_slice-order.ensures.value) c.in_ok-found.ensures.order;
+      front = subst (λ o. IsFront ls roots o count) (sym c.as_slice-order.ensures.value) c.in_ok-found.ensures.front;
+    } in
+    let none = subst (λ b. MatchBool b (HasLoop ls order) (¬ HasLoop ls order)) c.if-loops.false (c.in_ok-loops.ensures.loops walked.is_order.once walked.is_order.depth_first) in
+    tells-also (IsPastLimit 602) (IsNetRefusedFor signals s)
+    (λ fault told. IsNetRefusedFor.cells told (λ f is. (
+      walked-free signals s ls roots others order count walked f is c.signals_lie_on_loops.ensures none,
+      λ sel trees. let e = front-counted signals s ls roots others order count walked f is (c.in_ok-loops.ensures.before.0 c.if-loops.false) sel trees in
+          let n = c.in_ok-cells.ensures f sel e.0 (subst (EndsStandBefore f s.drafts s.pieces.items) (sym c.front_of-front.ensures) e.1) (λ v h. (subst (λ xs. Contains xs v) (sym c.front_of-front.ensures) (e.2 v h).0, (e.2 v h).1)) in
+          omega (arith, n, e.3, c.if-cells-gt-MAX_CELLS.true),
+    ))) c.past_limit.result c.past_limit.ensures.told
+
+pub returns-clause-accepted : goal.returns-clause-accepted
+returns-clause-accepted c = λ f is.
+    let s = c.args.sketch.now in let signals = c.args.signals.now in let ls = c.in_ok-links.links in
+    let roots = c.as_slice-roots.result.now in let others = c.as_slice.result.now in let order = c.as_slice-order.result.now in let count = c.in_ok-found.found.1 in
+    let walked : IsWalked signals s ls roots others order count = record {
+      linked = c.in_ok-links.ensures;
+      listed = c.as_slice-roots.ensures.value ∙ c.in_ok-needed.ensures;
+      pieces = λ i l. ap (λ (xs : List ℕ). slice_get xs i) c.as_slice.ensures.value ∙ c.in_ok-others.ensures i l;
+      is_order = subst (IsOrderOf ls (roots ++ others)) (sym c.as_slice-order.ensures.value) c.in_ok-found.ensures.order;
+      front = subst (λ o. IsFront ls roots o count) (sym c.as_slice-order.ensures.value) c.in_ok-found.ensures.front;
+    } in
+    let none = subst (λ b. MatchBool b (HasLoop ls order) (¬ HasLoop ls order)) c.if-loops.false (c.in_ok-loops.ensures.loops walked.is_order.once walked.is_order.depth_first) in (
+      walked-free signals s ls roots others order count walked f is c.signals_lie_on_loops.ensures none,
+      λ sel trees. let e = front-counted signals s ls roots others order count walked f is (c.in_ok-loops.ensures.before.0 c.if-loops.false) sel trees in
+          let n = c.in_ok-cells.ensures f sel e.0 (subst (EndsStandBefore f s.drafts s.pieces.items) (sym c.front_of-front.ensures) e.1) (λ v h. (subst (λ xs. Contains xs v) (sym c.front_of-front.ensures) (e.2 v h).0, (e.2 v h).1)) in
+          omega (arith, n, e.3, c.if-cells-gt-MAX_CELLS.false),
+    )
 
 pub returns-clause-unfolds : goal.returns-clause-unfolds
 returns-clause-unfolds c = λ f sel same trees sketch.
-    let s = c.args.sketch.now in let ds = s.drafts in let ps = s.pieces.items in
-    let roots = c.as_slice-roots.result.now in let order = c.as_slice-order.result.now in let count = c.in_ok-found.found.1 in
-    let linked : c.in_ok-links.links ≡ links_of f.signals ds ps = c.in_ok-links.ensures sketch.ordered ∙ ap (λ ss. links_of ss ds ps) (sym same) in
-    let sorted = front-ends f ds ps sketch.drafts sketch.stand order count (subst (λ ls. orders.EndsStandBefore ls order) linked (c.in_ok-loops.ensures.before.0 c.if-loops.false)) in
-    let front = subst (λ o. orders.IsFront (links_of f.signals ds ps) roots o count) (sym c.as_slice-order.ensures.value)
-    (subst (λ ls. orders.IsFront ls roots c.in_ok-found.found.0.items count) linked c.in_ok-found.ensures.front) in
-    let needed = front-needed f ds s sketch roots order count front (subst (AreNeeded s) (sym c.as_slice-roots.ensures.value) c.in_ok-needed.ensures) in
+    let s = c.args.sketch.now in let signals = c.args.signals.now in let ls = c.in_ok-links.links in
+    let roots = c.as_slice-roots.result.now in let others = c.as_slice.result.now in let order = c.as_slice-order.result.now in let count = c.in_ok-found.found.1 in
+    let walked : IsWalked signals s ls roots others order count = record {
+      linked = c.in_ok-links.ensures;
+      listed = c.as_slice-roots.ensures.value ∙ c.in_ok-needed.ensures;
+      pieces = λ i l. ap (λ (xs : List ℕ). slice_get xs i) c.as_slice.ensures.value ∙ c.in_ok-others.ensures i l;
+      is_order = subst (IsOrderOf ls (roots ++ others)) (sym c.as_slice-order.ensures.value) c.in_ok-found.ensures.order;
+      front = subst (λ o. IsFront ls roots o count) (sym c.as_slice-order.ensures.value) c.in_ok-found.ensures.front;
+    } in
     c.in_ok-net.ensures.unfolds f sel (record { words = ap (map as_word) (sym same); trees = trees; sketch = sketch })
-    (subst (EndsStandBefore f ds ps) (sym c.front_of-front.ensures) sorted) (subst (AreNeeded s) (sym c.front_of-front.ensures) needed)
+    (subst (EndsStandBefore f s.drafts s.pieces.items) (sym c.front_of-front.ensures) (front-sorted signals s ls roots others order count walked f same sketch (c.in_ok-loops.ensures.before.0 c.if-loops.false)))
+    (subst (AreNeeded s) (sym c.front_of-front.ensures) (front-needed signals s ls roots others order count walked f same sketch))

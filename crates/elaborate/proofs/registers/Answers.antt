@@ -57,6 +57,6 @@ loop-register-preserved c =
           subst (All (IsRegisterOf f sel j)) (sym c.in_ok-push.ensures.pushed)
           (register-more f sel g h j c.in_ok-next.ensures.grown c.in_ok-clock.ensures.grown c.loop-register.regs r.sig c.in_ok-next.next c.in_ok-clock.clock (inv.trees f sel can met)
           c.in_ok-next.ensures.word.0 c.in_ok-clock.ensures.word.0
-          (c.in_ok-next.ensures.tree (tree_in sel ds r.next) (subst (IsMet g c.loop-register.lowering.trees.items r.next.0 (tree_in sel ds r.next)) wide next) ∙ is.next_tree sel)
+          (c.in_ok-next.ensures.tree (tree_in sel ds r.next) (subst (IsMet g c.loop-register.lowering.trees.items r.next.0 (tree_in sel ds r.next)) wide next) ∙ is.next_tree sel can.trees)
           (c.in_ok-clock.ensures.tree (tree_in sel ds r.clock) (subst (IsMet h c.word.new.self.trees.items r.clock.0 (tree_in sel ds r.clock)) is.clock.1 clock) ∙ is.clock_tree sel));
     }

@@ -11,18 +11,18 @@ use Rattle.elaborate.proofs.builder.Builder.place.Goals as goal
 pub invariant_of-self-2 : goal.invariant_of-self-2
 invariant_of-self-2 c = (
   added-well c.self.inside.graph c.add.new.self c.args.cell c.self.invariant.0
-      (subst (λ (g : Cells). IsCellOf g (length g.cells) c.args.cell) (sym c.self.view_is) c.requires) c.add.ensures.signals c.in_ok-id.ensures.cells,
-  added-shared c.self.inside.graph c.add.new.self c.args.cell c.self.invariant.1 c.in_ok-id.ensures.cells,
+      (subst (λ (g : Cells). IsCellOf g (length g.cells) c.args.cell) (sym c.self.view_is) c.requires) c.add.ensures.signals c.in-Ok.ensures.cells,
+  added-shared c.self.inside.graph c.add.new.self c.args.cell c.self.invariant.1 c.in-Ok.ensures.cells,
 )
 
 pub returns-clause-grown : goal.returns-clause-grown
 returns-clause-grown c =
-    subst (λ (g : Cells). Grows g c.add.new.self) c.self.view_is (added-grows c.self.inside.graph c.add.new.self c.args.cell c.add.ensures.signals c.in_ok-id.ensures.cells)
+    subst (λ (g : Cells). Grows g c.add.new.self) c.self.view_is (added-grows c.self.inside.graph c.add.new.self c.args.cell c.add.ensures.signals c.in-Ok.ensures.cells)
 
 pub returns-clause-word : goal.returns-clause-word
 returns-clause-word c =
     let well = added-well c.self.inside.graph c.add.new.self c.args.cell c.self.invariant.0
-    (subst (λ (g : Cells). IsCellOf g (length g.cells) c.args.cell) (sym c.self.view_is) c.requires) c.add.ensures.signals c.in_ok-id.ensures.cells in (
-      slice_get_within c.add.new.self.cells c.in_ok-id.id.0 c.args.cell c.in_ok-id.ensures.found,
-      width-cell c.add.new.self well c.in_ok-id.id c.args.cell c.in_ok-id.ensures.found,
+    (subst (λ (g : Cells). IsCellOf g (length g.cells) c.args.cell) (sym c.self.view_is) c.requires) c.add.ensures.signals c.in-Ok.ensures.cells in (
+      slice_get_within c.add.new.self.cells c.in-Ok.id.0 c.args.cell c.in-Ok.ensures.found,
+      width-cell c.add.new.self well c.in-Ok.id c.args.cell c.in-Ok.ensures.found,
     )

@@ -1,8 +1,9 @@
-use Rattle.std.proofs.Common.{◌≡◌, ◌+◌, ◌-◌, ◌<◌, ◌≤◌, max, min, arith, refl}
+use Rattle.std.proofs.Common.{◌≡◌, ◌+◌, ◌-◌, ◌<◌, ◌≤◌, max, min, arith, refl, Some}
 use Rattle.cell_graph.specs.Tree.{Const}
 use Rattle.cell_graph.proofs.Grown.{cell-sized}
 use Rattle.flat_meaning.specs.Pieces.{Piece}
 use Rattle.flat_meaning.specs.Trees.{cut, glue}
+use Rattle.elaborate.specs.Lowered.{IsJoined}
 use Rattle.elaborate.proofs.Grown.{grows_trans}
 use Rattle.elaborate.proofs.CellTrees.{has-kept, joined-kept, joining-hit, joining-missed}
 use Rattle.elaborate.proofs.lower.Lowering.join.Goals as goal
@@ -10,7 +11,7 @@ use Rattle.elaborate.proofs.lower.Lowering.join.Goals as goal
 pub returns-then-high-low-clause-joined : goal.returns-then-high-low-clause-joined
 returns-then-high-low-clause-joined c = λ t size left whole is has part room above.
     let p = c.args.piece in
-    joining-missed c.args.at c.args.width (record { at = p.at; bits = p.width; tree = t; size = size; inside = p.inside }) left c.args.self.now.graph c.args.joined.tree c.args.joined.bits whole
+    joining-missed c.args.at c.args.width (record { at = p.at; bits = p.width; tree = t; size = size; inside = p.inside }) left (IsJoined c.args.self.now.graph c.args.joined.tree) c.args.joined.bits whole
     (omega (arith, c.if-high-low.true, c.max-low.ensures, c.saturating_add-end.ensures, c.min-high.ensures, c.saturating_add.ensures, room)) is
 
 pub returns-clause-grown : goal.returns-clause-grown
@@ -35,4 +36,5 @@ returns-clause-joined c = λ t size left whole is has part room above.
     let bits = c.in_ok-part.ensures.cut t size tree (omega (arith, low, high, hit)) (omega (arith, from, part, low, high, hit)) in
     let under = joined-kept c.filled.new.self.graph c.cut.new.self.graph c.in_ok-part.ensures.grown c.in_ok-below.below _ (l - at) below in
     let both = c.in_ok-whole.ensures.above (cut size i (k - l) t) (glue (l - at - n) (Const (l - at - n) 0) n is.low) (k - l) (l - at) bits under (omega (arith, low, high, hit)) (omega (arith, low, high, hit, room)) in
-    joining-hit at w piece left c.above.new.self.graph c.in_ok-whole.whole n is.low whole l k i (k - at) hit low high from refl is.same both
+    joining-hit at w piece left (IsJoined c.above.new.self.graph (Some c.in_ok-whole.whole)) n is.low whole l k i (k - at) hit low high from refl is.same
+    (omega (arith, low, high, hit), both)

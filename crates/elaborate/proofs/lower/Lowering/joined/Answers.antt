@@ -1,4 +1,4 @@
-use Rattle.std.proofs.Common.{◌≡◌, ◌≢◌, ◌∙◌, ◌+◌, ◌<◌, ◌≤◌, ℕ, refl, sym, ap, subst, arith, length, drop, List, Option, Some, slice_get}
+use Rattle.std.proofs.Common.{◌≡◌, ◌≢◌, ◌∙◌, ◌+◌, ◌<◌, ◌≤◌, ℕ, refl, sym, ap, subst, arith, length, drop, List, Option, None, Some, slice_get}
 use Rattle.std.specs.List.Sorted.{IsPartitionPoint}
 use Rattle.std.proofs.lemmas.Option.{slice_get_within}
 use Rattle.driver_trees.specs.declared.sketch.Piece.{Piece}
@@ -6,7 +6,7 @@ use Rattle.driver_trees.specs.Drafts.{tree_in, width_at}
 use Rattle.flat_meaning.specs.Pieces.{wire_select}
 use Rattle.driver_trees.specs.Sketches.{AreOrdered, IsPieceIn, pieces_in}
 use Rattle.elaborate.specs.declared.lower.Tree.{Tree as Lowered}
-use Rattle.elaborate.specs.Lowered.{IsMet}
+use Rattle.elaborate.specs.Lowered.{IsJoined, IsMet}
 use Rattle.elaborate.proofs.Grown.{grows_refl, grows_trans}
 use Rattle.elaborate.proofs.CellTrees.{met-kept}
 use Rattle.elaborate.proofs.Vertices.{all-at, begins, comes-next, ends, found-at, goes-on, none-before, none-behind, own-between}
@@ -29,7 +29,7 @@ loop-place-init c =
       joined = λ sel can.
           let first = subst (λ qs. IsFirst qs c.args.sig c.first_piece-place.result) value c.first_piece-place.ensures.exact can.ordered in
           let past = subst (λ qs. IsPast qs c.args.sig c.past_pieces-place-end.result) value c.past_pieces-place-end.ensures.exact can.ordered in
-          begins sel c.args.sketch.now.drafts ps c.args.sig c.args.at c.args.width c.args.self.now.graph c.first_piece-place.result
+          begins sel c.args.sketch.now.drafts ps c.args.sig c.args.at c.args.width (IsJoined c.args.self.now.graph None) refl c.first_piece-place.result
           (none-before ps c.args.sig c.first_piece-place.result c.past_pieces-place-end.result first past);
     }
 
@@ -52,9 +52,9 @@ loop-place-preserved c =
           let own = own-between ps c.args.sig c.first_piece-place.result c.past_pieces-place-end.result first past k p here c.loop-place.auto.place c.loop-place-test.true in
           let is = inv.joined sel can in
           let stands = all-at (IsPieceIn ds) ps k p can.stand here in
-          goes-on sel ds ps c.args.sig c.args.at c.args.width h c.in_ok-joined.joined.tree c.loop-place.joined.bits c.in_ok-joined.joined.bits k p can.ordered here own c.in_ok-joined.ensures.short is.above
+          goes-on sel ds ps c.args.sig c.args.at c.args.width (IsJoined h c.in_ok-joined.joined.tree) c.loop-place.joined.bits c.in_ok-joined.joined.bits k p can.ordered here own c.in_ok-joined.ensures.short is.above
           (c.in_ok-joined.ensures.joined (tree_in sel ds p.tree) (width_at ds p.tree) (pieces_in sel ds (drop (k + 1) ps) c.args.sig) (wire_select (pieces_in sel ds ps c.args.sig) c.args.at c.args.width)
-          (comes-next sel ds ps c.args.sig c.args.at c.args.width g c.loop-place.joined.tree c.loop-place.joined.bits k p here own is)
+          (comes-next sel ds ps c.args.sig c.args.at c.args.width (IsJoined g c.loop-place.joined.tree) c.loop-place.joined.bits k p here own is)
           (λ meets. c.piece-tree.ensures (tree_in sel ds p.tree) (width_at ds p.tree)
           (subst (λ (ts : List (Option Lowered)). IsMet g ts (length ds + k) (tree_in sel ds p.tree) (width_at ds p.tree)) (ap (λ v. v.items) (sym inv.trees)) (met-kept c.args.self.now.graph g inv.grown c.args.self.now.trees.items (length ds + k) (tree_in sel ds p.tree) (width_at ds p.tree) (can.known k p here own meets))))
           stands.2 can.room (is.above k p (omega arith) here own));
@@ -66,5 +66,5 @@ returns-clause-joined c = λ sel can.
     let value = c.as_slice-pieces.ensures.value in
     let first = subst (λ qs. IsFirst qs c.args.sig c.first_piece-place.result) value c.first_piece-place.ensures.exact can.ordered in
     let past = subst (λ qs. IsPast qs c.args.sig c.past_pieces-place-end.result) value c.past_pieces-place-end.ensures.exact can.ordered in
-    ends sel c.args.sketch.now.drafts ps c.args.sig c.args.at c.args.width c.loop-place.self.graph c.loop-place.joined.tree c.loop-place.joined.bits c.loop-place.place
+    ends sel c.args.sketch.now.drafts ps c.args.sig c.args.at c.args.width (IsJoined c.loop-place.self.graph c.loop-place.joined.tree) c.loop-place.joined.bits c.loop-place.place
     (λ i p at l. none-behind ps c.args.sig c.first_piece-place.result c.past_pieces-place-end.result first past i p at (omega (arith, l, c.loop-place-test.false))) (c.loop-place.invariant.joined sel can)
