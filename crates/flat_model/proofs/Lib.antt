@@ -1,0 +1,12 @@
+pub mod PinnedRuns
+pub mod PinnedSound
+pub mod PinnedTogether
+pub mod OtherNext
+pub mod OtherReplay
+pub mod Registers
+pub mod Words
+pub mod Executed
+pub mod Fields
+pub mod NetDesign
+pub mod Meanings
+pub mod SmallMeaning

@@ -1,0 +1,4 @@
+pub mod Clocked
+pub mod Designs
+pub mod Pinned
+pub mod Laws
