@@ -1,4 +1,14 @@
 //! Expressions whose names are resolved, and how operators put them together.
+ghost use Rattle.std.specs.Prelude.{◌≡◌, ℕ, ◌&&◌, true, false, None, Some, unwrap_or, max, IfOk};
+ghost use Rattle.flat_meaning.specs.Flat.{Unary, Binary, Choose, unary_size as unary_size_of, binary_size as binary_size_of};
+ghost use Rattle.flat_form.specs.View.{expr_of, unary_of, binary_of};
+ghost use Rattle.flat_form.specs.Sizes.{kept_of, is_sized};
+ghost use Rattle.flat_form.specs.Whole.{unary_whole as unary_value};
+ghost use Rattle.flat_form.specs.declared.flat.FExpr.TheVariants as form;
+ghost use Rattle.flat_unfolding.specs.Names.{Look};
+ghost use Rattle.flat_unfolding.specs.Constants.{within as within_of};
+ghost use Rattle.flat_names.specs.Pieces.{Piece, IsPiece, IsFitPiece, Makes, numbered, flagged, unary_piece};
+
 use crate::fault::{Faults, Rule};
 use cdc_base::limits::MAX_WIDTH;
 use cdc_base::{List, NoMemory};
@@ -28,7 +38,9 @@ pub struct Resolved {
 }
 
 impl Resolved {
-    pub fn constant(expr: FExpr) -> Resolved {
+    pub fn constant(expr: FExpr) -> Resolved
+        ensures { result ≡ record { expr = expr; is_sound = true; is_constant = true; count = None } }
+    {
         Resolved {
             expr,
             is_sound: true,
@@ -37,7 +49,9 @@ impl Resolved {
         }
     }
 
-    pub fn variable(expr: FExpr) -> Resolved {
+    pub fn variable(expr: FExpr) -> Resolved
+        ensures { result ≡ record { expr = expr; is_sound = true; is_constant = false; count = None } }
+    {
         Resolved {
             expr,
             is_sound: true,
@@ -47,7 +61,9 @@ impl Resolved {
     }
 
     /// What broke a rule. Signals that are read below it are in `expr`.
-    pub fn broken(expr: FExpr, is_constant: bool) -> Resolved {
+    pub fn broken(expr: FExpr, is_constant: bool) -> Resolved
+        ensures { result ≡ record { expr = expr; is_sound = false; is_constant = is_constant; count = None } }
+    {
         Resolved {
             expr,
             is_sound: false,
@@ -56,18 +72,24 @@ impl Resolved {
         }
     }
 
-    pub fn width(&self) -> u8 {
+    pub fn width(&self) -> u8
+        ensures { result ≡ (kept_of self.now.expr).width }
+    {
         width_of(&self.expr)
     }
 }
 
 /// An expression that reads nothing.
-pub fn nothing() -> FExpr {
+pub fn nothing() -> FExpr
+    ensures { result ≡ form.Number 0 1 }
+{
     FExpr::Number { value: 0, width: 1 }
 }
 
 /// A plain number or a counted parameter.
-pub fn counted_number(value: u64, width: u8) -> Resolved {
+pub fn counted_number(value: u64, width: u8) -> Resolved
+    ensures { result ≡ numbered (within_of width value) value width }
+{
     let whole = within(width, value);
     Resolved {
         expr: FExpr::Number { value, width },
@@ -78,7 +100,9 @@ pub fn counted_number(value: u64, width: u8) -> Resolved {
 }
 
 /// A counted expression of own size 32 is whole, so it counts as a number.
-fn whole_number(whole: Option<u64>) -> Resolved {
+fn whole_number(whole: Option<u64>) -> Resolved
+    ensures { result ≡ numbered whole (unwrap_or whole 0) 32 }
+{
     Resolved {
         expr: FExpr::Number {
             value: whole.unwrap_or(0),
@@ -92,7 +116,9 @@ fn whole_number(whole: Option<u64>) -> Resolved {
 
 /// A counted expression of own size 1, sound where its parts are: it has its meaning by the sizes, unless it stands in
 /// a whole expression.
-fn counted_flag(expr: FExpr, is_sound: bool, whole: Option<u64>) -> Resolved {
+fn counted_flag(expr: FExpr, is_sound: bool, whole: Option<u64>) -> Resolved
+    ensures { result ≡ flagged expr is_sound whole }
+{
     Resolved {
         expr,
         is_sound,
@@ -119,33 +145,45 @@ pub fn settled_constant(resolved: Resolved, faults: &mut Faults) -> Result<Resol
     Ok(Resolved::broken(resolved.expr, false))
 }
 
-pub fn unary(
-    alloc: Global,
-    op: UnaryOp,
-    a: Resolved,
-    faults: &mut Faults,
-) -> Result<Resolved, NoMemory> {
+pub fn unary(alloc: Global, op: UnaryOp, a: Resolved) -> Result<Resolved, NoMemory>
+    ensures { (l : Look) (p : Piece) → IsPiece p a → IsFitPiece p → IfOk result (λ r. IsPiece (unary_piece l op p) r) }
+{
     let size = a.width();
     let width = unary_size(op, size);
     if let Some(count) = a.count {
         let whole = whole_unary(op, count.whole, size);
-        if width != 1 {
-            return Ok(whole_number(whole));
-        }
-        let is_sound = a.is_sound;
-        let expr = unary_expr(alloc, op, a.expr, width)?;
-        return Ok(counted_flag(expr, is_sound, whole));
+        return counted_unary(alloc, op, a, width, whole);
     }
-    let a = settled(a, faults)?;
+    let expr = unary_expr(alloc, op, a.expr, width)?;
     Ok(Resolved {
+        expr,
         is_sound: a.is_sound,
         is_constant: a.is_constant,
         count: None,
-        expr: unary_expr(alloc, op, a.expr, width)?,
     })
 }
 
-fn unary_expr(alloc: Global, op: UnaryOp, a: FExpr, width: u8) -> Result<FExpr, NoMemory> {
+fn counted_unary(
+    alloc: Global,
+    op: UnaryOp,
+    a: Resolved,
+    width: u8,
+    whole: Option<u64>,
+) -> Result<Resolved, NoMemory>
+    ensures { (l : Look) (p : Piece) (k : ℕ) → IsPiece p a → IsFitPiece p → p.size ≡ Some k → width ≡ unary_size_of (unary_of op) k → whole ≡ unary_value op k p.whole
+        → IfOk result (λ r. IsPiece (unary_piece l op p) r) }
+{
+    if width != 1 {
+        return Ok(whole_number(whole));
+    }
+    let is_sound = a.is_sound;
+    let expr = unary_expr(alloc, op, a.expr, width)?;
+    Ok(counted_flag(expr, is_sound, whole))
+}
+
+fn unary_expr(alloc: Global, op: UnaryOp, a: FExpr, width: u8) -> Result<FExpr, NoMemory>
+    ensures { width ≡ unary_size_of (unary_of op) (kept_of a).width → IfOk result (λ e. Makes e (Unary (unary_of op) (expr_of a)) (record { width = width; right = is_sized a })) }
+{
     let a = boxed(alloc, a)?;
     Ok(FExpr::Unary { op, a, width })
 }
@@ -190,7 +228,10 @@ fn counted_binary(
     Ok(counted_flag(expr, is_sound, whole))
 }
 
-pub fn binary_expr(alloc: Global, op: BinaryOp, a: FExpr, b: FExpr) -> Result<FExpr, NoMemory> {
+pub fn binary_expr(alloc: Global, op: BinaryOp, a: FExpr, b: FExpr) -> Result<FExpr, NoMemory>
+    ensures { IfOk result (λ e. Makes e (Binary (binary_of op) (expr_of a) (expr_of b))
+        (record { width = binary_size_of (binary_of op) (kept_of a).width (kept_of b).width; right = is_sized a && is_sized b })) }
+{
     let width = binary_size(op, width_of(&a), width_of(&b));
     let a = boxed(alloc, a)?;
     let b = boxed(alloc, b)?;
@@ -235,12 +276,10 @@ fn counted_choice(
     Ok(counted_flag(expr, is_sound, whole))
 }
 
-pub fn choose_expr(
-    alloc: Global,
-    cond: FExpr,
-    yes: FExpr,
-    other: FExpr,
-) -> Result<FExpr, NoMemory> {
+pub fn choose_expr(alloc: Global, cond: FExpr, yes: FExpr, other: FExpr) -> Result<FExpr, NoMemory>
+    ensures { IfOk result (λ e. Makes e (Choose (expr_of cond) (expr_of yes) (expr_of other))
+        (record { width = max (kept_of yes).width (kept_of other).width; right = is_sized cond && (is_sized yes && is_sized other) })) }
+{
     let width = width_of(&yes).max(width_of(&other));
     let cond = boxed(alloc, cond)?;
     let yes = boxed(alloc, yes)?;

@@ -1,0 +1,11 @@
+pub mod Options
+pub mod Notes
+pub mod Wholes
+pub mod Terms
+pub mod Fit
+pub mod Counted
+pub mod Made
+pub mod Joined
+pub mod Repeats
+pub mod Arms
+pub mod Looked
