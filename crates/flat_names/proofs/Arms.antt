@@ -82,9 +82,9 @@ choice-notes-are l f p q o h i j = go p.size q.size o.size refl refl refl
     open_ =
         noted-both (all_noted (all_noted (all_noted f (at_once p)) (at_once q)) (at_once o)) (pending p ++ pending q) (pending o)
         ∙ ap (λ g. all_noted g (pending o)) (noted-both (all_noted (all_noted (all_noted f (at_once p)) (at_once q)) (at_once o)) (pending p) (pending q)
-        ∙ ap (λ g. all_noted g (pending q)) (noted-late (all_noted (all_noted f (at_once p)) (at_once q)) (pending p) (at_once o) (late p h) (soon o j))
-        ∙ noted-late (all_noted (all_noted (all_noted f (at_once p)) (at_once q)) (pending p)) (pending q) (at_once o) (late q i) (soon o j)
-        ∙ ap (λ g. all_noted g (at_once o)) (sym (noted-both (all_noted (all_noted f (at_once p)) (at_once q)) (pending p) (pending q)) ∙ two-notes f p q h i))
+            ∙ ap (λ g. all_noted g (pending q)) (noted-late (all_noted (all_noted f (at_once p)) (at_once q)) (pending p) (at_once o) (late p h) (soon o j))
+            ∙ noted-late (all_noted (all_noted (all_noted f (at_once p)) (at_once q)) (pending p)) (pending q) (at_once o) (late q i) (soon o j)
+            ∙ ap (λ g. all_noted g (at_once o)) (sym (noted-both (all_noted (all_noted f (at_once p)) (at_once q)) (pending p) (pending q)) ∙ two-notes f p q h i))
         ∙ settled-notes (all_noted f (p.term.broken ++ q.term.broken)) o
         ∙ sym (noted-both f (p.term.broken ++ q.term.broken) o.term.broken)
 

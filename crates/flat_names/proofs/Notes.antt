@@ -45,13 +45,13 @@ first-apart order (Some c) a b h =
     let x = order a.number in let y = order b.number in let z = order c.number in
     by_lt (λ s. cond (nat_lt y (order (cond s a c).number)) b (cond s a c) ≡ cond (nat_lt x (order (cond (nat_lt y z) b c).number)) a (cond (nat_lt y z) b c)) x z
     (λ xz. by_lt (λ t. cond (nat_lt y x) b a ≡ cond (nat_lt x (order (cond t b c).number)) a (cond t b c)) y z
-    (λ yz. by_lt (λ t. cond t b a ≡ cond (nat_lt x y) a b) y x
-    (λ yx. by_lt (λ s. b ≡ cond s a b) x y (λ xy. absurd (omega arith)) (λ xy. refl))
-    (λ yx. by_lt (λ s. a ≡ cond s a b) x y (λ xy. refl) (λ xy. absurd (h (omega arith)))))
-    (λ yz. by_lt (λ t. cond t b a ≡ cond (nat_lt x z) a c) y x (λ yx. absurd (omega arith)) (λ yx. by_lt (λ s. a ≡ cond s a c) x z (λ l. refl) (λ l. absurd (omega arith)))))
+        (λ yz. by_lt (λ t. cond t b a ≡ cond (nat_lt x y) a b) y x
+            (λ yx. by_lt (λ s. b ≡ cond s a b) x y (λ xy. absurd (omega arith)) (λ xy. refl))
+            (λ yx. by_lt (λ s. a ≡ cond s a b) x y (λ xy. refl) (λ xy. absurd (h (omega arith)))))
+        (λ yz. by_lt (λ t. cond t b a ≡ cond (nat_lt x z) a c) y x (λ yx. absurd (omega arith)) (λ yx. by_lt (λ s. a ≡ cond s a c) x z (λ l. refl) (λ l. absurd (omega arith)))))
     (λ xz. by_lt (λ t. cond (nat_lt y z) b c ≡ cond (nat_lt x (order (cond t b c).number)) a (cond t b c)) y z
-    (λ yz. by_lt (λ t. cond t b c ≡ cond (nat_lt x y) a b) y z (λ l. by_lt (λ s. b ≡ cond s a b) x y (λ xy. absurd (omega arith)) (λ xy. refl)) (λ l. absurd (omega arith)))
-    (λ yz. by_lt (λ t. cond t b c ≡ cond (nat_lt x z) a c) y z (λ l. absurd (omega arith)) (λ l. by_lt (λ s. c ≡ cond s a c) x z (λ m. absurd (omega arith)) (λ m. refl))))
+        (λ yz. by_lt (λ t. cond t b c ≡ cond (nat_lt x y) a b) y z (λ l. by_lt (λ s. b ≡ cond s a b) x y (λ xy. absurd (omega arith)) (λ xy. refl)) (λ l. absurd (omega arith)))
+        (λ yz. by_lt (λ t. cond t b c ≡ cond (nat_lt x z) a c) y z (λ l. absurd (omega arith)) (λ l. by_lt (λ s. c ≡ cond s a c) x z (λ m. absurd (omega arith)) (λ m. refl))))
 
 -- what stands where E307 stands in the order is E307 as expressions break it
 abbrev pub IsApart : o.Order → Broken → Type 0

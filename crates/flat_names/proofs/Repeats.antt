@@ -41,10 +41,9 @@ counts-by : (t : Term) (old : Noted) (s b z : Bool) → is_sound (as_constant t)
     (all_noted old (breaks_if (s && b) 307 [] ++ breaks_if ((s && not b) && z) 307 []))
 counts-by t old s b z es eb ez =
     let v = own_value t.expr in
-    let bound : is_sound (as_bound t) ≡ (s && not b) = bound-sound t ∙ ap₂ (λ x y. x && not y) es eb in (
-      ap (λ x. cond x (Some v) None) (sym (count-sound t ∙ ap₂ (λ x y. x && not y) bound ez)),
-      ap₂ (λ x y. all_noted old (breaks_if x 307 [] ++ breaks_if y 307 [])) (sym (ap₂ (λ x y. x && y) es eb)) (sym (ap₂ (λ x y. x && y) bound ez)),
-    )
+    let bound : is_sound (as_bound t) ≡ (s && not b) = bound-sound t ∙ ap₂ (λ x y. x && not y) es eb in
+    (ap (λ x. cond x (Some v) None) (sym (count-sound t ∙ ap₂ (λ x y. x && not y) bound ez)),
+    ap₂ (λ x y. all_noted old (breaks_if x 307 [] ++ breaks_if y 307 [])) (sym (ap₂ (λ x y. x && y) es eb)) (sym (ap₂ (λ x y. x && y) bound ez)))
 
 le-false : (n : ℕ) → n < 2 ^ 31 → nat_le (2 ^ 31) n ≡ false
 le-false n h = go (nat_le (2 ^ 31) n) refl

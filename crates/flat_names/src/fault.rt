@@ -72,7 +72,6 @@ pub enum Order {
 
 /// The numbers that an order tries before all others, in its order.
 const PARAMETER_NUMBERS: [u16; 4] = [305, 304, 307, 308];
-
 const DECLARATION_NUMBERS: [u16; 6] = [304, 305, 306, 319, 307, 308];
 
 /// Where a rule stands in an order: the least is tried first.
@@ -144,7 +143,12 @@ impl Faults {
     }
 
     /// Notes a broken rule that is told with a place of its own.
-    pub fn note_at(&mut self, rule: Rule, name: &str, place: Option<Place>) -> Result<(), NoMemory>
+    pub fn note_at(
+        &mut self,
+        rule: Rule,
+        name: &str,
+        place: Option<Place>,
+    ) -> Result<(), NoMemory>
         ensures { IfOk result (λ _. self.new ≡ noted self.old (record { number = number_of rule; name = name.now; place = place })) }
     {
         if self.comes_first(rule) {

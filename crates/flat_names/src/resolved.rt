@@ -1,13 +1,17 @@
 //! Expressions whose names are resolved, and how operators put them together.
-ghost use Rattle.std.specs.Prelude.{◌≡◌, ℕ, ◌&&◌, true, false, None, Some, unwrap_or, max, IfOk};
+ghost use Rattle.std.specs.Prelude.{◌≡◌, ℕ, [], ◌∷◌, ◌&&◌, ◌++◌, ◌≢◌, true, false, None, Option, Some, is_some, unwrap_or, max, not, cond, nat_lt, List, IfOk};
 ghost use Rattle.flat_meaning.specs.Flat.{Unary, Binary, Choose, unary_size as unary_size_of, binary_size as binary_size_of};
 ghost use Rattle.flat_form.specs.View.{expr_of, unary_of, binary_of};
 ghost use Rattle.flat_form.specs.Sizes.{kept_of, is_sized};
-ghost use Rattle.flat_form.specs.Whole.{unary_whole as unary_value};
+ghost use Rattle.flat_form.specs.Whole.{unary_whole as unary_value, binary_whole as binary_value, choice_whole as choice_value};
+ghost use Rattle.flat_form.specs.declared.flat.FExpr.{FExpr};
 ghost use Rattle.flat_form.specs.declared.flat.FExpr.TheVariants as form;
+ghost use Rattle.flat_unfolding.specs.Outcome.{breaks_if};
 ghost use Rattle.flat_unfolding.specs.Names.{Look};
-ghost use Rattle.flat_unfolding.specs.Constants.{within as within_of};
-ghost use Rattle.flat_names.specs.Pieces.{Piece, IsPiece, IsFitPiece, Makes, numbered, flagged, unary_piece};
+ghost use Rattle.flat_unfolding.specs.Constants.{both, within as within_of, own_value as value_of};
+ghost use Rattle.flat_unfolding.specs.Expressions.{Term, is_sound as is_sound_term, all_sound, joined, as_constant, as_count, join_term, repeat_term, is_whole_only as is_whole_only_of};
+ghost use Rattle.flat_names.specs.Noting.{all_noted};
+ghost use Rattle.flat_names.specs.Pieces.{Piece, IsPiece, IsRead, IsFitPiece, Makes, AreRead, pending, numbered, flagged, unary_piece, binary_piece, choice_piece, binary_notes, choice_notes, within_word, join_notes, count_notes, repeat_notes};
 
 use crate::fault::{Faults, Rule};
 use cdc_base::limits::MAX_WIDTH;
@@ -128,15 +132,24 @@ fn counted_flag(expr: FExpr, is_sound: bool, whole: Option<u64>) -> Resolved
 }
 
 /// Judges an expression that is no part of a greater counted one.
-pub fn settled(resolved: Resolved, faults: &mut Faults) -> Result<Resolved, NoMemory> {
-    if resolved.count.is_some() && !resolved.is_sound {
-        faults.note(Rule::ConstantOutOfRange, "")?;
+pub fn settled(resolved: Resolved, faults: &mut Faults) -> Result<Resolved, NoMemory>
+    ensures { (p : Piece) → IsPiece p resolved → IsFitPiece p → IfOk result (λ r. (r ≡ resolved) × (faults.new ≡ all_noted faults.old (pending p))) }
+{
+    if resolved.is_sound {
+        return Ok(resolved);
     }
+    if resolved.count.is_none() {
+        return Ok(resolved);
+    }
+    faults.note(Rule::ConstantOutOfRange, "")?;
     Ok(resolved)
 }
 
 /// Judges an expression that has to be a constant.
-pub fn settled_constant(resolved: Resolved, faults: &mut Faults) -> Result<Resolved, NoMemory> {
+pub fn settled_constant(resolved: Resolved, faults: &mut Faults) -> Result<Resolved, NoMemory>
+    ensures { (p : Piece) → IsPiece p resolved → IsFitPiece p
+        → IfOk result (λ r. IsRead (as_constant p.term) r × (faults.new ≡ all_noted faults.old (pending p ++ breaks_if (not p.term.is_constant) 307 []))) }
+{
     let resolved = settled(resolved, faults)?;
     if resolved.is_constant {
         return Ok(resolved);
@@ -194,22 +207,42 @@ pub fn binary(
     a: Resolved,
     b: Resolved,
     faults: &mut Faults,
-) -> Result<Resolved, NoMemory> {
+) -> Result<Resolved, NoMemory>
+    ensures { (l : Look) (p q : Piece) → IsPiece p a → IsFitPiece p → IsPiece q b → IsFitPiece q
+        → IfOk result (λ r. IsPiece (binary_piece l op p q) r × (faults.new ≡ all_noted faults.old (binary_notes op p q))) }
+{
     if let (Some(first), Some(second)) = (a.count, b.count) {
         let width = binary_size(op, a.width(), b.width());
         let whole = whole_binary(op, first.whole, second.whole, width);
         return counted_binary(alloc, op, a, b, whole);
     }
+    open_binary(alloc, op, a, b, faults)
+}
+
+/// Of operands that aren't both counted.
+fn open_binary(
+    alloc: Global,
+    op: BinaryOp,
+    a: Resolved,
+    b: Resolved,
+    faults: &mut Faults,
+) -> Result<Resolved, NoMemory>
+    ensures { (l : Look) (p q : Piece) → IsPiece p a → IsFitPiece p → IsPiece q b → IsFitPiece q → both (λ j k. k) p.size q.size ≡ None
+        → IfOk result (λ r. IsPiece (binary_piece l op p q) r × (faults.new ≡ all_noted faults.old (pending p ++ pending q ++ breaks_if (is_whole_only_of op) 307 []))) }
+{
     let a = settled(a, faults)?;
     let b = settled(b, faults)?;
     if is_whole_only(op) {
         faults.note(Rule::ConstantOutOfRange, "")?;
     }
+    let is_sound = a.is_sound && b.is_sound && !is_whole_only(op);
+    let is_constant = a.is_constant && b.is_constant;
+    let expr = binary_expr(alloc, op, a.expr, b.expr)?;
     Ok(Resolved {
-        is_sound: a.is_sound && b.is_sound && !is_whole_only(op),
-        is_constant: a.is_constant && b.is_constant,
+        expr,
+        is_sound,
+        is_constant,
         count: None,
-        expr: binary_expr(alloc, op, a.expr, b.expr)?,
     })
 }
 
@@ -219,7 +252,10 @@ fn counted_binary(
     a: Resolved,
     b: Resolved,
     whole: Option<u64>,
-) -> Result<Resolved, NoMemory> {
+) -> Result<Resolved, NoMemory>
+    ensures { (l : Look) (p q : Piece) (j k : ℕ) → IsPiece p a → IsFitPiece p → IsPiece q b → IsFitPiece q → p.size ≡ Some j → q.size ≡ Some k
+        → whole ≡ binary_value op (binary_size_of (binary_of op) j k) p.whole q.whole → IfOk result (λ r. IsPiece (binary_piece l op p q) r) }
+{
     if binary_size(op, a.width(), b.width()) != 1 {
         return Ok(whole_number(whole));
     }
@@ -244,20 +280,41 @@ pub fn choose(
     yes: Resolved,
     other: Resolved,
     faults: &mut Faults,
-) -> Result<Resolved, NoMemory> {
+) -> Result<Resolved, NoMemory>
+    ensures { (l : Look) (p q o : Piece) → IsPiece p cond → IsFitPiece p → IsPiece q yes → IsFitPiece q → IsPiece o other → IsFitPiece o
+        → IfOk result (λ r. IsPiece (choice_piece l p q o) r × (faults.new ≡ all_noted faults.old (choice_notes p q o))) }
+{
     if let (Some(test), Some(first), Some(second)) = (cond.count, yes.count, other.count) {
         let width = yes.width().max(other.width());
         let whole = whole_choice(test.whole, first.whole, second.whole, width);
         return counted_choice(alloc, cond, yes, other, whole);
     }
+    open_choice(alloc, cond, yes, other, faults)
+}
+
+/// Of parts that aren't all counted.
+fn open_choice(
+    alloc: Global,
+    cond: Resolved,
+    yes: Resolved,
+    other: Resolved,
+    faults: &mut Faults,
+) -> Result<Resolved, NoMemory>
+    ensures { (l : Look) (p q o : Piece) → IsPiece p cond → IsFitPiece p → IsPiece q yes → IsFitPiece q → IsPiece o other → IsFitPiece o
+        → both (λ i k. k) p.size (both (λ j k. k) q.size o.size) ≡ None
+        → IfOk result (λ r. IsPiece (choice_piece l p q o) r × (faults.new ≡ all_noted faults.old (pending p ++ pending q ++ pending o))) }
+{
     let cond = settled(cond, faults)?;
     let yes = settled(yes, faults)?;
     let other = settled(other, faults)?;
+    let is_sound = cond.is_sound && yes.is_sound && other.is_sound;
+    let is_constant = cond.is_constant && yes.is_constant && other.is_constant;
+    let expr = choose_expr(alloc, cond.expr, yes.expr, other.expr)?;
     Ok(Resolved {
-        is_sound: cond.is_sound && yes.is_sound && other.is_sound,
-        is_constant: cond.is_constant && yes.is_constant && other.is_constant,
+        expr,
+        is_sound,
+        is_constant,
         count: None,
-        expr: choose_expr(alloc, cond.expr, yes.expr, other.expr)?,
     })
 }
 
@@ -267,7 +324,11 @@ fn counted_choice(
     yes: Resolved,
     other: Resolved,
     whole: Option<u64>,
-) -> Result<Resolved, NoMemory> {
+) -> Result<Resolved, NoMemory>
+    ensures { (l : Look) (p q o : Piece) (i j k : ℕ) → IsPiece p cond → IsFitPiece p → IsPiece q yes → IsFitPiece q → IsPiece o other → IsFitPiece o
+        → p.size ≡ Some i → q.size ≡ Some j → o.size ≡ Some k → whole ≡ choice_value (max j k) p.whole q.whole o.whole
+        → IfOk result (λ r. IsPiece (choice_piece l p q o) r) }
+{
     if yes.width().max(other.width()) != 1 {
         return Ok(whole_number(whole));
     }
@@ -276,7 +337,12 @@ fn counted_choice(
     Ok(counted_flag(expr, is_sound, whole))
 }
 
-pub fn choose_expr(alloc: Global, cond: FExpr, yes: FExpr, other: FExpr) -> Result<FExpr, NoMemory>
+pub fn choose_expr(
+    alloc: Global,
+    cond: FExpr,
+    yes: FExpr,
+    other: FExpr,
+) -> Result<FExpr, NoMemory>
     ensures { IfOk result (λ e. Makes e (Choose (expr_of cond) (expr_of yes) (expr_of other))
         (record { width = max (kept_of yes).width (kept_of other).width; right = is_sized cond && (is_sized yes && is_sized other) })) }
 {
@@ -302,7 +368,9 @@ pub struct Parts {
 }
 
 impl Parts {
-    pub fn new(alloc: Global) -> Parts {
+    pub fn new(alloc: Global) -> Parts
+        ensures { AreRead [] result }
+    {
         Parts {
             items: Vec::new(alloc),
             width: 0,
@@ -311,7 +379,9 @@ impl Parts {
         }
     }
 
-    pub fn add(&mut self, part: Resolved) -> Result<(), NoMemory> {
+    pub fn add(&mut self, part: Resolved) -> Result<(), NoMemory>
+        ensures { (ts : List Term) (t : Term) → AreRead ts self.old → IsRead t part → IfOk result (λ _. AreRead (ts ++ t ∷ []) self.new) }
+    {
         self.width = self.width.saturating_add(u64::from(part.width()));
         self.is_sound = self.is_sound && part.is_sound;
         self.is_constant = self.is_constant && part.is_constant;
@@ -320,20 +390,23 @@ impl Parts {
 }
 
 /// A width of more than 64 bits breaks a rule.
-fn joined_width(width: u64, is_sound: bool, faults: &mut Faults) -> Result<Option<u8>, NoMemory> {
+fn joined_width(width: u64, is_sound: bool, faults: &mut Faults) -> Result<Option<u8>, NoMemory>
+    ensures { IfOk result (λ w. (w ≡ within_word is_sound width) × (faults.new ≡ all_noted faults.old (breaks_if (is_sound && nat_lt 64 width) 308 []))) }
+{
     if !is_sound {
         return Ok(None);
     }
-    match u8::try_from(width) {
-        Ok(width) if width <= MAX_WIDTH => Ok(Some(width)),
-        _ => {
-            faults.note(Rule::Width, "")?;
-            Ok(None)
-        }
+    if width > u64::from(MAX_WIDTH) {
+        faults.note(Rule::Width, "")?;
+        return Ok(None);
     }
+    Ok(u8::try_from(width).ok())
 }
 
-pub fn join(parts: Parts, faults: &mut Faults) -> Result<Resolved, NoMemory> {
+pub fn join(parts: Parts, faults: &mut Faults) -> Result<Resolved, NoMemory>
+    ensures { (t : Term) (ts : List Term) → AreRead (t ∷ ts) parts
+        → IfOk result (λ r. IsRead (join_term (t ∷ ts)) r × (r.count ≡ None) × (faults.new ≡ all_noted faults.old (join_notes (t ∷ ts)))) }
+{
     let width = joined_width(parts.width, parts.is_sound, faults)?;
     Ok(Resolved {
         expr: FExpr::Join {
@@ -347,7 +420,10 @@ pub fn join(parts: Parts, faults: &mut Faults) -> Result<Resolved, NoMemory> {
 }
 
 /// The count of a replication, which is at least 1.
-fn repetition(count: &Resolved, faults: &mut Faults) -> Result<Option<u64>, NoMemory> {
+fn repetition(count: &Resolved, faults: &mut Faults) -> Result<Option<u64>, NoMemory>
+    ensures { (t : Term) → IsRead (as_constant t) count.now
+        → IfOk result (λ n. (n ≡ cond (is_sound_term (as_count t)) (Some (value_of t.expr)) None) × (faults.new ≡ all_noted faults.old (count_notes t))) }
+{
     if !count.is_sound {
         return Ok(None);
     }
@@ -360,7 +436,10 @@ fn repetition(count: &Resolved, faults: &mut Faults) -> Result<Option<u64>, NoMe
 }
 
 /// A replication. The count is settled as a constant.
-pub fn repeat(count: Resolved, parts: Parts, faults: &mut Faults) -> Result<Resolved, NoMemory> {
+pub fn repeat(count: Resolved, parts: Parts, faults: &mut Faults) -> Result<Resolved, NoMemory>
+    ensures { (k t : Term) (ts : List Term) → IsRead (as_constant k) count → AreRead (t ∷ ts) parts
+        → IfOk result (λ r. IsRead (repeat_term k (t ∷ ts)) r × (r.count ≡ None) × (faults.new ≡ all_noted faults.old (count_notes k ++ repeat_notes k (t ∷ ts)))) }
+{
     let times = repetition(&count, faults)?;
     let total = times.unwrap_or(0).saturating_mul(parts.width);
     let width = joined_width(total, parts.is_sound && times.is_some(), faults)?;
