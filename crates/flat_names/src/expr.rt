@@ -33,7 +33,7 @@ pub fn part_of(look: &Look, expr: &Expr, faults: &mut Faults) -> Result<Resolved
         }
         Expr::Unary { op, a } => {
             let a = part_of(look, a, faults)?;
-            unary(look.alloc, *op, a)
+            unary(look.alloc, *op, a, faults)
         }
         Expr::Binary { op, a, b } => {
             let a = part_of(look, a, faults)?;

@@ -1,4 +1,0 @@
-pub mod Noting
-pub mod Looks
-pub mod Pieces
-pub mod Selects
