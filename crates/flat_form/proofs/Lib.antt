@@ -7,3 +7,8 @@ pub mod Constants
 pub mod ConstantForms
 pub mod Labels
 pub mod WholeNumbers
+pub mod Copies
+pub mod MaskSets
+pub mod Depths
+pub mod ExprUses
+pub mod StmtUses

@@ -1,4 +1,9 @@
 //! Copies of expressions, for the words of a memory that an index may choose.
+ghost use Rattle.std.specs.Prelude.{◌≡◌, map, IfOk};
+ghost use Rattle.flat_form.specs.View.{expr_of};
+ghost use Rattle.flat_form.specs.Sizes.{kept_of};
+ghost use Rattle.flat_form.specs.Copies.{wrapped, kept_wrapped};
+
 use crate::flat::FExpr;
 use crate::memory::{boxed, push};
 use cdc_base::{List, NoMemory};
@@ -14,7 +19,10 @@ struct Choice {
 
 /// A copy of an expression. A read of a large memory is a long chain of choices, which is walked without a recursion.
 #[cycle(copy)]
-pub fn copy(alloc: Global, expr: &FExpr) -> Result<FExpr, NoMemory> {
+pub fn copy(alloc: Global, expr: &FExpr) -> Result<FExpr, NoMemory>
+    ensures same { IfOk result (λ e. expr_of e ≡ expr_of expr.now) }
+    ensures kept { IfOk result (λ e. kept_of e ≡ kept_of expr.now) }
+{
     let mut around = Vec::new(alloc);
     let mut inner = expr;
     loop {
@@ -96,7 +104,10 @@ pub fn copy(alloc: Global, expr: &FExpr) -> Result<FExpr, NoMemory> {
 }
 
 /// The choices around an expression, the last one of the list innermost.
-fn chosen(alloc: Global, around: Vec<Choice>, innermost: FExpr) -> Result<FExpr, NoMemory> {
+fn chosen(alloc: Global, around: Vec<Choice>, innermost: FExpr) -> Result<FExpr, NoMemory>
+    ensures same { IfOk result (λ e. expr_of e ≡ wrapped around.items (expr_of innermost)) }
+    ensures kept { IfOk result (λ e. kept_of e ≡ kept_wrapped around.items (kept_of innermost)) }
+{
     let mut around = around;
     let mut whole = innermost;
     while let Some(Choice { cond, yes, width }) = around.pop() {
@@ -111,7 +122,10 @@ fn chosen(alloc: Global, around: Vec<Choice>, innermost: FExpr) -> Result<FExpr,
 }
 
 #[cycle(copy)]
-fn copy_all(alloc: Global, exprs: &[FExpr]) -> Result<List<FExpr>, NoMemory> {
+fn copy_all(alloc: Global, exprs: &[FExpr]) -> Result<List<FExpr>, NoMemory>
+    ensures same { IfOk result (λ es. map expr_of es ≡ map expr_of exprs.now) }
+    ensures kept { IfOk result (λ es. map kept_of es ≡ map kept_of exprs.now) }
+{
     let mut copies = Vec::new(alloc);
     for expr in exprs {
         push(&mut copies, copy(alloc, expr)?)?;

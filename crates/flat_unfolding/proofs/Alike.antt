@@ -8,7 +8,9 @@ use Rattle.flat_meaning.specs.Full.{is_full}
 use Rattle.flat_meaning.specs.Assigned.{Done, is_within, covers, cover, surely, surely_case, surely_all, reaches, reach, may_assign, may_assign_in, any_may_assign}
 use Rattle.flat_meaning.specs.Deps.{none}
 use Rattle.flat_unfolding.specs.Names.{Entry, width_at}
-use Rattle.flat_unfolding.specs.Reads.{first_from, expr_reads, exprs_read, target_reads, targets_read, early, early_in, early_all, is_latch, latch_of, latch_rule}
+use Rattle.flat_meaning.specs.Law.{expr_reads}
+use Rattle.flat_form.specs.Uses.{exprs_read, target_reads, targets_read}
+use Rattle.flat_unfolding.specs.Reads.{first_from, early, early_in, early_all, is_latch, latch_of, latch_rule}
 use Rattle.flat_unfolding.specs.Sized.{IsSized, AreSized, AreLabelsSized, IsTargetSized, AreTargetsSized, IsStmtSized, AreItemsSized, AreStmtsSized}
 use Rattle.flat_unfolding.proofs.OneDriver.{none_from}
 use Rattle.flat_unfolding.proofs.Grown.{is_declared_at}

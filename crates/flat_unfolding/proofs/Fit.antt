@@ -7,7 +7,9 @@ use Rattle.flat_meaning.specs.Fits.{Fits, AllFit}
 use Rattle.flat_meaning.specs.Assigned.{Done, surely, FitsTarget, FitTargets, FitsStmt, FitItems, FitStmts}
 use Rattle.flat_meaning.specs.Deps.{Bits, AllIn, union, span}
 use Rattle.flat_meaning.proofs.Targets.{left_in, right_in}
-use Rattle.flat_unfolding.specs.Reads.{without, expr_reads, exprs_read, target_reads, targets_read, stmt_reads, items_read, stmts_read, early, early_in, early_all}
+use Rattle.flat_meaning.specs.Law.{expr_reads}
+use Rattle.flat_form.specs.Uses.{without, exprs_read, target_reads, targets_read, stmt_reads, items_read, stmts_read}
+use Rattle.flat_unfolding.specs.Reads.{early, early_in, early_all}
 use Rattle.flat_unfolding.specs.Sized.{IsSized, AreSized, AreLabelsSized, IsTargetSized, AreTargetsSized, IsStmtSized, AreItemsSized, AreStmtsSized}
 use Rattle.flat_unfolding.proofs.Terms.{times_some}
 use Rattle.flat_unfolding.proofs.Alike.{either, named_at}

@@ -17,7 +17,8 @@ use Rattle.flat_meaning.specs.Sound.{inside, DrivesWires, AllDriveWires, IsSound
 use Rattle.flat_unfolding.specs.Outcome.{good}
 use Rattle.flat_unfolding.specs.Names.{Entry, width_at}
 use Rattle.flat_unfolding.specs.Targets.{first_pick, first_pick_in}
-use Rattle.flat_unfolding.specs.Reads.{stmt_reads, early, is_latch}
+use Rattle.flat_form.specs.Uses.{stmt_reads}
+use Rattle.flat_unfolding.specs.Reads.{early, is_latch}
 use Rattle.flat_unfolding.specs.Design.{Design}
 use Rattle.flat_unfolding.specs.Signals.{is_register, kind_of, signals_from, flat_design}
 use Rattle.flat_unfolding.specs.Drivers.{assigned_by, bodies, all_drivers, is_read, is_from_outside, driven_once}

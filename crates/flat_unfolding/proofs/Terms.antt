@@ -329,7 +329,7 @@ module _ (look : Look) (words : AreWords (width_at look.entries)) where
 
     mutual
       pub sized : (e : ExprTree) → IsFormed e → IsTermSized (read look e)
-      sized (number v w plain) h e = h
+      sized (number v w plain) h e = (h.0, h.1, h.2)
       sized (name x) h e = meant_sized x (meaning look x) (known x) e
       sized (index x i) h e = index_sized x (read look i) (known x) (sized i h) e
       sized (part x l r) h e = part_sized x (read look l) (read look r) (known x) e

@@ -9,7 +9,9 @@ use Rattle.flat_meaning.specs.Flat.{Expr, Target, Stmt, assigns}
 use Rattle.flat_meaning.specs.Design.{Flat, size_in, once, drivers}
 use Rattle.flat_meaning.specs.Deps.{union}
 use Rattle.flat_unfolding.specs.Outcome.{Outcome, good, then_, refused}
-use Rattle.flat_unfolding.specs.Reads.{first_from, expr_reads, target_reads, stmt_reads}
+use Rattle.flat_meaning.specs.Law.{expr_reads}
+use Rattle.flat_form.specs.Uses.{target_reads, stmt_reads}
+use Rattle.flat_unfolding.specs.Reads.{first_from}
 
 -- how many processes may assign a signal
 abbrev pub assigned_by : List Stmt → ℕ → ℕ

@@ -1,14 +1,13 @@
--- The bits that expressions and statements read, and latches.
+-- The bits that are read before they are assigned, and latches.
 use Rattle.std.specs.Prelude.{ℕ, zero, suc, Bool, cond, not, ◌&&◌, ◌||◌, List, [], length, Option, Some, None}
 use Rattle.cell_graph.specs.Tree.{any_below}
-use Rattle.flat_meaning.specs.Flat.{Expr, Exprs, Target, Whole, Part, Pick, Group, Targets, no_targets, target, Stmt, Null, Set, If, Case, Block, Items, no_items, default_item, item, Stmts, no_stmts, stmt}
+use Rattle.flat_meaning.specs.Flat.{Stmt, Null, Set, If, Case, Block, Items, no_items, default_item, item, Stmts, no_stmts, stmt}
 use Rattle.flat_meaning.specs.Assigned.{surely, may_assign}
-use Rattle.flat_meaning.specs.Deps.{Bits, none, union, span, reads, all_reads}
+use Rattle.flat_meaning.specs.Deps.{Bits, none, union}
+use Rattle.flat_meaning.specs.Law.{expr_reads}
+use Rattle.flat_form.specs.Uses.{without, exprs_read, target_reads}
 use Rattle.flat_unfolding.specs.Outcome.{Broken, breaks}
 use Rattle.flat_unfolding.specs.Names.{Entry, width_at, own_at}
-
-abbrev pub without : Bits → Bits → Bits
-without d b s i = b s i && not (d s i)
 
 -- the first number from `from` on, of so many, that passes the test
 abbrev pub first_from : (ℕ → Bool) → (from more : ℕ) → Option ℕ
@@ -16,55 +15,19 @@ first_from p from zero = None
 first_from p from (suc more) = cond (p from) (Some from) (first_from p (suc from) more)
 
 module _ (wid : ℕ → ℕ) where
-  -- a variable index reads its whole signal
-  abbrev pub expr_reads : Expr → Bits
-  expr_reads e = reads wid (λ d. span) (λ s. none) e
-
-  abbrev pub exprs_read : Exprs → Bits
-  exprs_read es = all_reads wid (λ d. span) (λ s. none) es
-
-  -- the indices of a target are read
-  abbrev mutual
-    pub target_reads : Target → Bits
-    target_reads (Whole s) = none
-    target_reads (Part s at w) = none
-    target_reads (Pick s e) = expr_reads e
-    target_reads (Group ts) = targets_read ts
-
-    pub targets_read : Targets → Bits
-    targets_read no_targets = none
-    targets_read (target t ts) = union (target_reads t) (targets_read ts)
-
-  abbrev mutual
-    pub stmt_reads : Stmt → Bits
-    stmt_reads Null = none
-    stmt_reads (Set b t e) = union (expr_reads e) (target_reads t)
-    stmt_reads (If c x y) = union (expr_reads c) (union (stmt_reads x) (stmt_reads y))
-    stmt_reads (Case e is) = union (expr_reads e) (items_read is)
-    stmt_reads (Block ss) = stmts_read ss
-
-    pub items_read : Items → Bits
-    items_read no_items = none
-    items_read (default_item s) = stmt_reads s
-    items_read (item ls s rest) = union (exprs_read ls) (union (stmt_reads s) (items_read rest))
-
-    pub stmts_read : Stmts → Bits
-    stmts_read no_stmts = none
-    stmts_read (stmt s ss) = union (stmt_reads s) (stmts_read ss)
-
   -- the bits that are read where they aren't assigned on the path so far; d are those done before
   abbrev mutual
     pub early : Stmt → Bits → Bits
     early Null d = none
-    early (Set b t e) d = without d (union (expr_reads e) (target_reads t))
-    early (If c x y) d = union (without d (expr_reads c)) (union (early x d) (early y d))
-    early (Case e is) d = union (without d (expr_reads e)) (early_in is d)
+    early (Set b t e) d = without d (union (expr_reads wid e) (target_reads wid t))
+    early (If c x y) d = union (without d (expr_reads wid c)) (union (early x d) (early y d))
+    early (Case e is) d = union (without d (expr_reads wid e)) (early_in is d)
     early (Block ss) d = early_all ss d
 
     pub early_in : Items → Bits → Bits
     early_in no_items d = none
     early_in (default_item s) d = early s d
-    early_in (item ls s rest) d = union (without d (exprs_read ls)) (union (early s d) (early_in rest d))
+    early_in (item ls s rest) d = union (without d (exprs_read wid ls)) (union (early s d) (early_in rest d))
 
     pub early_all : Stmts → Bits → Bits
     early_all no_stmts d = none
