@@ -1,0 +1,19 @@
+-- Tokens whose numbers fit in their bits.
+use Rattle.std.specs.Prelude.{List, All, ⊤}
+use Rattle.verilog_lex.specs.declared.token.Token.{Token}
+use Rattle.verilog_lex.specs.declared.token.TokenKind.{TokenKind}
+use Rattle.verilog_lex.specs.declared.token.TokenKind.TheVariants.{Word, Ident, Number, Mark, End}
+use Rattle.verilog_reading.specs.ExprTree.{number}
+use Rattle.flat_unfolding.specs.Formed.{IsFormed}
+
+-- a number that is formed as an expression: 1 to 64 bits hold it, and a plain one is a whole number of 32
+abbrev pub IsNumeral : TokenKind → Type 0
+IsNumeral (Word w) = ⊤
+IsNumeral (Ident n) = ⊤
+IsNumeral (Number value width plain) = IsFormed (number value width plain)
+IsNumeral (Mark s) = ⊤
+IsNumeral End = ⊤
+
+-- each number among the tokens is
+abbrev pub AreNumerals : List Token → Type 0
+AreNumerals ts = All (λ (t : Token). IsNumeral t.kind) ts
