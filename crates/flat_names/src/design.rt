@@ -1,4 +1,10 @@
 //! The flat design as it grows, with what is known of each signal beyond its printed form.
+ghost use Rattle.std.specs.Prelude.{◌≡◌, [], false, slice_get};
+ghost use Rattle.std.specs.Option.{option_map_or};
+ghost use Rattle.flat_unfolding.specs.Targets.{of_wires};
+ghost use Rattle.flat_names.specs.declared.design.Entry.{Entry};
+ghost use Rattle.flat_names.specs.Looks.{seen, takes_seen};
+
 use crate::scope::{Bounds, Look, Names};
 use cdc_base::{Name, Signal};
 use flat_form::flat::{FlatAssign, FlatClocked, FlatComb};
@@ -38,7 +44,9 @@ pub struct Entry {
 
 impl Entry {
     /// Whether `assign`, a gate or the output of an instance may assign it.
-    pub fn is_wire(&self) -> bool {
+    pub fn is_wire(&self) -> bool
+        ensures { result ≡ takes_seen of_wires (seen self.now) }
+    {
         !self.is_reg && self.role != Role::Input
     }
 }
@@ -55,7 +63,14 @@ pub struct Design {
 }
 
 impl Design {
-    pub fn new(alloc: Global) -> Design {
+    pub fn new(alloc: Global) -> Design
+        ensures signals { result.signals.items ≡ [] }
+        ensures entries { result.entries.items ≡ [] }
+        ensures assigns { result.assigns.items ≡ [] }
+        ensures combs { result.combs.items ≡ [] }
+        ensures clocked { result.clocked.items ≡ [] }
+        ensures outputs { result.outputs.items ≡ [] }
+    {
         Design {
             signals: Vec::new(alloc),
             entries: Vec::new(alloc),
@@ -67,7 +82,12 @@ impl Design {
     }
 
     /// The design so far, to read a module's expressions in.
-    pub fn look<'a>(&'a self, alloc: Global, names: &'a Names) -> Look<'a> {
+    pub fn look<'a>(&'a self, alloc: Global, names: &'a Names) -> Look<'a>
+        ensures names { result.names.now ≡ names.entry.now }
+        ensures signals { result.signals.now ≡ self.entry.now.signals.items }
+        ensures entries { result.entries.now ≡ self.entry.now.entries.items }
+        ensures active { result.active ≡ false }
+    {
         Look {
             alloc,
             names,
@@ -77,7 +97,9 @@ impl Design {
         }
     }
 
-    pub fn width(&self, sig: u32) -> u8 {
+    pub fn width(&self, sig: u32) -> u8
+        ensures { result ≡ option_map_or (λ (e : Entry). e.width) (slice_get self.now.entries.items sig) 1 }
+    {
         match self.entries.get(usize::try_from(sig).unwrap_or(usize::MAX)) {
             Some(entry) => entry.width,
             None => 1,

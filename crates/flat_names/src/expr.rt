@@ -1,4 +1,17 @@
 //! Expressions: names resolved, sizes computed, constants judged.
+ghost use Rattle.std.specs.Prelude.{◌≡◌, Some, map, is_some, IfOk};
+ghost use Rattle.verilog_reading.specs.ExprTree.{tree_of, trees_of, number as number_tree, name as name_tree};
+ghost use Rattle.flat_unfolding.specs.Outcome.{Text};
+ghost use Rattle.flat_unfolding.specs.Names as meanings;
+ghost use Rattle.flat_unfolding.specs.Names.{unknown};
+ghost use Rattle.flat_unfolding.specs.Constants.{is_counted};
+ghost use Rattle.flat_unfolding.specs.Expressions.{all_broken, as_constant, read as read_tree, read_all};
+ghost use Rattle.flat_unfolding.specs.Formed.{IsFormed, AreFormed};
+ghost use Rattle.flat_names.specs.Noting.{all_noted};
+ghost use Rattle.flat_names.specs.Looks.{param_of, Shows, IsFitParam, IsFit};
+ghost use Rattle.flat_names.specs.Pieces.{piece, IsPiece, IsRead, AreRead, at_once};
+ghost use Rattle.flat_names.specs.Selects.{name_piece};
+
 use crate::fault::{Faults, Rule};
 use crate::resolved::{
     Parts, Resolved, binary, choose, counted_number, join, nothing, repeat, settled,
@@ -12,7 +25,10 @@ use verilog_ast::Expr;
 
 /// The expression as a part of another one: if it is counted it has yet to be judged.
 #[cycle(resolve)]
-pub fn part_of(look: &Look, expr: &Expr, faults: &mut Faults) -> Result<Resolved, NoMemory> {
+pub fn part_of(look: &Look, expr: &Expr, faults: &mut Faults) -> Result<Resolved, NoMemory>
+    ensures { (l : meanings.Look) → Shows look.now l → IsFit l → IsFormed (tree_of expr.now)
+        → IfOk result (λ r. IsPiece (piece l (tree_of expr.now)) r × (faults.new ≡ all_noted faults.old (at_once (piece l (tree_of expr.now))))) }
+{
     match expr {
         Expr::Number {
             value,
@@ -33,7 +49,7 @@ pub fn part_of(look: &Look, expr: &Expr, faults: &mut Faults) -> Result<Resolved
         }
         Expr::Unary { op, a } => {
             let a = part_of(look, a, faults)?;
-            unary(look.alloc, *op, a, faults)
+            unary(look.alloc, *op, a)
         }
         Expr::Binary { op, a, b } => {
             let a = part_of(look, a, faults)?;
@@ -60,7 +76,10 @@ pub fn part_of(look: &Look, expr: &Expr, faults: &mut Faults) -> Result<Resolved
 }
 
 #[cycle(resolve)]
-fn parts_of(look: &Look, exprs: &[Expr], faults: &mut Faults) -> Result<Parts, NoMemory> {
+fn parts_of(look: &Look, exprs: &[Expr], faults: &mut Faults) -> Result<Parts, NoMemory>
+    ensures { (l : meanings.Look) → Shows look.now l → IsFit l → AreFormed (trees_of (map tree_of exprs.now))
+        → IfOk result (λ p. AreRead (read_all l (trees_of (map tree_of exprs.now))) p × (faults.new ≡ all_noted faults.old (all_broken (read_all l (trees_of (map tree_of exprs.now)))))) }
+{
     let mut parts = Parts::new(look.alloc);
     for expr in exprs {
         let part = settled(part_of(look, expr, faults)?, faults)?;
@@ -70,22 +89,26 @@ fn parts_of(look: &Look, exprs: &[Expr], faults: &mut Faults) -> Result<Parts, N
 }
 
 /// The expression by itself.
-pub fn resolve(look: &Look, expr: &Expr, faults: &mut Faults) -> Result<Resolved, NoMemory> {
+pub fn resolve(look: &Look, expr: &Expr, faults: &mut Faults) -> Result<Resolved, NoMemory>
+    ensures { (l : meanings.Look) → Shows look.now l → IsFit l → IsFormed (tree_of expr.now)
+        → IfOk result (λ r. IsRead (read_tree l (tree_of expr.now)) r × (faults.new ≡ all_noted faults.old (read_tree l (tree_of expr.now)).broken) × (is_some r.count ≡ is_counted l.names (tree_of expr.now))) }
+{
     let resolved = part_of(look, expr, faults)?;
     settled(resolved, faults)
 }
 
 /// The expression by itself, which has to be a constant.
-pub fn resolve_constant(
-    look: &Look,
-    expr: &Expr,
-    faults: &mut Faults,
-) -> Result<Resolved, NoMemory> {
+pub fn resolve_constant(look: &Look, expr: &Expr, faults: &mut Faults) -> Result<Resolved, NoMemory>
+    ensures { (l : meanings.Look) → Shows look.now l → IsFit l → IsFormed (tree_of expr.now)
+        → IfOk result (λ r. IsRead (as_constant (read_tree l (tree_of expr.now))) r × (faults.new ≡ all_noted faults.old (as_constant (read_tree l (tree_of expr.now))).broken) × (is_some r.count ≡ is_counted l.names (tree_of expr.now))) }
+{
     let resolved = part_of(look, expr, faults)?;
     settled_constant(resolved, faults)
 }
 
-fn number(value: u64, width: u8, plain: bool) -> Resolved {
+fn number(value: u64, width: u8, plain: bool) -> Resolved
+    ensures { (l : meanings.Look) → IsFormed (number_tree value width plain) → IsPiece (piece l (number_tree value width plain)) result }
+{
     if plain {
         counted_number(value, width)
     } else {
@@ -94,7 +117,9 @@ fn number(value: u64, width: u8, plain: bool) -> Resolved {
 }
 
 /// Notes a name that stands for nothing.
-pub fn note_unknown(look: &Look, name: &Name, faults: &mut Faults) -> Result<(), NoMemory> {
+pub fn note_unknown(look: &Look, name: &Name, faults: &mut Faults) -> Result<(), NoMemory>
+    ensures { (l : meanings.Look) → Shows look.now l → IfOk result (λ _. faults.new ≡ all_noted faults.old (unknown l name.now)) }
+{
     if look.meaning(name).is_none() {
         faults.note(Rule::UnknownName, name.as_str())?;
     }
@@ -102,7 +127,10 @@ pub fn note_unknown(look: &Look, name: &Name, faults: &mut Faults) -> Result<(),
 }
 
 /// A name alone.
-fn named(look: &Look, name: &Name, faults: &mut Faults) -> Result<Resolved, NoMemory> {
+fn named(look: &Look, name: &Name, faults: &mut Faults) -> Result<Resolved, NoMemory>
+    ensures { (l : meanings.Look) → Shows look.now l → IsFit l
+        → IfOk result (λ r. IsPiece (piece l (name_tree name.now)) r × (faults.new ≡ all_noted faults.old (at_once (piece l (name_tree name.now))))) }
+{
     match look.meaning(name) {
         Some(Meaning::Param(param)) => Ok(parameter(param)),
         Some(Meaning::Signal(sig)) => { Ok(Resolved::variable(look.read(sig, 0, look.width(sig)))) }
@@ -117,7 +145,9 @@ fn named(look: &Look, name: &Name, faults: &mut Faults) -> Result<Resolved, NoMe
     }
 }
 
-fn parameter(param: Param) -> Resolved {
+fn parameter(param: Param) -> Resolved
+    ensures { (l : meanings.Look) (x : Text) → IsFitParam (param_of param) → IsPiece (name_piece l x (Some (meanings.a_param (param_of param)))) result }
+{
     if param.counted {
         counted_number(param.value, param.width)
     } else {

@@ -1,4 +1,4 @@
-//! What the names of a module stand for, and its expressions and targets with their names resolved.
+//! What the names of a module stand for, and its expressions with their names resolved.
 #![tactic(auto)]
 
 pub mod design;
@@ -8,4 +8,3 @@ pub mod printed;
 pub mod resolved;
 pub mod scope;
 pub mod select;
-pub mod target;

@@ -1,4 +1,18 @@
 //! Expressions whose names are resolved, and how operators put them together.
+ghost use Rattle.std.specs.Prelude.{◌≡◌, ℕ, ◌<◌, [], ◌∷◌, ◌&&◌, ◌++◌, ◌≢◌, true, false, None, Option, Some, is_some, unwrap_or, max, not, cond, nat_lt, List, IfOk};
+ghost use Rattle.flat_meaning.specs.Flat.{Unary, Binary, Choose, unary_size as unary_size_of, binary_size as binary_size_of};
+ghost use Rattle.flat_form.specs.View.{expr_of, unary_of, binary_of};
+ghost use Rattle.flat_form.specs.Sizes.{kept_of, is_sized};
+ghost use Rattle.flat_form.specs.Whole.{unary_whole as unary_value, binary_whole as binary_value, choice_whole as choice_value};
+ghost use Rattle.flat_form.specs.declared.flat.FExpr.{FExpr};
+ghost use Rattle.flat_form.specs.declared.flat.FExpr.TheVariants as form;
+ghost use Rattle.flat_unfolding.specs.Outcome.{breaks_if};
+ghost use Rattle.flat_unfolding.specs.Names.{Look};
+ghost use Rattle.flat_unfolding.specs.Constants.{both, within as within_of, own_value as value_of};
+ghost use Rattle.flat_unfolding.specs.Expressions.{Term, is_sound as is_sound_term, all_sound, joined, as_constant, as_count, join_term, repeat_term, is_whole_only as is_whole_only_of};
+ghost use Rattle.flat_names.specs.Noting.{all_noted};
+ghost use Rattle.flat_names.specs.Pieces.{Piece, IsPiece, IsRead, IsFitPiece, Makes, AreRead, pending, numbered, flagged, unary_piece, binary_piece, choice_piece, binary_notes, choice_notes, within_word, join_notes, count_notes, repeat_notes};
+
 use crate::fault::{Faults, Rule};
 use cdc_base::limits::MAX_WIDTH;
 use cdc_base::{List, NoMemory};
@@ -28,7 +42,9 @@ pub struct Resolved {
 }
 
 impl Resolved {
-    pub fn constant(expr: FExpr) -> Resolved {
+    pub fn constant(expr: FExpr) -> Resolved
+        ensures { result ≡ record { expr = expr; is_sound = true; is_constant = true; count = None } }
+    {
         Resolved {
             expr,
             is_sound: true,
@@ -37,7 +53,9 @@ impl Resolved {
         }
     }
 
-    pub fn variable(expr: FExpr) -> Resolved {
+    pub fn variable(expr: FExpr) -> Resolved
+        ensures { result ≡ record { expr = expr; is_sound = true; is_constant = false; count = None } }
+    {
         Resolved {
             expr,
             is_sound: true,
@@ -47,7 +65,9 @@ impl Resolved {
     }
 
     /// What broke a rule. Signals that are read below it are in `expr`.
-    pub fn broken(expr: FExpr, is_constant: bool) -> Resolved {
+    pub fn broken(expr: FExpr, is_constant: bool) -> Resolved
+        ensures { result ≡ record { expr = expr; is_sound = false; is_constant = is_constant; count = None } }
+    {
         Resolved {
             expr,
             is_sound: false,
@@ -56,18 +76,24 @@ impl Resolved {
         }
     }
 
-    pub fn width(&self) -> u8 {
+    pub fn width(&self) -> u8
+        ensures { result ≡ (kept_of self.now.expr).width }
+    {
         width_of(&self.expr)
     }
 }
 
 /// An expression that reads nothing.
-pub fn nothing() -> FExpr {
+pub fn nothing() -> FExpr
+    ensures { result ≡ form.Number 0 1 }
+{
     FExpr::Number { value: 0, width: 1 }
 }
 
 /// A plain number or a counted parameter.
-pub fn counted_number(value: u64, width: u8) -> Resolved {
+pub fn counted_number(value: u64, width: u8) -> Resolved
+    ensures { result ≡ numbered (within_of width value) value width }
+{
     let whole = within(width, value);
     Resolved {
         expr: FExpr::Number { value, width },
@@ -78,7 +104,9 @@ pub fn counted_number(value: u64, width: u8) -> Resolved {
 }
 
 /// A counted expression of own size 32 is whole, so it counts as a number.
-fn whole_number(whole: Option<u64>) -> Resolved {
+fn whole_number(whole: Option<u64>) -> Resolved
+    ensures { result ≡ numbered whole (unwrap_or whole 0) 32 }
+{
     Resolved {
         expr: FExpr::Number {
             value: whole.unwrap_or(0),
@@ -92,7 +120,9 @@ fn whole_number(whole: Option<u64>) -> Resolved {
 
 /// A counted expression of own size 1, sound where its parts are: it has its meaning by the sizes, unless it stands in
 /// a whole expression.
-fn counted_flag(expr: FExpr, is_sound: bool, whole: Option<u64>) -> Resolved {
+fn counted_flag(expr: FExpr, is_sound: bool, whole: Option<u64>) -> Resolved
+    ensures { result ≡ flagged expr is_sound whole }
+{
     Resolved {
         expr,
         is_sound,
@@ -102,15 +132,25 @@ fn counted_flag(expr: FExpr, is_sound: bool, whole: Option<u64>) -> Resolved {
 }
 
 /// Judges an expression that is no part of a greater counted one.
-pub fn settled(resolved: Resolved, faults: &mut Faults) -> Result<Resolved, NoMemory> {
-    if resolved.count.is_some() && !resolved.is_sound {
-        faults.note(Rule::ConstantOutOfRange, "")?;
+pub fn settled(resolved: Resolved, faults: &mut Faults) -> Result<Resolved, NoMemory>
+    ensures { (p : Piece) → IsPiece p resolved → IsFitPiece p → IfOk result (λ r. (r ≡ resolved) × (faults.new ≡ all_noted faults.old (pending p))) }
+{
+    if resolved.is_sound {
+        return Ok(resolved);
     }
+    if resolved.count.is_none() {
+        return Ok(resolved);
+    }
+    faults.note(Rule::ConstantOutOfRange, "")?;
     Ok(resolved)
 }
 
 /// Judges an expression that has to be a constant.
-pub fn settled_constant(resolved: Resolved, faults: &mut Faults) -> Result<Resolved, NoMemory> {
+pub fn settled_constant(resolved: Resolved, faults: &mut Faults) -> Result<Resolved, NoMemory>
+    ensures read { (p : Piece) → IsPiece p resolved → IsFitPiece p
+        → IfOk result (λ r. IsRead (as_constant p.term) r × (faults.new ≡ all_noted faults.old (pending p ++ breaks_if (not p.term.is_constant) 307 []))) }
+    ensures counted { (p : Piece) → IsPiece p resolved → IsFitPiece p → IfOk result (λ r. is_some r.count ≡ is_some p.size) }
+{
     let resolved = settled(resolved, faults)?;
     if resolved.is_constant {
         return Ok(resolved);
@@ -119,33 +159,45 @@ pub fn settled_constant(resolved: Resolved, faults: &mut Faults) -> Result<Resol
     Ok(Resolved::broken(resolved.expr, false))
 }
 
-pub fn unary(
-    alloc: Global,
-    op: UnaryOp,
-    a: Resolved,
-    faults: &mut Faults,
-) -> Result<Resolved, NoMemory> {
+pub fn unary(alloc: Global, op: UnaryOp, a: Resolved) -> Result<Resolved, NoMemory>
+    ensures { (l : Look) (p : Piece) → IsPiece p a → IsFitPiece p → IfOk result (λ r. IsPiece (unary_piece l op p) r) }
+{
     let size = a.width();
     let width = unary_size(op, size);
     if let Some(count) = a.count {
         let whole = whole_unary(op, count.whole, size);
-        if width != 1 {
-            return Ok(whole_number(whole));
-        }
-        let is_sound = a.is_sound;
-        let expr = unary_expr(alloc, op, a.expr, width)?;
-        return Ok(counted_flag(expr, is_sound, whole));
+        return counted_unary(alloc, op, a, width, whole);
     }
-    let a = settled(a, faults)?;
+    let expr = unary_expr(alloc, op, a.expr, width)?;
     Ok(Resolved {
+        expr,
         is_sound: a.is_sound,
         is_constant: a.is_constant,
         count: None,
-        expr: unary_expr(alloc, op, a.expr, width)?,
     })
 }
 
-fn unary_expr(alloc: Global, op: UnaryOp, a: FExpr, width: u8) -> Result<FExpr, NoMemory> {
+fn counted_unary(
+    alloc: Global,
+    op: UnaryOp,
+    a: Resolved,
+    width: u8,
+    whole: Option<u64>,
+) -> Result<Resolved, NoMemory>
+    ensures { (l : Look) (p : Piece) (k : ℕ) → IsPiece p a → IsFitPiece p → p.size ≡ Some k → width ≡ unary_size_of (unary_of op) k → whole ≡ unary_value op k p.whole
+        → IfOk result (λ r. IsPiece (unary_piece l op p) r) }
+{
+    if width != 1 {
+        return Ok(whole_number(whole));
+    }
+    let is_sound = a.is_sound;
+    let expr = unary_expr(alloc, op, a.expr, width)?;
+    Ok(counted_flag(expr, is_sound, whole))
+}
+
+fn unary_expr(alloc: Global, op: UnaryOp, a: FExpr, width: u8) -> Result<FExpr, NoMemory>
+    ensures { width ≡ unary_size_of (unary_of op) (kept_of a).width → IfOk result (λ e. Makes e (Unary (unary_of op) (expr_of a)) (record { width = width; right = is_sized a })) }
+{
     let a = boxed(alloc, a)?;
     Ok(FExpr::Unary { op, a, width })
 }
@@ -156,22 +208,42 @@ pub fn binary(
     a: Resolved,
     b: Resolved,
     faults: &mut Faults,
-) -> Result<Resolved, NoMemory> {
+) -> Result<Resolved, NoMemory>
+    ensures { (l : Look) (p q : Piece) → IsPiece p a → IsFitPiece p → IsPiece q b → IsFitPiece q
+        → IfOk result (λ r. IsPiece (binary_piece l op p q) r × (faults.new ≡ all_noted faults.old (binary_notes op p q))) }
+{
     if let (Some(first), Some(second)) = (a.count, b.count) {
         let width = binary_size(op, a.width(), b.width());
         let whole = whole_binary(op, first.whole, second.whole, width);
         return counted_binary(alloc, op, a, b, whole);
     }
+    open_binary(alloc, op, a, b, faults)
+}
+
+/// Of operands that aren't both counted.
+fn open_binary(
+    alloc: Global,
+    op: BinaryOp,
+    a: Resolved,
+    b: Resolved,
+    faults: &mut Faults,
+) -> Result<Resolved, NoMemory>
+    ensures { (l : Look) (p q : Piece) → IsPiece p a → IsFitPiece p → IsPiece q b → IsFitPiece q → both (λ j k. k) p.size q.size ≡ None
+        → IfOk result (λ r. IsPiece (binary_piece l op p q) r × (faults.new ≡ all_noted faults.old (pending p ++ pending q ++ breaks_if (is_whole_only_of op) 307 []))) }
+{
     let a = settled(a, faults)?;
     let b = settled(b, faults)?;
     if is_whole_only(op) {
         faults.note(Rule::ConstantOutOfRange, "")?;
     }
+    let is_sound = a.is_sound && b.is_sound && !is_whole_only(op);
+    let is_constant = a.is_constant && b.is_constant;
+    let expr = binary_expr(alloc, op, a.expr, b.expr)?;
     Ok(Resolved {
-        is_sound: a.is_sound && b.is_sound && !is_whole_only(op),
-        is_constant: a.is_constant && b.is_constant,
+        expr,
+        is_sound,
+        is_constant,
         count: None,
-        expr: binary_expr(alloc, op, a.expr, b.expr)?,
     })
 }
 
@@ -181,7 +253,10 @@ fn counted_binary(
     a: Resolved,
     b: Resolved,
     whole: Option<u64>,
-) -> Result<Resolved, NoMemory> {
+) -> Result<Resolved, NoMemory>
+    ensures { (l : Look) (p q : Piece) (j k : ℕ) → IsPiece p a → IsFitPiece p → IsPiece q b → IsFitPiece q → p.size ≡ Some j → q.size ≡ Some k
+        → whole ≡ binary_value op (binary_size_of (binary_of op) j k) p.whole q.whole → IfOk result (λ r. IsPiece (binary_piece l op p q) r) }
+{
     if binary_size(op, a.width(), b.width()) != 1 {
         return Ok(whole_number(whole));
     }
@@ -190,7 +265,10 @@ fn counted_binary(
     Ok(counted_flag(expr, is_sound, whole))
 }
 
-pub fn binary_expr(alloc: Global, op: BinaryOp, a: FExpr, b: FExpr) -> Result<FExpr, NoMemory> {
+pub fn binary_expr(alloc: Global, op: BinaryOp, a: FExpr, b: FExpr) -> Result<FExpr, NoMemory>
+    ensures { IfOk result (λ e. Makes e (Binary (binary_of op) (expr_of a) (expr_of b))
+        (record { width = binary_size_of (binary_of op) (kept_of a).width (kept_of b).width; right = is_sized a && is_sized b })) }
+{
     let width = binary_size(op, width_of(&a), width_of(&b));
     let a = boxed(alloc, a)?;
     let b = boxed(alloc, b)?;
@@ -203,20 +281,41 @@ pub fn choose(
     yes: Resolved,
     other: Resolved,
     faults: &mut Faults,
-) -> Result<Resolved, NoMemory> {
+) -> Result<Resolved, NoMemory>
+    ensures { (l : Look) (p q o : Piece) → IsPiece p cond → IsFitPiece p → IsPiece q yes → IsFitPiece q → IsPiece o other → IsFitPiece o
+        → IfOk result (λ r. IsPiece (choice_piece l p q o) r × (faults.new ≡ all_noted faults.old (choice_notes p q o))) }
+{
     if let (Some(test), Some(first), Some(second)) = (cond.count, yes.count, other.count) {
         let width = yes.width().max(other.width());
         let whole = whole_choice(test.whole, first.whole, second.whole, width);
         return counted_choice(alloc, cond, yes, other, whole);
     }
+    open_choice(alloc, cond, yes, other, faults)
+}
+
+/// Of parts that aren't all counted.
+fn open_choice(
+    alloc: Global,
+    cond: Resolved,
+    yes: Resolved,
+    other: Resolved,
+    faults: &mut Faults,
+) -> Result<Resolved, NoMemory>
+    ensures { (l : Look) (p q o : Piece) → IsPiece p cond → IsFitPiece p → IsPiece q yes → IsFitPiece q → IsPiece o other → IsFitPiece o
+        → both (λ i k. k) p.size (both (λ j k. k) q.size o.size) ≡ None
+        → IfOk result (λ r. IsPiece (choice_piece l p q o) r × (faults.new ≡ all_noted faults.old (pending p ++ pending q ++ pending o))) }
+{
     let cond = settled(cond, faults)?;
     let yes = settled(yes, faults)?;
     let other = settled(other, faults)?;
+    let is_sound = cond.is_sound && yes.is_sound && other.is_sound;
+    let is_constant = cond.is_constant && yes.is_constant && other.is_constant;
+    let expr = choose_expr(alloc, cond.expr, yes.expr, other.expr)?;
     Ok(Resolved {
-        is_sound: cond.is_sound && yes.is_sound && other.is_sound,
-        is_constant: cond.is_constant && yes.is_constant && other.is_constant,
+        expr,
+        is_sound,
+        is_constant,
         count: None,
-        expr: choose_expr(alloc, cond.expr, yes.expr, other.expr)?,
     })
 }
 
@@ -226,7 +325,11 @@ fn counted_choice(
     yes: Resolved,
     other: Resolved,
     whole: Option<u64>,
-) -> Result<Resolved, NoMemory> {
+) -> Result<Resolved, NoMemory>
+    ensures { (l : Look) (p q o : Piece) (i j k : ℕ) → IsPiece p cond → IsFitPiece p → IsPiece q yes → IsFitPiece q → IsPiece o other → IsFitPiece o
+        → p.size ≡ Some i → q.size ≡ Some j → o.size ≡ Some k → whole ≡ choice_value (max j k) p.whole q.whole o.whole
+        → IfOk result (λ r. IsPiece (choice_piece l p q o) r) }
+{
     if yes.width().max(other.width()) != 1 {
         return Ok(whole_number(whole));
     }
@@ -235,12 +338,10 @@ fn counted_choice(
     Ok(counted_flag(expr, is_sound, whole))
 }
 
-pub fn choose_expr(
-    alloc: Global,
-    cond: FExpr,
-    yes: FExpr,
-    other: FExpr,
-) -> Result<FExpr, NoMemory> {
+pub fn choose_expr(alloc: Global, cond: FExpr, yes: FExpr, other: FExpr) -> Result<FExpr, NoMemory>
+    ensures { IfOk result (λ e. Makes e (Choose (expr_of cond) (expr_of yes) (expr_of other))
+        (record { width = max (kept_of yes).width (kept_of other).width; right = is_sized cond && (is_sized yes && is_sized other) })) }
+{
     let width = width_of(&yes).max(width_of(&other));
     let cond = boxed(alloc, cond)?;
     let yes = boxed(alloc, yes)?;
@@ -263,7 +364,9 @@ pub struct Parts {
 }
 
 impl Parts {
-    pub fn new(alloc: Global) -> Parts {
+    pub fn new(alloc: Global) -> Parts
+        ensures { AreRead [] result }
+    {
         Parts {
             items: Vec::new(alloc),
             width: 0,
@@ -272,7 +375,9 @@ impl Parts {
         }
     }
 
-    pub fn add(&mut self, part: Resolved) -> Result<(), NoMemory> {
+    pub fn add(&mut self, part: Resolved) -> Result<(), NoMemory>
+        ensures { (ts : List Term) (t : Term) → AreRead ts self.old → IsRead t part → IfOk result (λ _. AreRead (ts ++ t ∷ []) self.new) }
+    {
         self.width = self.width.saturating_add(u64::from(part.width()));
         self.is_sound = self.is_sound && part.is_sound;
         self.is_constant = self.is_constant && part.is_constant;
@@ -281,20 +386,23 @@ impl Parts {
 }
 
 /// A width of more than 64 bits breaks a rule.
-fn joined_width(width: u64, is_sound: bool, faults: &mut Faults) -> Result<Option<u8>, NoMemory> {
+fn joined_width(width: u64, is_sound: bool, faults: &mut Faults) -> Result<Option<u8>, NoMemory>
+    ensures { IfOk result (λ w. (w ≡ within_word is_sound width) × (faults.new ≡ all_noted faults.old (breaks_if (is_sound && nat_lt 64 width) 308 []))) }
+{
     if !is_sound {
         return Ok(None);
     }
-    match u8::try_from(width) {
-        Ok(width) if width <= MAX_WIDTH => Ok(Some(width)),
-        _ => {
-            faults.note(Rule::Width, "")?;
-            Ok(None)
-        }
+    if width > u64::from(MAX_WIDTH) {
+        faults.note(Rule::Width, "")?;
+        return Ok(None);
     }
+    Ok(u8::try_from(width).ok())
 }
 
-pub fn join(parts: Parts, faults: &mut Faults) -> Result<Resolved, NoMemory> {
+pub fn join(parts: Parts, faults: &mut Faults) -> Result<Resolved, NoMemory>
+    ensures { (t : Term) (ts : List Term) → AreRead (t ∷ ts) parts
+        → IfOk result (λ r. IsRead (join_term (t ∷ ts)) r × (r.count ≡ None) × (faults.new ≡ all_noted faults.old (join_notes (t ∷ ts)))) }
+{
     let width = joined_width(parts.width, parts.is_sound, faults)?;
     Ok(Resolved {
         expr: FExpr::Join {
@@ -308,7 +416,10 @@ pub fn join(parts: Parts, faults: &mut Faults) -> Result<Resolved, NoMemory> {
 }
 
 /// The count of a replication, which is at least 1.
-fn repetition(count: &Resolved, faults: &mut Faults) -> Result<Option<u64>, NoMemory> {
+fn repetition(count: &Resolved, faults: &mut Faults) -> Result<Option<u64>, NoMemory>
+    ensures { (t : Term) → IsRead (as_constant t) count.now
+        → IfOk result (λ n. (n ≡ cond (is_sound_term (as_count t)) (Some (value_of t.expr)) None) × (faults.new ≡ all_noted faults.old (count_notes t))) }
+{
     if !count.is_sound {
         return Ok(None);
     }
@@ -321,13 +432,16 @@ fn repetition(count: &Resolved, faults: &mut Faults) -> Result<Option<u64>, NoMe
 }
 
 /// A replication. The count is settled as a constant.
-pub fn repeat(count: Resolved, parts: Parts, faults: &mut Faults) -> Result<Resolved, NoMemory> {
+pub fn repeat(count: Resolved, parts: Parts, faults: &mut Faults) -> Result<Resolved, NoMemory>
+    ensures { (k t : Term) (ts : List Term) → IsRead (as_constant k) count → AreRead (t ∷ ts) parts
+        → IfOk result (λ r. IsRead (repeat_term k (t ∷ ts)) r × (r.count ≡ None) × (faults.new ≡ all_noted faults.old (count_notes k ++ repeat_notes k (t ∷ ts)))) }
+{
     let times = repetition(&count, faults)?;
     let total = times.unwrap_or(0).saturating_mul(parts.width);
     let width = joined_width(total, parts.is_sound && times.is_some(), faults)?;
     Ok(Resolved {
         expr: FExpr::Repeat {
-            count: u8::try_from(times.unwrap_or(0)).unwrap_or(0),
+            count: kept_count(times),
             parts: List::from_vec(parts.items),
             width: width.unwrap_or(1),
         },
@@ -335,4 +449,11 @@ pub fn repeat(count: Resolved, parts: Parts, faults: &mut Faults) -> Result<Reso
         is_constant: parts.is_constant,
         count: None,
     })
+}
+
+/// The count of a replication of at most 64 bits.
+fn kept_count(times: Option<u64>) -> u8
+    ensures { unwrap_or times 0 < 256 → result ≡ unwrap_or times 0 }
+{
+    u8::try_from(times.unwrap_or(0)).unwrap_or(0)
 }

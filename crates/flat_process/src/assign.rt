@@ -10,7 +10,7 @@ use flat_names::expr::resolve;
 use flat_names::fault::{Faults, Order, Rule};
 use flat_names::resolved::Resolved;
 use flat_names::scope::{Look, Names};
-use flat_names::target::{
+use flat_targets::target::{
     Assigned, Fixed, expr_target, first_index, fixed_target, is_target, nowhere, whole_target,
 };
 use std::alloc::Global;

@@ -11,7 +11,7 @@ use flat_names::fault::{Faults, Rule};
 use flat_names::resolved::Parts;
 use flat_names::scope::{Look, Memory};
 use flat_names::select::is_index;
-use flat_names::target::{Aim, first_text, process_target};
+use flat_targets::target::{Aim, first_text, process_target};
 use indexmap::IndexSet;
 use verilog_ast::{CaseItem, Expr, Stmt, Target};
 

@@ -8,7 +8,7 @@ use flat_names::design::{Design, Reset};
 use flat_names::expr::resolve;
 use flat_names::fault::{Faults, Order};
 use flat_names::scope::{Look, Meaning};
-use flat_names::target::{Assigned, first_index, fixed_target};
+use flat_targets::target::{Assigned, first_index, fixed_target};
 use verilog_ast::{Expr, Stmt, Target};
 
 /// A value that a reset gives to bits of a register.

@@ -10,7 +10,7 @@ use flat_names::design::Design;
 use flat_names::expr::resolve;
 use flat_names::fault::{Faults, Order, Rule};
 use flat_names::scope::{Look, Meaning, Names};
-use flat_names::target::{Assigned, first_text, fixed_target};
+use flat_targets::target::{Assigned, first_text, fixed_target};
 use std::alloc::Global;
 use verilog_ast::{Decl, Expr, Stmt, Target};
 

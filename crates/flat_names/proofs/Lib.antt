@@ -1,0 +1,15 @@
+pub mod Options
+pub mod Notes
+pub mod Wholes
+pub mod Terms
+pub mod Fit
+pub mod Counted
+pub mod Made
+pub mod Joined
+pub mod Repeats
+pub mod Arms
+pub mod Looked
+pub mod Trees
+pub mod Named
+pub mod Written
+pub mod Selected

@@ -1,0 +1,4 @@
+pub mod Noting
+pub mod Looks
+pub mod Pieces
+pub mod Selects

@@ -1,0 +1,118 @@
+-- Target concatenations: parts added one by one, and what they make.
+use Rattle.std.proofs.Common.{◌≡◌, ℕ, ◌+◌, ◌-◌, ◌^◌, min, Bool, true, false, cond, not, ◌&&◌, nat_lt, List, [], ◌∷◌, ◌++◌, map, Option, Some, None, is_some, refl, sym, ap, ap₂, subst, ◌∙◌, arith}
+use Rattle.std.specs.Option.{option_map_or}
+use Rattle.std.proofs.lemmas.List.{map-append}
+use Rattle.flat_meaning.specs.Flat as m
+use Rattle.flat_meaning.proofs.Words.{by_lt}
+use Rattle.flat_form.specs.declared.flat.FTarget.{FTarget}
+use Rattle.flat_form.specs.declared.flat.FTarget.TheVariants as f
+use Rattle.flat_form.specs.View.{target_of, targets_of}
+use Rattle.flat_form.proofs.Folds.{target_of-Join}
+use Rattle.flat_unfolding.specs.Constants.{both}
+use Rattle.flat_unfolding.specs.Targets.{Aim, total, group_of}
+use Rattle.flat_targets.specs.declared.target.Fixed.{Fixed}
+use Rattle.flat_targets.specs.declared.target.FixedParts.{FixedParts}
+use Rattle.flat_targets.specs.Aims.{all_true, is_target_sized, IsAim, AreAims}
+use Rattle.flat_names.proofs.Options.{none-some, some-same}
+use Rattle.flat_names.proofs.Joined.{held-most}
+use Rattle.flat_targets.proofs.Aimed.{sized-Join}
+
+-- ---- one part more
+
+abbrev sum_both : Option ℕ → Option ℕ → Option ℕ
+sum_both x y = both (λ m n. m + n) x y
+
+both-assoc : (x y z : Option ℕ) → sum_both x (sum_both y z) ≡ sum_both (sum_both x y) z
+both-assoc None y z = refl
+both-assoc (Some a) None z = refl
+both-assoc (Some a) (Some b) None = refl
+both-assoc (Some a) (Some b) (Some c) = ap Some (omega arith)
+
+both-zero : (x : Option ℕ) → sum_both x (Some 0) ≡ sum_both (Some 0) x
+both-zero None = refl
+both-zero (Some n) = ap Some (omega arith)
+
+some-both : (x y : Option ℕ) → is_some (sum_both x y) ≡ (is_some x && is_some y)
+some-both None y = refl
+some-both (Some a) None = refl
+some-both (Some a) (Some b) = refl
+
+total-more : (bs : List Aim) (a : Aim) → total (bs ++ a ∷ []) ≡ sum_both (total bs) a.bits
+total-more [] a = both-zero a.bits
+total-more (b ∷ bs) a = ap (sum_both b.bits) (total-more bs a) ∙ both-assoc b.bits (total bs) a.bits
+
+record IsSum (x y : Option ℕ) (n : ℕ) : Type 0 where
+  left : ℕ
+  right : ℕ
+  left_is : x ≡ Some left
+  right_is : y ≡ Some right
+  sum : left + right ≡ n
+
+is-sum : (x y : Option ℕ) (n : ℕ) → sum_both x y ≡ Some n → IsSum x y n
+is-sum None y n e = none-some n e
+is-sum (Some a) None n e = none-some n e
+is-sum (Some a) (Some b) n e = record { left = a; right = b; left_is = refl; right_is = refl; sum = some-same (a + b) n e }
+
+true-more : (bs : List Bool) (b : Bool) → all_true (bs ++ b ∷ []) ≡ (all_true bs && b)
+true-more [] true = refl
+true-more [] false = refl
+true-more (true ∷ bs) b = true-more bs b
+true-more (false ∷ bs) b = refl
+
+width-more : (w v x j k n : ℕ) → v ≡ min (2 ^ 64 - 1) j → x ≡ k → j + k ≡ n → w ≡ min (2 ^ 64 - 1) (v + x) → w ≡ min (2 ^ 64 - 1) n
+width-more w v x j k n a b c d = omega arith
+
+pub no-aims : (p : FixedParts) → p.items.items ≡ [] → p.width ≡ 0 → p.is_sound ≡ true → AreAims [] p
+no-aims p items width sound = record {
+  sound = sound;
+  width = λ n e. let z = some-same 0 n e in omega arith;
+  targets = ap (map target_of) items;
+  sized = ap (λ xs. all_true (map is_target_sized xs)) items;
+}
+
+pub more-aims : (bs : List Aim) (a : Aim) (p q : FixedParts) (r : Fixed) → AreAims bs p → IsAim a r → q.items.items ≡ p.items.items ++ r.target ∷ []
+    → q.width ≡ min (2 ^ 64 - 1) (p.width + r.width) → q.is_sound ≡ (p.is_sound && r.is_sound) → AreAims (bs ++ a ∷ []) q
+more-aims bs a p q r h i items width sound = record {
+  sound = sound ∙ ap₂ (λ x y. x && y) h.sound i.sound ∙ sym (ap is_some (total-more bs a) ∙ some-both (total bs) a.bits);
+  width = λ n e. let s = is-sum (total bs) a.bits n (sym (total-more bs a) ∙ e) in
+      width-more q.width p.width r.width s.left s.right n (h.width s.left s.left_is) (i.width s.right s.right_is) s.sum width;
+  targets = ap (map target_of) items ∙ map-append target_of p.items.items (r.target ∷ []) ∙ ap₂ (λ xs x. xs ++ x ∷ []) h.targets i.target ∙ sym (map-append (λ (b : Aim). b.target) bs (a ∷ []));
+  sized = ap (λ xs. all_true (map is_target_sized xs)) items ∙ ap all_true (map-append is_target_sized p.items.items (r.target ∷ [])) ∙ true-more (map is_target_sized p.items.items) (is_target_sized r.target)
+      ∙ ap₂ (λ x y. x && y) h.sized i.sized;
+}
+
+-- ---- what parts make
+
+abbrev is_wide : List Aim → Bool
+is_wide bs = option_map_or (nat_lt 64) (total bs) false
+
+pub wide-is : (bs : List Aim) (p : FixedParts) → AreAims bs p → (p.is_sound && nat_lt 64 p.width) ≡ option_map_or (nat_lt 64) (total bs) false
+wide-is bs p h = go (total bs) refl
+  where
+    go : (o : Option ℕ) → total bs ≡ o → (p.is_sound && nat_lt 64 p.width) ≡ option_map_or (nat_lt 64) o false
+    go None e = ap (λ b. b && nat_lt 64 p.width) (h.sound ∙ ap is_some e)
+    go (Some n) e = ap₂ (λ b w. b && nat_lt 64 w) (h.sound ∙ ap is_some e) (h.width n e) ∙ held-most n
+
+pub is-group : (bs : List Aim) (p : FixedParts) (w : Bool) → AreAims bs p → w ≡ option_map_or (nat_lt 64) (total bs) false
+    → IsAim (group_of bs (total bs)) (record { target = f.Join p.items.items; width = p.width; is_sound = p.is_sound && not w })
+is-group bs p w h e = record {
+  sound = ap₂ (λ s v. s && not v) h.sound e ∙ fits (is_wide bs) (total bs);
+  width = λ n d. narrow n (total bs) refl d;
+  target = target_of-Join p.items.items ∙ ap (λ xs. m.Group (targets_of xs)) h.targets;
+  sized = sized-Join p.items.items ∙ h.sized;
+}
+  where
+    fits : (v : Bool) (o : Option ℕ) → (is_some o && not v) ≡ is_some (cond v None o)
+    fits true None = refl
+    fits true (Some n) = refl
+    fits false None = refl
+    fits false (Some n) = refl
+
+    narrow : (n : ℕ) (o : Option ℕ) → total bs ≡ o → cond (option_map_or (nat_lt 64) o false) None o ≡ Some n → p.width ≡ n
+    narrow n None e d = none-some n d
+    narrow n (Some k) e d = by_lt (λ b. cond b None (Some k) ≡ Some n → p.width ≡ n) 64 k (λ l d. none-some n d) (λ l d. let s = some-same k n d in let i = h.width k e in omega arith) d
+
+pub is-group-of : (bs : List Aim) (p : FixedParts) (w s : Bool) (xs : List FTarget) → AreAims bs p → w ≡ option_map_or (nat_lt 64) (total bs) false → s ≡ (p.is_sound && not w) → xs ≡ p.items.items
+    → IsAim (group_of bs (total bs)) (record { target = f.Join xs; width = p.width; is_sound = s })
+is-group-of bs p w s xs h e d c = subst (λ xs. IsAim (group_of bs (total bs)) (record { target = f.Join xs; width = p.width; is_sound = s })) (sym c)
+    (subst (λ s. IsAim (group_of bs (total bs)) (record { target = f.Join p.items.items; width = p.width; is_sound = s })) (sym d) (is-group bs p w h e))

@@ -1,0 +1,4 @@
+//! Targets of assignments with their names resolved.
+#![tactic(auto)]
+
+pub mod target;
