@@ -48,7 +48,10 @@ pub fn statement(
     stmt: &Stmt,
     mode: Mode,
     faults: &mut Faults,
-) -> Result<FStmt, NoMemory> {
+) -> Result<FStmt, NoMemory>
+    ensures { (l : n.Look) → Shows look.now l → IsFit l → IsStmtFormed (stmt_tree_of stmt.now)
+        → IfOk result (λ r. IsDone (done l (kind_of mode) (stmt_tree_of stmt.now)) r × (faults.new ≡ all_noted faults.old (done l (kind_of mode) (stmt_tree_of stmt.now)).broken)) }
+{
     match stmt {
         Stmt::Null => Ok(FStmt::Null),
         Stmt::Set {
@@ -95,7 +98,11 @@ fn block(
     stmts: &[Stmt],
     mode: Mode,
     faults: &mut Faults,
-) -> Result<List<FStmt>, NoMemory> {
+) -> Result<List<FStmt>, NoMemory>
+    ensures { (l : n.Look) → Shows look.now l → IsFit l → AreRowsFormed (stmt_trees_of (map stmt_tree_of stmts.now))
+        → IfOk result (λ rs. AreDone (done_all l (kind_of mode) (stmt_trees_of (map stmt_tree_of stmts.now))) rs
+            × (faults.new ≡ all_noted faults.old (done_all l (kind_of mode) (stmt_trees_of (map stmt_tree_of stmts.now))).broken)) }
+{
     let mut all = Vec::new(look.alloc);
     for stmt in stmts {
         push(&mut all, statement(look, stmt, mode, faults)?)?;
@@ -171,7 +178,11 @@ fn case_items(
     items: &[CaseItem],
     mode: Mode,
     faults: &mut Faults,
-) -> Result<Cases, NoMemory> {
+) -> Result<Cases, NoMemory>
+    ensures { (l : n.Look) → Shows look.now l → IsFit l → AreArmsFormed (arms_of (map arm_tree_of items.now))
+        → IfOk result (λ c. AreArms (arms l (kind_of mode) (arms_of (map arm_tree_of items.now))) c.items.items c.is_sound c.is_constant
+            × (faults.new ≡ all_noted faults.old (arms l (kind_of mode) (arms_of (map arm_tree_of items.now))).broken)) }
+{
     let mut cases = Cases {
         items: Vec::new(look.alloc),
         is_sound: true,
@@ -242,7 +253,11 @@ fn assignment(
     value: &Expr,
     mode: Mode,
     faults: &mut Faults,
-) -> Result<FStmt, NoMemory> {
+) -> Result<FStmt, NoMemory>
+    ensures { (l : n.Look) → Shows look.now l → IsFit l → IsTargetFormed (target_tree_of target.now) → IsFormed (tree_of value.now)
+        → IfOk result (λ r. IsDone (done l (kind_of mode) (set_tree is_blocking (target_tree_of target.now) (tree_of value.now))) r
+            × (faults.new ≡ all_noted faults.old (done l (kind_of mode) (set_tree is_blocking (target_tree_of target.now) (tree_of value.now))).broken)) }
+{
     let aim = process_target(look, target, faults)?;
     let value = resolve(look, value, faults)?;
     if is_stray(mode, is_blocking) {
