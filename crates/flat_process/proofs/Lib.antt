@@ -5,3 +5,8 @@ pub mod Loops
 pub mod Trees
 pub mod Forms
 pub mod Lefts
+pub mod Ended
+pub mod Wires
+pub mod Started
+pub mod Paths
+pub mod Firsts

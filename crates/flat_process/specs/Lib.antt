@@ -1,1 +1,5 @@
 pub mod Statements
+pub mod Assigns
+pub mod Starts
+pub mod Latches
+pub mod Resets
