@@ -11,3 +11,16 @@ pub mod Shown
 pub mod Judged
 pub mod Declares
 pub mod Added
+pub mod Begun
+pub mod Entered
+pub mod Fits
+pub mod Joints
+pub mod Libraries
+pub mod Links
+pub mod OpenInputs
+pub mod Overrides
+pub mod Pins
+pub mod Resets
+pub mod Sides
+pub mod Stacks
+pub mod Visits
