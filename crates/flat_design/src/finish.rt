@@ -1,7 +1,9 @@
 //! The end of the work: which signals are registers, and their start values.
-use cdc_base::{List, NoMemory};
-use flat_drivers::registers::{Starts, make_register, registers_of};
-use flat_form::flat::Flat;
+use cdc_base::{List, NoMemory, SigKind, Signal};
+use flat_form::bits::low_bits;
+use flat_form::flat::{Flat, FlatClocked};
+use flat_form::masks::Masks;
+use flat_form::uses::add_may_assign;
 use flat_names::design::{Design, Entry};
 use std::alloc::Global;
 
@@ -12,7 +14,7 @@ pub fn finished(alloc: Global, design: Design) -> Result<Flat, NoMemory> {
     for sig in registers.signals() {
         let place = usize::try_from(*sig).unwrap_or(usize::MAX);
         if let (Some(signal), Some(entry)) = (signals.get_mut(place), design.entries.get(place)) {
-            make_register(signal, starts_of(entry));
+            make_register(signal, entry);
         }
     }
     Ok(Flat {
@@ -24,10 +26,26 @@ pub fn finished(alloc: Global, design: Design) -> Result<Flat, NoMemory> {
     })
 }
 
-fn starts_of(entry: &Entry) -> Starts {
-    Starts {
-        start: entry.start,
-        reset_known: entry.reset_known,
-        reset_start: entry.reset_start,
+/// The signals that clocked processes assign.
+fn registers_of(
+    alloc: Global,
+    signals: &[Signal],
+    clocked: &[FlatClocked],
+) -> Result<Masks, NoMemory> {
+    let mut registers = Masks::new(alloc);
+    for process in clocked {
+        add_may_assign(signals, &process.body, &mut registers)?;
     }
+    Ok(registers)
+}
+
+/// A register starts with the value of its declaration or of `initial`, over which that of a reset wins.
+fn make_register(signal: &mut Signal, entry: &Entry) {
+    let (known, start) = match entry.start {
+        Some(start) => (low_bits(entry.width), start),
+        None => (0, 0),
+    };
+    signal.kind = SigKind::Register;
+    signal.known = known | entry.reset_known;
+    signal.start = (start & !entry.reset_known) | entry.reset_start;
 }

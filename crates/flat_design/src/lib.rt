@@ -5,14 +5,15 @@ ghost use Rattle.std.specs.Prelude.{IfErr};
 ghost use Rattle.refusals.specs.Numbers.{HasNumberIn, unfolding_numbers};
 
 mod declare;
+mod drivers;
 mod finish;
 mod instance;
 mod parameter;
 mod visit;
 
 use cdc_base::{Name, ResetPin, Stop};
+use drivers::try_drivers;
 use finish::finished;
-use flat_drivers::drivers::try_drivers;
 pub use flat_form::{FCaseItem, FExpr, FStmt, FTarget, Flat, FlatAssign, FlatClocked, FlatComb};
 use flat_names::fault::{Rule, refused};
 use std::alloc::Global;
@@ -39,13 +40,6 @@ pub fn flatten(
     };
     let mut visit = Visit::new(&library)?;
     visit_top(&library, number, resets, &mut visit)?;
-    let design = visit.design;
-    try_drivers(
-        alloc,
-        design.signals.as_slice(),
-        design.assigns.as_slice(),
-        design.combs.as_slice(),
-        design.clocked.as_slice(),
-    )?;
-    Ok(finished(alloc, design)?)
+    try_drivers(alloc, &visit.design)?;
+    Ok(finished(alloc, visit.design)?)
 }

@@ -1,28 +1,6 @@
 //! The visit of modules, each instance in its place.
-ghost use Rattle.std.specs.Prelude.{◌≡◌, ◌==◌, ◌<◌, ◌^◌, ◌++◌, ◌∷◌, ℕ, false, cond, List, [], map, filter_map, length, string_bytes, codes, All, Some, is_some, option_copied, option_and_then, slice_get, slice_set, IfOk, IfErr};
-ghost use Rattle.std.specs.List.{list_any, AllZip};
-ghost use Rattle.std.specs.Cmp.Lexicographic.{pointwise};
+ghost use Rattle.std.specs.Prelude.{IfErr};
 ghost use Rattle.refusals.specs.Numbers.{HasNumberIn, unfolding_numbers};
-ghost use Rattle.cdc_base.specs.declared.signal.ResetPin as pin;
-ghost use Rattle.verilog_ast.specs.declared.Module as code;
-ghost use Rattle.verilog_reading.specs.SourceTree.{ItemTree, ModuleTree, PortTree, decl_of, body_of, item_of as item_tree_of, port_of, conns_of, module_of};
-ghost use Rattle.flat_unfolding.specs.Outcome.{Text, then_, each};
-ghost use Rattle.flat_unfolding.specs.Names as meanings;
-ghost use Rattle.flat_unfolding.specs.Names.{printed_part};
-ghost use Rattle.flat_unfolding.specs.Parameters as law_parameters;
-ghost use Rattle.flat_unfolding.specs.Declarations as law_declarations;
-ghost use Rattle.flat_unfolding.specs.Declarations.{header_of};
-ghost use Rattle.flat_unfolding.specs.Instances.{Link, connected};
-ghost use Rattle.flat_unfolding.specs.Design as grown;
-ghost use Rattle.flat_unfolding.specs.Design.{Stage, look_of, no_design, change_entry};
-ghost use Rattle.flat_unfolding.specs.Formed.{IsFormedIf, IsPortFormed, IsBodyFormed, AreConnsFormed};
-ghost use Rattle.flat_unfolding.specs.Targets.{is_input as is_inward};
-ghost use Rattle.flat_unfolding.specs.Unfolding as law;
-ghost use Rattle.flat_unfolding.specs.Unfolding.{declared_value, header_values, top_ports, top_port, top_input};
-ghost use Rattle.flat_names.specs.Looks.{IsFit};
-ghost use Rattle.flat_names.specs.Designs.{ShowsNames, ShowsDesign, ShowsStage, Meets, Ends};
-ghost use Rattle.flat_design.specs.Declaring.{ShowsOverrides, AreFitOverrides, IsFitStage};
-ghost use Rattle.flat_design.specs.Visiting.{IsWhole, ShowsPorts, IsLinkOf, IsNumber, IsLibrary, Lists, Frame, rest_of, part_in, part_of, item_before, IsVisiting, AreMarked, next_of, Goes, IsGrown, Steps, Begins, Enters, instance_tree, Finds, AreEnds, pin_in, ShowsPins, mark_at, prefix_of, is_declaration as is_declaration_of, declares as declares_of, IsPlain, IsFitDesign, AreFitNames};
 
 use crate::declare::add_declarations;
 use crate::instance::{Connection, Ports, add_connections, connections_of, overrides_of, ports_of};
@@ -38,7 +16,7 @@ use flat_process::assign::{add_assign, add_gate, add_wire_value};
 use flat_process::start::{add_declared_start, add_initial};
 use indexmap::IndexMap;
 use std::alloc::Global;
-use verilog_ast::{Conns, Decl, DeclKind, Item, ItemBody, Module, Port, Source};
+use verilog_ast::{Conns, Decl, DeclKind, Item, ItemBody, Module, Source};
 
 /// The source with its modules by name.
 #[derive(Drop)]
@@ -51,7 +29,6 @@ pub struct Library<'a> {
 impl<'a> Library<'a> {
     /// Two modules of one name are refused.
     pub fn new(alloc: Global, source: &'a Source) -> Result<Library<'a>, Stop>
-        ensures exact { Lists source.entry.now.modules result }
         ensures numbered { IfErr result (HasNumberIn unfolding_numbers) }
     {
         let modules = source.modules.as_slice();
@@ -77,15 +54,11 @@ impl<'a> Library<'a> {
     }
 
     /// The number of the module with this name.
-    pub fn number(&self, name: &Name) -> Option<usize>
-        ensures { IsLibrary self.now.modules.now self.now.by_name → IsNumber self.now.modules.now name.now result }
-    {
+    pub fn number(&self, name: &Name) -> Option<usize> {
         self.by_name.get(name).copied()
     }
 
-    fn item(&self, module: usize, item: usize) -> Option<&Item>
-        ensures { option_copied result ≡ option_and_then (λ (m : code.Module). slice_get m.items item) (slice_get self.now.modules.now «module») }
-    {
+    fn item(&self, module: usize, item: usize) -> Option<&Item> {
         self.modules.get(module)?.items.as_slice().get(item)
     }
 }
@@ -108,100 +81,50 @@ pub struct Visit {
 }
 
 impl Visit {
-    pub fn new(library: &Library) -> Result<Visit, NoMemory>
-        ensures { (pins : List pin.ResetPin) → IfOk result (λ v. (v.open.items ≡ []) × (v.is_open.items ≡ map (λ (m : code.Module). false) library.now.modules.now) × ShowsDesign pins v.design no_design) }
-    {
+    pub fn new(library: &Library) -> Result<Visit, NoMemory> {
         let mut is_open = Vec::new(library.alloc);
-        for _module in library.modules {
+        for _ in library.modules {
             push(&mut is_open, false)?;
         }
         Ok(Visit {
             open: Vec::new(library.alloc),
             is_open,
-            design: empty_design(library.alloc),
+            design: Design::new(library.alloc),
         })
     }
 
-    fn is_visited(&self, module: usize) -> bool
-        ensures { result ≡ mark_at self.now.is_open.items «module» }
-    {
+    fn is_visited(&self, module: usize) -> bool {
         self.is_open.get(module).copied().unwrap_or(false)
     }
 
-    fn mark(&mut self, module: usize, is_open: bool)
-        ensures marks { self.new.is_open.items ≡ slice_set self.old.is_open.items «module» is_open }
-        ensures stack { self.new.open ≡ self.old.open }
-        ensures design { self.new.design ≡ self.old.design }
-    {
+    fn mark(&mut self, module: usize, is_open: bool) {
         if let Some(mark) = self.is_open.get_mut(module) {
             *mark = is_open;
         }
     }
 
     /// The printed instance names from the top to the module that is visited, each with its dot.
-    fn prefix(&self, library: &Library) -> Result<String, NoMemory>
-        ensures { IfOk result (λ t. string_bytes t ≡ prefix_of library.now.modules.now self.now.open.items) }
-    {
+    fn prefix(&self, library: &Library) -> Result<String, NoMemory> {
         let mut prefix = String::new(library.alloc);
-        for here in self.open.as_slice() {
-            let item = library.item(here.module, here.next.saturating_sub(1));
-            append_instance(&mut prefix, item)?;
+        for open in self.open.as_slice() {
+            let item = library.item(open.module, open.next.saturating_sub(1));
+            if let Some(ItemBody::Instance { name, .. }) = item.map(|item| &item.body) {
+                append_part(&mut prefix, name.as_str())?;
+                append(&mut prefix, ".")?;
+            }
         }
         Ok(prefix)
     }
 }
 
-/// The printed name of an instance, with its dot.
-fn append_instance(prefix: &mut String, item: Option<&Item>) -> Result<(), NoMemory>
-    ensures { IfOk result (λ _. string_bytes prefix.new ≡ string_bytes prefix.old ++ part_in (option_copied item.entry)) }
-{
-    let Some(item) = item else {
-        return Ok(());
-    };
-    match &item.body {
-        ItemBody::Instance { name, .. } => {
-            append_part(prefix, name.as_str())?;
-            append(prefix, ".")
-        }
-        _ => Ok(()),
-    }
-}
-
-fn empty_design(alloc: Global) -> Design
-    ensures { (pins : List pin.ResetPin) → ShowsDesign pins result no_design }
-{
-    Design {
-        signals: Vec::new(alloc),
-        entries: Vec::new(alloc),
-        assigns: Vec::new(alloc),
-        combs: Vec::new(alloc),
-        clocked: Vec::new(alloc),
-        outputs: Vec::new(alloc),
-    }
-}
-
 /// Whether a module declares anything.
-fn declares(module: &Module) -> bool
-    ensures { result ≡ declares_of (module_of «module».now) }
-{
-    module.ports.len() != 0 || declares_item(module.items.as_slice())
-}
-
-fn declares_item(items: &[Item]) -> bool
-    ensures { result ≡ list_any (λ (i : ItemTree). is_declaration_of i.body) (map item_tree_of items.now) }
-{
-    for item in items {
-        if is_declaration(&item.body) {
-            return true;
-        }
-    }
-    false
-}
-
-fn is_declaration(body: &ItemBody) -> bool
-    ensures { result ≡ is_declaration_of (body_of body.now) }
-{
-    matches!(body, ItemBody::Decl(_))
+fn declares(module: &Module) -> bool {
+    module.ports.len() != 0
+        || module
+            .items
+            .as_slice()
+            .iter()
+            .any(|item| matches!(&item.body, ItemBody::Decl(_)))
 }
 
 /// Visits the top and all that it has.
@@ -211,11 +134,6 @@ pub fn visit_top(
     resets: &[ResetPin],
     visit: &mut Visit,
 ) -> Result<(), Stop>
-    ensures exact { (m : code.Module) → IsLibrary library.now.modules.now library.now.by_name → All IsWhole (map module_of library.now.modules.now) → slice_get library.now.modules.now top ≡ Some m
-        → visit.old.open.items ≡ [] → visit.old.is_open.items ≡ map (λ (q : code.Module). false) library.now.modules.now → ShowsDesign resets.now visit.old.design no_design
-        → length resets.now < 2 ^ 32
-        → Ends (IsGrown resets.now visit.new.design)
-            (law.visit (map module_of library.now.modules.now) (length library.now.modules.now) [] (m.name ∷ []) (module_of m) [] (top_ports resets.now (header_of (module_of m))) no_design) result }
     ensures numbered { IfErr result (HasNumberIn unfolding_numbers) }
 {
     let none = IndexMap::new(library.alloc);
@@ -224,15 +142,6 @@ pub fn visit_top(
         set_top_ports(library.alloc, module, resets, &names, &mut visit.design)?;
     }
     open_module(library, top, names, visit)?;
-    visit_open(library, visit)
-}
-
-/// Visits what is left of the modules that are being visited.
-fn visit_open(library: &Library, visit: &mut Visit) -> Result<(), Stop>
-    ensures exact { (pins : List pin.ResetPin) (frames : List Frame) (d : grown.Design) → IsLibrary library.now.modules.now library.now.by_name → All IsWhole (map module_of library.now.modules.now)
-        → IsVisiting pins library.now.modules.now visit.old.open.items visit.old.is_open.items visit.old.design frames d → Ends (IsGrown pins visit.new.design) (rest_of (map module_of library.now.modules.now) frames d) result }
-    ensures numbered { IfErr result (HasNumberIn unfolding_numbers) }
-{
     // A visit has fewer steps than any number that a machine could count to, so that the last line isn't met.
     for _ in 0..u64::MAX {
         if !step(library, visit)? {
@@ -249,12 +158,6 @@ fn begin(
     overrides: &Overrides,
     visit: &mut Visit,
 ) -> Result<Names, Stop>
-    ensures exact { (pins : List pin.ResetPin) (m : code.Module) (given : law_parameters.Overrides) (d : grown.Design) → slice_get library.now.modules.now «module» ≡ Some m → IsWhole (module_of m)
-        → ShowsDesign pins visit.old.design d → IsFitDesign d → ShowsOverrides overrides.now given → AreFitOverrides given
-        → Begins pins (then_ (law_parameters.parameters given (module_of m) (record { names = []; design = d }))
-            (λ (s : Stage). law_declarations.declarations (prefix_of library.now.modules.now visit.old.open.items) (module_of m) s)) result visit.new.design }
-    ensures stack { visit.new.open ≡ visit.old.open }
-    ensures marks { visit.new.is_open ≡ visit.old.is_open }
     ensures numbered { IfErr result (HasNumberIn unfolding_numbers) }
 {
     let alloc = library.alloc;
@@ -283,18 +186,14 @@ fn open_module(
     names: Names,
     visit: &mut Visit,
 ) -> Result<(), Stop>
-    ensures exact { (pins : List pin.ResetPin) (m : code.Module) (s : Stage) → slice_get library.now.modules.now «module» ≡ Some m → IsWhole (module_of m)
-        → ShowsStage pins names visit.old.design s → IsFitStage s → Enters pins «module» names visit.old (header_values (module_of m) s) result visit.new }
     ensures numbered { IfErr result (HasNumberIn unfolding_numbers) }
 {
     if let Some(found) = library.modules.get(module) {
-        add_header_values(
-            library.alloc,
-            found.place,
-            found.ports.as_slice(),
-            &names,
-            &mut visit.design,
-        )?;
+        for port in found.ports.as_slice() {
+            if let Some(decl) = &port.decl {
+                add_declared_value(library.alloc, found.place, decl, &names, &mut visit.design)?;
+            }
+        }
     }
     visit.mark(module, true);
     let open = Open {
@@ -306,30 +205,8 @@ fn open_module(
     Ok(())
 }
 
-/// The values of the declarations in a header.
-fn add_header_values(
-    alloc: Global,
-    place: Place,
-    header: &[Port],
-    names: &Names,
-    design: &mut Design,
-) -> Result<(), Stop>
-    ensures exact { (pins : List pin.ResetPin) (s : Stage) → ShowsStage pins names.now design.old s → IsFitStage s → All IsPortFormed (map port_of header.now)
-        → Meets pins names.now (each (λ t d. declared_value t place d) s (filter_map (λ (p : PortTree). p.decl) (map port_of header.now))) result design.new }
-    ensures numbered { IfErr result (HasNumberIn unfolding_numbers) }
-{
-    for port in header {
-        if let Some(decl) = &port.decl {
-            add_declared_value(alloc, place, decl, names, design)?;
-        }
-    }
-    Ok(())
-}
-
 /// One item of the innermost module, or its end. Answers whether there was a module left.
 fn step(library: &Library, visit: &mut Visit) -> Result<bool, Stop>
-    ensures exact { (pins : List pin.ResetPin) (frames : List Frame) (d : grown.Design) → IsLibrary library.now.modules.now library.now.by_name → All IsWhole (map module_of library.now.modules.now)
-        → IsVisiting pins library.now.modules.now visit.old.open.items visit.old.is_open.items visit.old.design frames d → Steps pins library.now.modules.now frames d result visit.new }
     ensures numbered { IfErr result (HasNumberIn unfolding_numbers) }
 {
     let Some(mut open) = visit.open.pop() else {
@@ -340,23 +217,6 @@ fn step(library: &Library, visit: &mut Visit) -> Result<bool, Stop>
         return Ok(true);
     };
     open.next = open.next.saturating_add(1);
-    add_next(library, item, open, visit)?;
-    Ok(true)
-}
-
-/// One item of a module that is being visited.
-fn add_next(
-    library: &Library,
-    item: &Item,
-    outer: Open,
-    visit: &mut Visit,
-) -> Result<(), Stop>
-    ensures exact { (pins : List pin.ResetPin) (frames : List Frame) (f : Frame) (d : grown.Design) → IsLibrary library.now.modules.now library.now.by_name → All IsWhole (map module_of library.now.modules.now)
-        → IsVisiting pins library.now.modules.now (visit.old.open.items ++ outer ∷ []) visit.old.is_open.items visit.old.design (f ∷ frames) d
-        → item_before library.now.modules.now outer ≡ Some item.now
-        → Goes pins library.now.modules.now (next_of (map module_of library.now.modules.now) f frames d (item_tree_of item.now)) result visit.new }
-    ensures numbered { IfErr result (HasNumberIn unfolding_numbers) }
-{
     match &item.body {
         ItemBody::Instance {
             module,
@@ -371,20 +231,20 @@ fn add_next(
                 name,
                 ports,
             };
-            add_instance(library, &instance, outer, visit)
+            add_instance(library, &instance, open, visit)?;
         }
         body => {
             add_item(
                 library.alloc,
                 item.place,
                 body,
-                &outer.names,
+                &open.names,
                 &mut visit.design,
             )?;
-            push(&mut visit.open, outer)?;
-            Ok(())
+            push(&mut visit.open, open)?;
         }
     }
+    Ok(true)
 }
 
 /// An instance as the source has it.
@@ -404,11 +264,6 @@ fn add_instance(
     outer: Open,
     visit: &mut Visit,
 ) -> Result<(), Stop>
-    ensures exact { (pins : List pin.ResetPin) (frames : List Frame) (f : Frame) (d : grown.Design) → IsLibrary library.now.modules.now library.now.by_name → All IsWhole (map module_of library.now.modules.now)
-        → IsVisiting pins library.now.modules.now (visit.old.open.items ++ outer ∷ []) visit.old.is_open.items visit.old.design (f ∷ frames) d
-        → part_of library.now.modules.now outer ≡ printed_part instance.now.name.now ++ codes "."
-        → AreConnsFormed (conns_of instance.now.params.now) → AreConnsFormed (conns_of instance.now.ports.now)
-        → Goes pins library.now.modules.now (next_of (map module_of library.now.modules.now) f frames d (instance_tree instance.now)) result visit.new }
     ensures numbered { IfErr result (HasNumberIn unfolding_numbers) }
 {
     let alloc = library.alloc;
@@ -417,7 +272,15 @@ fn add_instance(
         return Ok(());
     };
     let ports = ports_of(alloc, module)?;
-    let (overrides, connections) = ends_of(alloc, instance, module, &ports, &outer.names, &visit.design)?;
+    let word = instance.module.as_str();
+    let mut faults = Faults::new(alloc, Order::Other);
+    let (overrides, connections) = {
+        let look = visit.design.look(alloc, &outer.names);
+        let overrides = overrides_of(&look, module, word, instance.params, &mut faults)?;
+        let connections = connections_of(&look, module, word, &ports, instance.ports, &mut faults)?;
+        (overrides, connections)
+    };
+    faults.raise(instance.place)?;
     let mut outer = outer;
     define(
         alloc,
@@ -430,29 +293,6 @@ fn add_instance(
     enter_module(library, number, names, (&ports, connections), visit)
 }
 
-/// The overrides and connections of an instance, where no rule is broken.
-fn ends_of(
-    alloc: Global,
-    instance: &Instance,
-    module: &Module,
-    ports: &Ports,
-    names: &Names,
-    design: &Design,
-) -> Result<(Overrides, Vec<Connection>), Stop>
-    ensures exact { (pins : List pin.ResetPin) (s : Stage) → ShowsStage pins names.now design.now s → IsFit (look_of s) → ShowsPorts ports.now (module_of «module».now)
-        → instance.now.«module».now ≡ «module».now.name → AreConnsFormed (conns_of instance.now.params.now) → AreConnsFormed (conns_of instance.now.ports.now)
-        → AreEnds pins ports.now s instance.now.place (module_of «module».now) (conns_of instance.now.params.now) (conns_of instance.now.ports.now) result }
-    ensures numbered { IfErr result (HasNumberIn unfolding_numbers) }
-{
-    let word = instance.module.as_str();
-    let mut faults = Faults::new(alloc, Order::Other);
-    let look = design.look(alloc, names);
-    let overrides = overrides_of(&look, module, word, instance.params, &mut faults)?;
-    let connections = connections_of(&look, module, word, ports, instance.ports, &mut faults)?;
-    faults.raise(instance.place)?;
-    Ok((overrides, connections))
-}
-
 /// Adds the connections of an instance whose module has begun, and goes into it.
 fn enter_module(
     library: &Library,
@@ -461,9 +301,6 @@ fn enter_module(
     ends: (&Ports, Vec<Connection>),
     visit: &mut Visit,
 ) -> Result<(), Stop>
-    ensures exact { (pins : List pin.ResetPin) (m : code.Module) (s : Stage) (links : List Link) → slice_get library.now.modules.now number ≡ Some m → IsWhole (module_of m)
-        → ShowsStage pins names visit.old.design s → IsFitStage s → AllZip (IsLinkOf pins ends.entry.0.now) ends.entry.1.items links
-        → Enters pins number names visit.old (header_values (module_of m) (connected links s)) result visit.new }
     ensures numbered { IfErr result (HasNumberIn unfolding_numbers) }
 {
     let (ports, connections) = ends;
@@ -478,8 +315,6 @@ fn instance_module(
     names: &Names,
     visit: &Visit,
 ) -> Result<usize, Stop>
-    ensures exact { (visiting : List Text) (s : Stage) → IsLibrary library.now.modules.now library.now.by_name → AreMarked library.now.modules.now visit.now.is_open.items visiting → ShowsNames names.now s.names
-        → Finds library.now.modules.now visiting s instance.now.place instance.now.«module».now instance.now.name.now result }
     ensures numbered { IfErr result (HasNumberIn unfolding_numbers) }
 {
     let place = Some(instance.place);
@@ -518,8 +353,6 @@ fn add_item(
     names: &Names,
     design: &mut Design,
 ) -> Result<(), Stop>
-    ensures exact { (pins : List pin.ResetPin) (s : Stage) (modules : List ModuleTree) (visiting : List Text) (prefix : Text) (inside : law.Visit) → ShowsStage pins names.now design.old s → IsFit (look_of s)
-        → IsBodyFormed (body_of body.now) → IsPlain (body_of body.now) → Meets pins names.now (law.item_of modules visiting prefix inside s place (body_of body.now)) result design.new }
     ensures numbered { IfErr result (HasNumberIn unfolding_numbers) }
 {
     match body {
@@ -544,8 +377,6 @@ fn add_declared_value(
     names: &Names,
     design: &mut Design,
 ) -> Result<(), Stop>
-    ensures exact { (pins : List pin.ResetPin) (s : Stage) → ShowsStage pins names.now design.old s → IsFit (look_of s) → IsFormedIf (decl_of decl.now).init
-        → Meets pins names.now (declared_value s place (decl_of decl.now)) result design.new }
     ensures numbered { IfErr result (HasNumberIn unfolding_numbers) }
 {
     match &decl.init {
@@ -565,90 +396,47 @@ fn set_top_ports(
     resets: &[ResetPin],
     names: &Names,
     design: &mut Design,
-) -> Result<(), NoMemory>
-    ensures { (s : Stage) → ShowsStage resets.now names.now design.old s → AreFitNames s.names (length s.design.entries) → length resets.now < 2 ^ 32
-        → IfOk result (λ _. ShowsStage resets.now names.now design.new (top_ports resets.now (header_of (module_of «module».now)) s)) }
-{
+) -> Result<(), NoMemory> {
     let pins = pins_by_name(alloc, resets)?;
     for port in module.ports.as_slice() {
-        if let Some(Meaning::Signal(sig)) = names.get(&port.name) {
-            set_top_port(*sig, &pins, design)?;
-        }
+        let Some(Meaning::Signal(sig)) = names.get(&port.name) else {
+            continue;
+        };
+        set_top_port(*sig, &pins, design)?;
     }
     Ok(())
 }
 
-/// The first pin of each name.
-fn pins_by_name(alloc: Global, resets: &[ResetPin]) -> Result<IndexMap<Name, Reset>, NoMemory>
-    ensures { length resets.now < 2 ^ 32 → IfOk result (λ table. ShowsPins table resets.now) }
-{
+fn pins_by_name(alloc: Global, resets: &[ResetPin]) -> Result<IndexMap<Name, Reset>, NoMemory> {
     let mut pins = IndexMap::new(alloc);
     for (number, pin) in resets.iter().enumerate() {
         let reset = Reset {
             pin: u32::try_from(number).unwrap_or(u32::MAX),
             is_high: pin.high,
         };
-        add_pin(alloc, &mut pins, &pin.name, reset)?;
+        if pins.insert(pin.name.copy(alloc)?, reset).is_err() {
+            return Err(NoMemory);
+        }
     }
     Ok(pins)
-}
-
-/// Adds a pin, unless one of that name is there.
-fn add_pin(
-    alloc: Global,
-    pins: &mut IndexMap<Name, Reset>,
-    name: &Name,
-    reset: Reset,
-) -> Result<(), NoMemory>
-    ensures { IfOk result (λ _. (x : Text) → pin_in pins.new x ≡ cond (is_some (pin_in pins.old name.now)) (pin_in pins.old x) (cond (pointwise ◌==◌ name.now x) (Some reset) (pin_in pins.old x))) }
-{
-    if pins.contains_key(name) {
-        return Ok(());
-    }
-    match pins.insert(name.copy(alloc)?, reset) {
-        Ok(_) => Ok(()),
-        Err(_) => Err(NoMemory),
-    }
 }
 
 fn set_top_port(
     sig: u32,
     pins: &IndexMap<Name, Reset>,
     design: &mut Design,
-) -> Result<(), NoMemory>
-    ensures { (resets : List pin.ResetPin) (d : grown.Design) → ShowsPins pins.now resets → ShowsDesign resets design.old d → sig < length d.entries
-        → IfOk result (λ _. ShowsDesign resets design.new (top_port resets d (Some (meanings.a_signal sig)))) }
-{
-    if is_input(design, sig) {
-        set_top_input(design, sig, pins);
+) -> Result<(), NoMemory> {
+    let place = usize::try_from(sig).unwrap_or(usize::MAX);
+    let (Some(entry), Some(signal)) = (design.entries.get_mut(place), design.signals.get_mut(place))
+    else {
+        return Ok(());
+    };
+    if entry.role == Role::Input {
+        signal.kind = SigKind::Input;
+        if entry.width == 1 {
+            entry.reset = pins.get(&signal.name).copied();
+        }
         return Ok(());
     }
     push(&mut design.outputs, sig)
-}
-
-fn is_input(design: &Design, sig: u32) -> bool
-    ensures { (resets : List pin.ResetPin) (d : grown.Design) → ShowsDesign resets design.now d → result ≡ is_inward (meanings.direction_at d.entries sig) }
-{
-    match design.entries.get(usize::try_from(sig).unwrap_or(usize::MAX)) {
-        Some(entry) => entry.role == Role::Input,
-        None => false,
-    }
-}
-
-/// What comes from outside, with the reset that it resolves to.
-fn set_top_input(design: &mut Design, sig: u32, pins: &IndexMap<Name, Reset>)
-    ensures { (resets : List pin.ResetPin) (d : grown.Design) → ShowsPins pins.now resets → ShowsDesign resets design.old d
-        → ShowsDesign resets design.new (record d { entries = change_entry (top_input resets) sig d.entries }) }
-{
-    let place = usize::try_from(sig).unwrap_or(usize::MAX);
-    if let (Some(entry), Some(signal)) =
-        (design.entries.get_mut(place), design.signals.get_mut(place))
-    {
-        signal.kind = SigKind::Input;
-        entry.reset = if entry.width == 1 {
-            pins.get(&signal.name).copied()
-        } else {
-            None
-        };
-    }
 }

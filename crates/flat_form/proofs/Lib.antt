@@ -12,4 +12,3 @@ pub mod MaskSets
 pub mod Depths
 pub mod ExprUses
 pub mod StmtUses
-pub mod Listed

@@ -2,4 +2,3 @@ pub mod Noting
 pub mod Looks
 pub mod Pieces
 pub mod Selects
-pub mod Designs

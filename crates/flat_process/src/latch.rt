@@ -1,19 +1,6 @@
 //! Latches: bits that a process of wires doesn't assign on each of its paths, or reads before it assigns them.
-ghost use Rattle.std.specs.Prelude.{◌≡◌, ℕ, ◌<◌, ◌≤◌, true, false, not, ◌&&◌, ◌||◌, map, length, Some, None, IfOk};
-ghost use Rattle.cell_graph.specs.Tree.{bit_at, any_below};
-ghost use Rattle.flat_meaning.specs.Flat.{no_items};
-ghost use Rattle.flat_meaning.specs.Design.{width_in};
-ghost use Rattle.flat_meaning.specs.Assigned.{surely, surely_all, covers, cover};
-ghost use Rattle.flat_meaning.specs.Deps.{Bits};
-ghost use Rattle.flat_form.specs.View.{expr_of, target_of, targets_of, stmt_of, stmts_of, arm_of, items_of};
-ghost use Rattle.flat_form.specs.Masks.{bits_in, Adds};
-ghost use Rattle.flat_form.specs.Uses.{without, expr_reads};
-ghost use Rattle.flat_unfolding.specs.Reads.{early, early_all};
-ghost use Rattle.flat_process.specs.Statements.{items_in, IsFull, AreFull, AreItemsFull};
-ghost use Rattle.flat_process.specs.Latches.{IsPaths, AreBranches, sure_if, early_if, latch_in, IsWithin};
-
 use cdc_base::{NoMemory, Signal};
-use flat_form::flat::{FCaseItem, FExpr, FStmt, FTarget};
+use flat_form::flat::{FCaseItem, FStmt, FTarget};
 use flat_form::masks::Masks;
 use flat_form::uses::{add_assigned, add_may_assign, add_reads, add_reads_of, add_target_reads};
 use std::alloc::Global;
@@ -27,10 +14,7 @@ struct Paths {
 }
 
 impl Paths {
-    fn new(alloc: Global) -> Paths
-        ensures surely { (s i : ℕ) → bits_in result.surely s i ≡ false }
-        ensures exposed { (s i : ℕ) → bits_in result.exposed s i ≡ false }
-    {
+    fn new(alloc: Global) -> Paths {
         Paths {
             surely: Masks::new(alloc),
             exposed: Masks::new(alloc),
@@ -38,19 +22,13 @@ impl Paths {
     }
 
     /// The paths go on through another statement.
-    fn then(&mut self, next: &Paths) -> Result<(), NoMemory>
-        ensures surely { IfOk result (λ _. Adds self.old.surely self.new.surely (bits_in next.now.surely)) }
-        ensures exposed { IfOk result (λ _. Adds self.old.exposed self.new.exposed (without (bits_in self.old.surely) (bits_in next.now.exposed))) }
-    {
+    fn then(&mut self, next: &Paths) -> Result<(), NoMemory> {
         self.exposed.add_all_but(&next.exposed, &self.surely)?;
         self.surely.add_all(&next.surely)
     }
 
     /// The paths go through another statement in place of this one.
-    fn or(&mut self, alloc: Global, other: &Paths) -> Result<(), NoMemory>
-        ensures surely { IfOk result (λ _. (s i : ℕ) → i < 64 → bits_in self.new.surely s i ≡ (bits_in self.old.surely s i && bits_in other.now.surely s i)) }
-        ensures exposed { IfOk result (λ _. Adds self.old.exposed self.new.exposed (bits_in other.now.exposed)) }
-    {
+    fn or(&mut self, alloc: Global, other: &Paths) -> Result<(), NoMemory> {
         self.exposed.add_all(&other.exposed)?;
         self.surely = self.surely.common(alloc, &other.surely)?;
         Ok(())
@@ -62,28 +40,18 @@ pub fn first_latch(
     alloc: Global,
     signals: &[Signal],
     body: &FStmt,
-) -> Result<Option<u32>, NoMemory>
-    ensures { ((s : ℕ) → width_in signals.now s ≤ 64) → IsFull (stmt_of body.now) → IsWithin (width_in signals.now) (stmt_of body.now)
-        → IfOk result (λ o. o ≡ latch_in (width_in signals.now) (stmt_of body.now) (length signals.now)) }
-{
+) -> Result<Option<u32>, NoMemory> {
     let mut may = Masks::new(alloc);
     add_may_assign(signals, body, &mut may)?;
     let paths = statement_paths(alloc, signals, body)?;
     let mut first = None;
     for sig in may.signals() {
-        if is_latch(&may, &paths, *sig) {
+        let kept = paths.surely.of(*sig) & !paths.exposed.of(*sig);
+        if may.of(*sig) & !kept != 0 {
             first = Some(least(first, *sig));
         }
     }
     Ok(first)
-}
-
-/// Whether a bit of the signal may be assigned and isn't kept from being a latch.
-fn is_latch(may: &Masks, paths: &Paths, sig: u32) -> bool
-    ensures { result ≡ any_below (λ i. bits_in may.now sig i && not (bits_in paths.now.surely sig i && not (bits_in paths.now.exposed sig i))) 64 }
-{
-    let kept = paths.surely.of(sig) & !paths.exposed.of(sig);
-    may.of(sig) & !kept != 0
 }
 
 fn least(first: Option<u32>, sig: u32) -> u32 {
@@ -94,21 +62,25 @@ fn least(first: Option<u32>, sig: u32) -> u32 {
 }
 
 #[cycle(statement_paths)]
-fn statement_paths(alloc: Global, signals: &[Signal], stmt: &FStmt) -> Result<Paths, NoMemory>
-    ensures { IsFull (stmt_of stmt.now) → IfOk result (λ p. IsPaths (surely (width_in signals.now) (stmt_of stmt.now)) (early (width_in signals.now) (stmt_of stmt.now)) p) }
-{
+fn statement_paths(alloc: Global, signals: &[Signal], stmt: &FStmt) -> Result<Paths, NoMemory> {
     match stmt {
         FStmt::Null => Ok(Paths::new(alloc)),
-        FStmt::Set { target, value, .. } => assignment_paths(alloc, signals, target, value),
+        FStmt::Set { target, value, .. } => {
+            let mut paths = Paths::new(alloc);
+            add_reads(signals, value, &mut paths.exposed)?;
+            add_target_reads(signals, target, &mut paths.exposed)?;
+            add_surely(signals, target, &mut paths.surely)?;
+            Ok(paths)
+        }
         FStmt::If { cond, yes, other } => {
-            let yes = statement_paths(alloc, signals, yes)?;
-            match other {
-                Some(other) => {
-                    let other = statement_paths(alloc, signals, other)?;
-                    chosen_paths(alloc, signals, cond, yes, &other)
-                }
-                None => chosen_paths(alloc, signals, cond, yes, &Paths::new(alloc)),
-            }
+            let mut all = statement_paths(alloc, signals, yes)?;
+            let other = match other {
+                Some(other) => statement_paths(alloc, signals, other)?,
+                None => Paths::new(alloc),
+            };
+            all.or(alloc, &other)?;
+            add_reads(signals, cond, &mut all.exposed)?;
+            Ok(all)
         }
         FStmt::Case {
             subject,
@@ -116,57 +88,20 @@ fn statement_paths(alloc: Global, signals: &[Signal], stmt: &FStmt) -> Result<Pa
             default,
         } => {
             let branches = item_paths(alloc, signals, items.as_slice())?;
-            match default {
-                Some(default) => {
-                    let default = statement_paths(alloc, signals, default)?;
-                    let all = either(alloc, branches, default)?;
-                    behind_reads(signals, subject, all)
-                }
-                None => behind_reads(signals, subject, branches.unwrap_or(Paths::new(alloc))),
-            }
+            let default = match default {
+                Some(default) => Some(statement_paths(alloc, signals, default)?),
+                None => None,
+            };
+            let mut all = case_paths(alloc, branches, default)?;
+            add_reads(signals, subject, &mut all.exposed)?;
+            Ok(all)
         }
         FStmt::Block(stmts) => block_paths(alloc, signals, stmts.as_slice()),
     }
 }
 
-fn assignment_paths(
-    alloc: Global,
-    signals: &[Signal],
-    target: &FTarget,
-    value: &FExpr,
-) -> Result<Paths, NoMemory> {
-    let mut paths = Paths::new(alloc);
-    add_reads(signals, value, &mut paths.exposed)?;
-    add_target_reads(signals, target, &mut paths.exposed)?;
-    add_surely(signals, target, &mut paths.surely)?;
-    Ok(paths)
-}
-
-/// The paths through an `if`.
-fn chosen_paths(
-    alloc: Global,
-    signals: &[Signal],
-    cond: &FExpr,
-    yes: Paths,
-    other: &Paths,
-) -> Result<Paths, NoMemory> {
-    let mut all = yes;
-    all.or(alloc, other)?;
-    behind_reads(signals, cond, all)
-}
-
-/// The paths behind an expression that is read first.
-fn behind_reads(signals: &[Signal], expr: &FExpr, paths: Paths) -> Result<Paths, NoMemory> {
-    let mut paths = paths;
-    add_reads(signals, expr, &mut paths.exposed)?;
-    Ok(paths)
-}
-
 #[cycle(statement_paths)]
-fn block_paths(alloc: Global, signals: &[Signal], stmts: &[FStmt]) -> Result<Paths, NoMemory>
-    ensures { AreFull (stmts_of (map stmt_of stmts.now))
-        → IfOk result (λ p. IsPaths (surely_all (width_in signals.now) (stmts_of (map stmt_of stmts.now))) (early_all (width_in signals.now) (stmts_of (map stmt_of stmts.now))) p) }
-{
+fn block_paths(alloc: Global, signals: &[Signal], stmts: &[FStmt]) -> Result<Paths, NoMemory> {
     let mut all = Paths::new(alloc);
     for stmt in stmts {
         let next = statement_paths(alloc, signals, stmt)?;
@@ -181,9 +116,7 @@ fn item_paths(
     alloc: Global,
     signals: &[Signal],
     items: &[FCaseItem],
-) -> Result<Option<Paths>, NoMemory>
-    ensures { AreItemsFull (items_in items.now) → IfOk result (λ o. AreBranches (width_in signals.now) (items_in items.now) o) }
-{
+) -> Result<Option<Paths>, NoMemory> {
     let mut all = None;
     for item in items {
         let mut next = statement_paths(alloc, signals, &item.body)?;
@@ -193,10 +126,19 @@ fn item_paths(
     Ok(all)
 }
 
-fn either(alloc: Global, before: Option<Paths>, next: Paths) -> Result<Paths, NoMemory>
-    ensures surely { IfOk result (λ p. (d : Bits) (s i : ℕ) → i < 64 → (bits_in p.surely s i || d s i) ≡ (sure_if before d s i && (bits_in next.surely s i || d s i))) }
-    ensures exposed { IfOk result (λ p. (d : Bits) (s i : ℕ) → i < 64 → (bits_in p.exposed s i && not (d s i)) ≡ (early_if before d s i || (bits_in next.exposed s i && not (d s i)))) }
-{
+/// The paths through a `case`. Without a `default` its items take every value.
+fn case_paths(
+    alloc: Global,
+    branches: Option<Paths>,
+    default: Option<Paths>,
+) -> Result<Paths, NoMemory> {
+    match default {
+        Some(default) => either(alloc, branches, default),
+        None => Ok(branches.unwrap_or(Paths::new(alloc))),
+    }
+}
+
+fn either(alloc: Global, before: Option<Paths>, next: Paths) -> Result<Paths, NoMemory> {
     match before {
         None => Ok(next),
         Some(mut all) => {
@@ -208,9 +150,7 @@ fn either(alloc: Global, before: Option<Paths>, next: Paths) -> Result<Paths, No
 
 /// Adds the bits that an assignment to the target assigns surely. A variable index assigns none so.
 #[cycle(add_surely)]
-fn add_surely(signals: &[Signal], target: &FTarget, surely: &mut Masks) -> Result<(), NoMemory>
-    ensures { IfOk result (λ _. Adds surely.old surely.new (covers (width_in signals.now) (target_of target.now))) }
-{
+fn add_surely(signals: &[Signal], target: &FTarget, surely: &mut Masks) -> Result<(), NoMemory> {
     match target {
         FTarget::Whole { .. } | FTarget::Part { .. } => add_assigned(signals, target, surely),
         FTarget::At { .. } => Ok(()),
@@ -223,9 +163,7 @@ fn add_surely_of(
     signals: &[Signal],
     targets: &[FTarget],
     surely: &mut Masks,
-) -> Result<(), NoMemory>
-    ensures { IfOk result (λ _. Adds surely.old surely.new (cover (width_in signals.now) (targets_of (map target_of targets.now)))) }
-{
+) -> Result<(), NoMemory> {
     for target in targets {
         add_surely(signals, target, surely)?;
     }

@@ -1,19 +1,4 @@
 //! Resets of clocked processes: the form `if (reset) constants else rest`.
-ghost use Rattle.std.specs.Prelude.{◌≡◌, ℕ, ◌+◌, ◌-◌, ◌*◌, ◌^◌, ◌/◌, ◌%◌, ◌<◌, ◌≤◌, ◌==◌, ◌++◌, ◌∷◌, [], Bool, true, false, not, List, map, Option, Some, None, is_some, option_map, IfOk};
-ghost use Rattle.cdc_base.specs.declared.signal.ResetPin.{ResetPin};
-ghost use Rattle.verilog_reading.specs.ExprTree.{tree_of, trees_of, target_tree_of, target_trees_of};
-ghost use Rattle.verilog_reading.specs.StmtTree.{stmt_tree_of};
-ghost use Rattle.flat_meaning.specs.Flat.{target_size, target_sizes};
-ghost use Rattle.flat_form.specs.View.{target_of, targets_of};
-ghost use Rattle.flat_unfolding.specs.Names as n;
-ghost use Rattle.flat_unfolding.specs.Names.{width_at};
-ghost use Rattle.flat_unfolding.specs.Resets.{peeled as peeled_of, names_in, all_names_in, signals_among, is_one_reset, at_level, reset_signals as reset_signals_of, has_variable_index as has_variable_index_of, has_variable_index_in, given_to, given_to_all, row_given, branch_given};
-ghost use Rattle.flat_unfolding.specs.Design as u;
-ghost use Rattle.flat_unfolding.specs.Formed.{IsFormed, AreFormed, IsTargetFormed, AreTargetsFormed, IsStmtFormed};
-ghost use Rattle.flat_names.specs.Looks.{Shows, IsFit};
-ghost use Rattle.flat_names.specs.Designs.{ShowsDesign};
-ghost use Rattle.flat_process.specs.Resets.{ArePins, signals_of, joined, AreGiven, AreGivenIf, AddsGiven};
-
 use cdc_base::{Name, NoMemory};
 use flat_form::bits::{bits, low_bits, shifted_left, shifted_right};
 use flat_form::flat::FTarget;
@@ -36,9 +21,7 @@ pub struct Given {
 
 /// A statement without the blocks of one statement around it.
 #[cycle(peeled)]
-pub fn peeled(stmt: &Stmt) -> &Stmt
-    ensures { stmt_tree_of result.now ≡ peeled_of (stmt_tree_of stmt.now) }
-{
+pub fn peeled(stmt: &Stmt) -> &Stmt {
     match stmt {
         Stmt::Block(stmts) => match stmts.as_slice() {
             [one] => peeled(one),
@@ -56,9 +39,7 @@ struct Signals {
 }
 
 impl Signals {
-    fn add(&mut self, look: &Look, name: &Name) -> Result<(), NoMemory>
-        ensures { (l : n.Look) → Shows look.now l → IfOk result (λ _. signals_of self.new ≡ joined (signals_of self.old) (signals_among l (name.now ∷ []))) }
-    {
+    fn add(&mut self, look: &Look, name: &Name) -> Result<(), NoMemory> {
         match look.meaning(name) {
             Some(Meaning::Signal(sig)) => push(&mut self.numbers, sig),
             Some(Meaning::Param(_)) => Ok(()),
@@ -71,9 +52,7 @@ impl Signals {
 }
 
 #[cycle(add_names)]
-fn add_names(look: &Look, expr: &Expr, signals: &mut Signals) -> Result<(), NoMemory>
-    ensures { (l : n.Look) → Shows look.now l → IfOk result (λ _. signals_of signals.new ≡ joined (signals_of signals.old) (signals_among l (names_in (tree_of expr.now)))) }
-{
+fn add_names(look: &Look, expr: &Expr, signals: &mut Signals) -> Result<(), NoMemory> {
     match expr {
         Expr::Number { .. } => Ok(()),
         Expr::Ident(name) => signals.add(look, name),
@@ -106,9 +85,7 @@ fn add_names(look: &Look, expr: &Expr, signals: &mut Signals) -> Result<(), NoMe
 }
 
 #[cycle(add_names)]
-fn add_names_of(look: &Look, exprs: &[Expr], signals: &mut Signals) -> Result<(), NoMemory>
-    ensures { (l : n.Look) → Shows look.now l → IfOk result (λ _. signals_of signals.new ≡ joined (signals_of signals.old) (signals_among l (all_names_in (trees_of (map tree_of exprs.now))))) }
-{
+fn add_names_of(look: &Look, exprs: &[Expr], signals: &mut Signals) -> Result<(), NoMemory> {
     for expr in exprs {
         add_names(look, expr, signals)?;
     }
@@ -116,9 +93,7 @@ fn add_names_of(look: &Look, exprs: &[Expr], signals: &mut Signals) -> Result<()
 }
 
 /// The one reset that all these signals resolve to.
-fn common_reset(look: &Look, signals: &[u32]) -> Option<Reset>
-    ensures { (pins : List ResetPin) (l : n.Look) → Shows look.now l → ArePins pins look.now l → is_some result ≡ is_one_reset l signals.now }
-{
+fn common_reset(look: &Look, signals: &[u32]) -> Option<Reset> {
     let (first, others) = signals.split_first()?;
     let reset = look.reset(*first)?;
     for sig in others {
@@ -131,9 +106,7 @@ fn common_reset(look: &Look, signals: &[u32]) -> Option<Reset>
 
 /// The signals of a condition that tests one reset alone: it is false at the inactive level and true at the active one.
 /// `None` where the condition is another one.
-pub fn reset_signals(look: &Look, cond: &Expr) -> Result<Option<Vec<u32>>, NoMemory>
-    ensures { (pins : List ResetPin) (l : n.Look) → Shows look.now l → IsFit l → ArePins pins look.now l → IsFormed (tree_of cond.now) → IfOk result (λ o. option_map (λ v. v.items) o ≡ reset_signals_of l (tree_of cond.now)) }
-{
+pub fn reset_signals(look: &Look, cond: &Expr) -> Result<Option<Vec<u32>>, NoMemory> {
     let mut signals = Signals {
         numbers: Vec::new(look.alloc),
         has_others: false,
@@ -152,9 +125,7 @@ pub fn reset_signals(look: &Look, cond: &Expr) -> Result<Option<Vec<u32>>, NoMem
 }
 
 /// Whether a condition over resets is true while they are at one of their levels.
-fn is_true_at(look: &Look, cond: &Expr, active: bool) -> Result<Option<bool>, NoMemory>
-    ensures { (l : n.Look) → Shows look.now l → IsFit l → IsFormed (tree_of cond.now) → IfOk result (λ o. o ≡ option_map (λ n. not (n == 0)) (at_level l active (tree_of cond.now))) }
-{
+fn is_true_at(look: &Look, cond: &Expr, active: bool) -> Result<Option<bool>, NoMemory> {
     let level = Look {
         alloc: look.alloc,
         names: look.names,
@@ -172,9 +143,7 @@ fn is_true_at(look: &Look, cond: &Expr, active: bool) -> Result<Option<bool>, No
 
 /// The values that a reset's branch gives, in textual order. `None` where the branch is neither a nonblocking assignment
 /// of a constant nor a block of these.
-pub fn reset_branch(look: &Look, branch: &Stmt) -> Result<Option<Vec<Given>>, NoMemory>
-    ensures { (l : n.Look) → Shows look.now l → IsFit l → IsStmtFormed (stmt_tree_of branch.now) → IfOk result (λ o. AreGivenIf (branch_given l (stmt_tree_of branch.now)) (option_map (λ v. v.items) o)) }
-{
+pub fn reset_branch(look: &Look, branch: &Stmt) -> Result<Option<Vec<Given>>, NoMemory> {
     let mut given = Vec::new(look.alloc);
     match branch {
         Stmt::Block(stmts) => {
@@ -194,10 +163,7 @@ pub fn reset_branch(look: &Look, branch: &Stmt) -> Result<Option<Vec<Given>>, No
 }
 
 /// Adds what an assignment of a reset's branch gives. Answers false where it hasn't the form.
-fn add_given(look: &Look, stmt: &Stmt, given: &mut Vec<Given>) -> Result<bool, NoMemory>
-    ensures { (l : n.Look) (us : List u.Given) → Shows look.now l → IsFit l → IsStmtFormed (stmt_tree_of stmt.now) → AreGiven us given.old.items
-        → IfOk result (λ b. AddsGiven us (row_given l (stmt_tree_of stmt.now)) b given.new.items) }
-{
+fn add_given(look: &Look, stmt: &Stmt, given: &mut Vec<Given>) -> Result<bool, NoMemory> {
     let Stmt::Set {
         blocking: false,
         target,
@@ -225,9 +191,7 @@ fn add_given(look: &Look, stmt: &Stmt, given: &mut Vec<Given>) -> Result<bool, N
 
 /// Whether an index that is no constant stands in the target.
 #[cycle(has_variable_index)]
-fn has_variable_index(look: &Look, target: &Target) -> Result<bool, NoMemory>
-    ensures { (l : n.Look) → Shows look.now l → IsFit l → IsTargetFormed (target_tree_of target.now) → IfOk result (λ b. b ≡ has_variable_index_of l (target_tree_of target.now)) }
-{
+fn has_variable_index(look: &Look, target: &Target) -> Result<bool, NoMemory> {
     match target {
         Target::At { index, .. } => {
             let mut unheard = Faults::new(look.alloc, Order::Other);
@@ -240,9 +204,7 @@ fn has_variable_index(look: &Look, target: &Target) -> Result<bool, NoMemory>
 }
 
 #[cycle(has_variable_index)]
-fn have_variable_index(look: &Look, targets: &[Target]) -> Result<bool, NoMemory>
-    ensures { (l : n.Look) → Shows look.now l → IsFit l → AreTargetsFormed (target_trees_of (map target_tree_of targets.now)) → IfOk result (λ b. b ≡ has_variable_index_in l (target_trees_of (map target_tree_of targets.now))) }
-{
+fn have_variable_index(look: &Look, targets: &[Target]) -> Result<bool, NoMemory> {
     for target in targets {
         if has_variable_index(look, target)? {
             return Ok(true);

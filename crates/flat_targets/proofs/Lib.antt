@@ -1,4 +1,3 @@
 pub mod Aimed
 pub mod AimedParts
 pub mod AimedWords
-pub mod Reading

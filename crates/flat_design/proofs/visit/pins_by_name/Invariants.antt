@@ -1,6 +1,0 @@
-use Rattle.std.proofs.Common.{◌<◌, ◌^◌, length}
-use Rattle.flat_design.proofs.Pins.{PinsSoFar}
-use Rattle.flat_design.proofs.visit.pins_by_name.Given as goal
-
-abbrev pub invariant-loop-number : goal.invariant-loop-number
-invariant-loop-number l = length l.resets < 2 ^ 32 → PinsSoFar l.resets l.number l.pins

@@ -1,4 +1,0 @@
-pub mod Counted
-pub mod Reading
-pub mod Trials
-pub mod Marked
