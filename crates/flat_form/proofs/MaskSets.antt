@@ -1,6 +1,6 @@
 -- The bits of a set, entry by entry, and sets that grow by some bits.
 use Rattle.std.proofs.Common.{◌≡◌, ℕ, ◌-◌, ◌^◌, ◌<◌, Bool, true, false, cond, not, ◌&&◌, ◌||◌, ◌==◌, nat_eq, List, [], ◌∷◌, Contains, Some, bit_and, bit_or, refl, sym, subst, ap, ap₂, ◌∙◌, arith, eq-eqb, eqb-true, true≢false}
-use Rattle.std.specs.Option.{unwrap_or}
+use Rattle.std.specs.Option.{unwrap_or, is_some}
 use Rattle.std.specs.List.{IsDistinct, AllByRecursion}
 use Rattle.std.specs.Map.{keys_of, lookup}
 use Rattle.std.proofs.lemmas.List.Elements.{Contains-get_or, Contains-append_right}
@@ -10,7 +10,7 @@ use Rattle.cell_graph.specs.Tree.{bit_at}
 use Rattle.cell_graph.proofs.Words.{bit_and-bit, bit_or-bit, bit-zero, bit-not}
 use Rattle.flat_meaning.specs.Deps.{Bits, none, union}
 use Rattle.flat_form.specs.declared.masks.Masks.{Masks}
-use Rattle.flat_form.specs.Masks.{mask_of, bits_in, Adds}
+use Rattle.flat_form.specs.Masks.{mask_of, bits_in, has_signal, Adds, Lists}
 
 -- what a test of equality tells
 by_eq : (P : Bool → Type 0) (a b : ℕ) → (a ≡ b → P true) → (nat_eq a b ≡ false → P false) → P (nat_eq a b)
@@ -55,6 +55,18 @@ add-bits old new sig mask h s i l = ap (λ m. bit_at (unwrap_or m 0) i) (h s)
     ∙ by_eq (λ t. bit_at (unwrap_or (cond t (Some (bit_or (mask_of old sig) mask)) (get nat_eq old.by_signal s)) 0) i ≡ (bits_in old s i || (t && bit_at mask i))) s sig
     (λ same. bit_or-bit (mask_of old sig) mask i ∙ ap (λ z. bits_in old z i || bit_at mask i) (sym same))
     (λ _. sym (or-false (bits_in old s i)))
+
+pub add-entry : (old new : Masks) (sig mask : ℕ) → ((q : ℕ) → get nat_eq new.by_signal q ≡ cond (nat_eq sig q) (Some (bit_or (mask_of old sig) mask)) (get nat_eq old.by_signal q))
+    → Lists old new (λ s. s == sig)
+add-entry old new sig mask h s = ap is_some (h s) ∙ ap (λ t. is_some (cond t (Some (bit_or (mask_of old sig) mask)) (get nat_eq old.by_signal s))) (same_test sig s) ∙ go (nat_eq s sig)
+  where
+    either : (b : Bool) → true ≡ (b || true)
+    either true = refl
+    either false = refl
+
+    go : (t : Bool) → is_some (cond t (Some (bit_or (mask_of old sig) mask)) (get nat_eq old.by_signal s)) ≡ (has_signal old s || t)
+    go true = either (has_signal old s)
+    go false = sym (or-false (has_signal old s))
 
 -- what a set has and what is still to be added, together, are what there was and what is added in all
 abbrev pub Left : (old : Bits) (now : Masks) (rest whole : Bits) → Type 0

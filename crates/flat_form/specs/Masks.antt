@@ -1,5 +1,5 @@
 -- The bits of a set that is kept as a mask for each signal.
-use Rattle.std.specs.Prelude.{◌≡◌, ℕ, ◌<◌, nat_eq}
+use Rattle.std.specs.Prelude.{◌≡◌, ℕ, ◌<◌, Bool, ◌||◌, is_some, nat_eq}
 use Rattle.std.specs.Option.{unwrap_or}
 use Rattle.indexmap.specs.IndexMap.{get}
 use Rattle.cell_graph.specs.Tree.{bit_at}
@@ -16,3 +16,11 @@ bits_in m s i = bit_at (mask_of m s) i
 -- the second set is the first one with those bits
 abbrev pub Adds : (old new : Masks) → Bits → Type 0
 Adds old new b = (s i : ℕ) → i < 64 → bits_in new s i ≡ union (bits_in old) b s i
+
+-- the set has an entry for the signal, be it of no bits
+abbrev pub has_signal : Masks → ℕ → Bool
+has_signal m s = is_some (get nat_eq m.by_signal s)
+
+-- the second set has the entries of the first one and those
+abbrev pub Lists : (old new : Masks) → (ℕ → Bool) → Type 0
+Lists old new b = (s : ℕ) → has_signal new s ≡ (has_signal old s || b s)

@@ -1,8 +1,8 @@
 //! Sets of bits of signals, as a mask for each signal.
 ghost use Rattle.std.specs.Prelude.{◌≡◌, ℕ, ◌<◌, true, false, ◌&&◌, ◌==◌, nat_eq, Contains, IfOk};
-ghost use Rattle.std.specs.List.{IsDistinct};
+ghost use Rattle.std.specs.List.{list_any, IsDistinct};
 ghost use Rattle.cell_graph.specs.Tree.{bit_at};
-ghost use Rattle.flat_form.specs.Masks.{mask_of, bits_in, Adds};
+ghost use Rattle.flat_form.specs.Masks.{mask_of, bits_in, has_signal, Adds, Lists};
 ghost use Rattle.flat_form.specs.Uses.{without};
 
 use cdc_base::NoMemory;
@@ -18,6 +18,7 @@ pub struct Masks {
 impl Masks {
     pub fn new(alloc: Global) -> Masks
         ensures none { (s i : ℕ) → bits_in result s i ≡ false }
+        ensures unlisted { (s : ℕ) → has_signal result s ≡ false }
     {
         Masks {
             by_signal: IndexMap::new(alloc),
@@ -35,6 +36,7 @@ impl Masks {
     /// Adds bits of a signal.
     pub fn add(&mut self, sig: u32, mask: u64) -> Result<(), NoMemory>
         ensures added { IfOk result (λ _. Adds self.old self.new (λ s i. (s == sig) && bit_at mask i)) }
+        ensures listed { IfOk result (λ _. Lists self.old self.new (λ s. s == sig)) }
     {
         let all = self.of(sig) | mask;
         match self.by_signal.insert(sig, all) {
@@ -80,6 +82,7 @@ impl Masks {
     /// The signals of the set, each once.
     pub fn signals(&self) -> &[u32]
         ensures listed { (s i : ℕ) → bits_in self.now s i ≡ true → Contains result.now s }
+        ensures exact { (s : ℕ) → list_any (λ x. s == x) result.now ≡ has_signal self.now s }
         ensures distinct { IsDistinct nat_eq result.now }
     {
         self.by_signal.keys().as_slice()

@@ -1,11 +1,11 @@
 //! Which bits of signals expressions read and statements may assign.
 ghost use Rattle.std.specs.Prelude.{◌≡◌, ℕ, ◌<◌, map, IfOk};
 ghost use Rattle.cell_graph.specs.Tree.{bit_at};
-ghost use Rattle.flat_meaning.specs.Flat.{no_items};
+ghost use Rattle.flat_meaning.specs.Flat.{no_items, is_target, are_targets, assigns, case_assigns, all_assign};
 ghost use Rattle.flat_meaning.specs.Design.{width_in};
 ghost use Rattle.flat_meaning.specs.Assigned.{is_within, reaches, reach, may_assign, may_assign_in, any_may_assign};
 ghost use Rattle.flat_form.specs.View.{expr_of, exprs_of, target_of, targets_of, stmt_of, stmts_of, arm_of, items_of};
-ghost use Rattle.flat_form.specs.Masks.{Adds};
+ghost use Rattle.flat_form.specs.Masks.{Adds, Lists};
 ghost use Rattle.flat_meaning.specs.Law.{expr_reads};
 ghost use Rattle.flat_form.specs.Uses.{exprs_read, target_reads, targets_read, stmt_reads, items_read, stmts_read};
 
@@ -173,6 +173,7 @@ pub fn add_assigned(
     assigned: &mut Masks,
 ) -> Result<(), NoMemory>
     ensures added { IfOk result (λ _. Adds assigned.old assigned.new (reaches (width_in signals.now) (target_of target.now))) }
+    ensures listed { IfOk result (λ _. Lists assigned.old assigned.new (is_target (target_of target.now))) }
 {
     match target {
         FTarget::Whole { sig } | FTarget::At { sig, .. } => {
@@ -190,6 +191,7 @@ fn add_assigned_of(
     assigned: &mut Masks,
 ) -> Result<(), NoMemory>
     ensures added { IfOk result (λ _. Adds assigned.old assigned.new (reach (width_in signals.now) (targets_of (map target_of targets.now)))) }
+    ensures listed { IfOk result (λ _. Lists assigned.old assigned.new (are_targets (targets_of (map target_of targets.now)))) }
 {
     for target in targets {
         add_assigned(signals, target, assigned)?;
@@ -205,6 +207,7 @@ pub fn add_may_assign(
     assigned: &mut Masks,
 ) -> Result<(), NoMemory>
     ensures added { IfOk result (λ _. Adds assigned.old assigned.new (may_assign (width_in signals.now) (stmt_of stmt.now))) }
+    ensures listed { IfOk result (λ _. Lists assigned.old assigned.new (assigns (stmt_of stmt.now))) }
 {
     match stmt {
         FStmt::Null => Ok(()),
@@ -234,6 +237,7 @@ fn add_block_may_assign(
     assigned: &mut Masks,
 ) -> Result<(), NoMemory>
     ensures added { IfOk result (λ _. Adds assigned.old assigned.new (any_may_assign (width_in signals.now) (stmts_of (map stmt_of stmts.now)))) }
+    ensures listed { IfOk result (λ _. Lists assigned.old assigned.new (all_assign (stmts_of (map stmt_of stmts.now)))) }
 {
     for stmt in stmts {
         add_may_assign(signals, stmt, assigned)?;
@@ -248,6 +252,7 @@ fn add_items_may_assign(
     assigned: &mut Masks,
 ) -> Result<(), NoMemory>
     ensures added { IfOk result (λ _. Adds assigned.old assigned.new (may_assign_in (width_in signals.now) (items_of (map arm_of items.now) no_items))) }
+    ensures listed { IfOk result (λ _. Lists assigned.old assigned.new (case_assigns (items_of (map arm_of items.now) no_items))) }
 {
     for item in items {
         add_may_assign(signals, &item.body, assigned)?;

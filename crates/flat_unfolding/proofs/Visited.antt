@@ -20,7 +20,7 @@ use Rattle.flat_unfolding.specs.Drivers.{driven_once}
 use Rattle.flat_unfolding.specs.Signals.{signal_of, signals_from, flat_design}
 use Rattle.flat_unfolding.specs.Starts.{initial_starts, so_far}
 use Rattle.flat_unfolding.specs.Unfolding.{module_named, declared_value, Visit, instance_of, instance_item, item_of, item, header_values, visit, top_ports, modules_differ, finished, from_top, unfolded}
-use Rattle.flat_unfolding.specs.Formed.{IsFormed, IsFormedIf, IsPortFormed, IsBodyFormed, IsModuleFormed, IsSourceFormed}
+use Rattle.flat_unfolding.specs.Formed.{IsParamFormed, IsDeclFormed, IsPortFormed, IsBodyFormed, IsModuleFormed, IsSourceFormed}
 use Rattle.flat_unfolding.specs.Sized.{IsSized, IsTargetSized, IsStmtSized, any, IsSizedFlat}
 use Rattle.flat_unfolding.specs.Laws.{SizesLaw}
 use Rattle.flat_unfolding.proofs.Steps.{good_is, good_then, judged_is, none_of_both, some_is}
@@ -51,30 +51,27 @@ map_all : {A B : Type 0} (P : B → Type 0) (f : A → B) (xs : List A) → All 
 map_all P f [] h = All-nil P
 map_all P f (x ∷ xs) h = All-cons P (f x) (map f xs) (All-head (λ a. P (f a)) x xs h) (map_all P f xs (All-tail (λ a. P (f a)) x xs h))
 
-abbrev IsParamFormed : Place × ParamTree → Type 0
-IsParamFormed q = IsFormed q.1.value
+abbrev IsParamIn : Place × ParamTree → Type 0
+IsParamIn q = IsParamFormed q.1
 
-item_params : (i : ItemTree) → IsBodyFormed i.body → All IsParamFormed (param_in i)
+item_params : (i : ItemTree) → IsBodyFormed i.body → All IsParamIn (param_in i)
 item_params i = go i.body
   where
-    go : (b : BodyTree) → IsBodyFormed b → All IsParamFormed (param_in (record { place = i.place; body = b }))
-    go (param p) h = All-cons IsParamFormed (i.place, p) [] h (All-nil IsParamFormed)
-    go (decl d) h = All-nil IsParamFormed
-    go (assign x v) h = All-nil IsParamFormed
-    go (gate kind es) h = All-nil IsParamFormed
-    go (instance child params x ports) h = All-nil IsParamFormed
-    go (always event body) h = All-nil IsParamFormed
-    go (initial body) h = All-nil IsParamFormed
+    go : (b : BodyTree) → IsBodyFormed b → All IsParamIn (param_in (record { place = i.place; body = b }))
+    go (param p) h = All-cons IsParamIn (i.place, p) [] h (All-nil IsParamIn)
+    go (decl d) h = All-nil IsParamIn
+    go (assign x v) h = All-nil IsParamIn
+    go (gate kind es) h = All-nil IsParamIn
+    go (instance child params x ports) h = All-nil IsParamIn
+    go (always event body) h = All-nil IsParamIn
+    go (initial body) h = All-nil IsParamIn
 
-items_params : (is : List ItemTree) → All (λ (i : ItemTree). IsBodyFormed i.body) is → All IsParamFormed (flat_map param_in is)
-items_params [] h = All-nil IsParamFormed
-items_params (i ∷ is) h = All-append IsParamFormed (param_in i) (flat_map param_in is) (item_params i (All-head (λ (i : ItemTree). IsBodyFormed i.body) i is h)) (items_params is (All-tail (λ (i : ItemTree). IsBodyFormed i.body) i is h))
+items_params : (is : List ItemTree) → All (λ (i : ItemTree). IsBodyFormed i.body) is → All IsParamIn (flat_map param_in is)
+items_params [] h = All-nil IsParamIn
+items_params (i ∷ is) h = All-append IsParamIn (param_in i) (flat_map param_in is) (item_params i (All-head (λ (i : ItemTree). IsBodyFormed i.body) i is h)) (items_params is (All-tail (λ (i : ItemTree). IsBodyFormed i.body) i is h))
 
-params_formed : (m : ModuleTree) → IsModuleFormed m → All IsParamFormed (params_of m)
-params_formed m h = All-append IsParamFormed (map (λ p. (m.place, p)) m.params) (flat_map param_in m.items) (map_all IsParamFormed (λ p. (m.place, p)) m.params h.params) (items_params m.items h.items)
-
-abbrev IsDeclFormed : DeclTree → Type 0
-IsDeclFormed d = IsFormedIf d.init
+params_formed : (m : ModuleTree) → IsModuleFormed m → All IsParamIn (params_of m)
+params_formed m h = All-append IsParamIn (map (λ p. (m.place, p)) m.params) (flat_map param_in m.items) (map_all IsParamIn (λ p. (m.place, p)) m.params h.params) (items_params m.items h.items)
 
 ports_formed : (ps : List PortTree) → All IsPortFormed ps → All IsDeclFormed (filter_map (λ (p : PortTree). p.decl) ps)
 ports_formed [] h = All-nil IsDeclFormed
@@ -123,7 +120,7 @@ module _ (modules : List ModuleTree) (formed : IsSourceFormed modules) where
 
     item_next : (s : Stage) → IsStage s → (p : Place) (body : BodyTree) → IsBodyFormed body → (t : Stage) → item_of modules visiting prefix v s p body ≡ good t → IsNext s t
     item_next s h p (param q) f t e = subst (IsNext s) (good_is s t e) (stays s h)
-    item_next s h p (decl d) f t e = value_next s h p d.name d.init d.kind t f e
+    item_next s h p (decl d) f t e = value_next s h p d.name d.init d.kind t f.2 e
     item_next s h p (assign x w) f t e = assign_next s h p x w t f.0 f.1 e
     item_next s h p (gate kind es) f t e = gate_next s h p kind es t f e
     item_next s h p (instance child params x ports) f t e = go (module_named child modules) (found_formed child modules formed) e
@@ -150,11 +147,11 @@ module _ (modules : List ModuleTree) (formed : IsSourceFormed modules) where
         fresh = All-nil _;
         plain = none_beyond d.entries;
       } in
-      let fa = each_all IsParamFormed (IsDeclaring d) (parameter overrides) (parameter_declares d overrides o) first (params_of m) a.0 (params_formed m f) a.1 begun in
+      let fa = each_all IsParamIn (IsDeclaring d) (parameter overrides) (λ s q t w. parameter_declares d overrides o s q t w.1) first (params_of m) a.0 (params_formed m f) a.1 begun in
       let fb = declarations_declare d prefix m a.0 b.0 b.1 fa in
       let opened = k b.0 h fb (declarations_know_ports d prefix m a.0 b.0 b.1 fa) in
       let fo : IsBehind d (ports b.0) = record { stage = opened.stage; grows = opened.grows } in
-      let fc = each_all IsDeclFormed (IsBehind d) (λ s (x : DeclTree). declared_value s m.place x) (λ s x t w z y. next_behind d s t (value_next s y.stage m.place x.name x.init x.kind t w z) y)
+      let fc = each_all IsDeclFormed (IsBehind d) (λ s (x : DeclTree). declared_value s m.place x) (λ s x t w z y. next_behind d s t (value_next s y.stage m.place x.name x.init x.kind t w.2 z) y)
       (ports b.0) (header_decls m) c.0 (ports_formed m.ports f.ports) c.1 fo in
       let fi = each_all (λ (x : ItemTree). IsBodyFormed x.body) (IsBehind d) (item modules visiting prefix (visit modules n))
       (λ s x t w z y. next_behind d s t (item_next visiting prefix (visit modules n) (visit_sizes n) s y.stage x.place x.body w t z) y) c.0 m.items i.0 f.items i.1 fc in

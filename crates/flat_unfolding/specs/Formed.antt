@@ -2,7 +2,7 @@
 use Rattle.std.specs.Prelude.{◌≡◌, ◌^◌, ◌<◌, ◌≤◌, true, List, [], ◌∷◌, All, Option, Some, None}
 use Rattle.verilog_reading.specs.ExprTree.{ExprTree, number, name, index, part, unary, binary, choice, join, repeat, paren, ExprTrees, no_trees, and_trees, TargetTree, whole, index_of, part_of, join_of, TargetTrees, no_parts, and_parts}
 use Rattle.verilog_reading.specs.StmtTree.{StmtTree, null, set, when, either, switch, switch_else, block, StmtTrees, no_rows, and_rows, ArmTrees, no_arms, and_arms}
-use Rattle.verilog_reading.specs.SourceTree.{ParamTree, DeclTree, PortTree, ConnTree, ConnsTree, ordered, named, BodyTree, param, decl, assign, gate, instance, always, initial, ItemTree, ModuleTree}
+use Rattle.verilog_reading.specs.SourceTree.{Bounds, ParamTree, DeclTree, PortTree, ConnTree, ConnsTree, ordered, named, BodyTree, param, decl, assign, gate, instance, always, initial, ItemTree, ModuleTree}
 
 -- some parts
 abbrev pub AreSome : ExprTrees → Type 0
@@ -68,20 +68,31 @@ abbrev pub IsFormedIf : Option ExprTree → Type 0
 IsFormedIf None = Unit {0}
 IsFormedIf (Some e) = IsFormed e
 
+-- both bounds, where there are some
+abbrev pub IsRangeFormed : Option Bounds → Type 0
+IsRangeFormed None = Unit {0}
+IsRangeFormed (Some b) = IsFormed b.left × IsFormed b.right
+
+abbrev pub IsParamFormed : ParamTree → Type 0
+IsParamFormed p = IsRangeFormed p.range × IsFormed p.value
+
+abbrev pub IsDeclFormed : DeclTree → Type 0
+IsDeclFormed d = IsRangeFormed d.range × IsRangeFormed d.array × IsFormedIf d.init
+
 abbrev pub IsPortFormed : PortTree → Type 0
 IsPortFormed p = go p.decl
   where
     go : Option DeclTree → Type 0
     go None = Unit {0}
-    go (Some d) = IsFormedIf d.init
+    go (Some d) = IsDeclFormed d
 
 abbrev pub AreConnsFormed : ConnsTree → Type 0
 AreConnsFormed (ordered entries) = All IsFormedIf entries
 AreConnsFormed (named conns) = All (λ (c : ConnTree). IsFormedIf c.value) conns
 
 abbrev pub IsBodyFormed : BodyTree → Type 0
-IsBodyFormed (param p) = IsFormed p.value
-IsBodyFormed (decl d) = IsFormedIf d.init
+IsBodyFormed (param p) = IsParamFormed p
+IsBodyFormed (decl d) = IsDeclFormed d
 IsBodyFormed (assign t e) = IsTargetFormed t × IsFormed e
 IsBodyFormed (gate kind terminals) = All IsFormed terminals
 IsBodyFormed (instance child params x ports) = AreConnsFormed params × AreConnsFormed ports
@@ -89,7 +100,7 @@ IsBodyFormed (always event body) = IsStmtFormed body
 IsBodyFormed (initial body) = IsStmtFormed body
 
 pub record IsModuleFormed (m : ModuleTree) : Type 0 where
-  pub params : All (λ (p : ParamTree). IsFormed p.value) m.params
+  pub params : All IsParamFormed m.params
   pub ports : All IsPortFormed m.ports
   pub items : All (λ (i : ItemTree). IsBodyFormed i.body) m.items
 

@@ -49,7 +49,7 @@ mutual
       (expr_formed x (front u _ (tail r)), tt, (expr_formed y (front v _ t), exprs_formed z (front w _ (rest v _ t))))
   unary_formed (is_unary p e x) r = unary_formed x (tail r)
 
-  range_formed : {u : List Token} {a b : ExprTree} → IsRange u a b → Fit u → IsFormed a × IsFormed b
+  pub range_formed : {u : List Token} {a b : ExprTree} → IsRange u a b → Fit u → IsFormed a × IsFormed b
   range_formed (is_range p o q {u} {v} x y) r = (expr_formed x (front u _ (tail r)), expr_formed y (front v _ (tail (rest u _ (tail r)))))
 
   binary_formed : {l : ℕ} {u : List Token} {a : ExprTree} → IsBinary l u a → Fit u → IsFormed a
