@@ -2,3 +2,4 @@ pub mod Noting
 pub mod Looks
 pub mod Pieces
 pub mod Selects
+pub mod Designs

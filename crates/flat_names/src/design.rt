@@ -105,9 +105,4 @@ impl Design {
             None => 1,
         }
     }
-
-    pub fn entry_mut(&mut self, sig: u32) -> Option<&mut Entry> {
-        self.entries
-            .get_mut(usize::try_from(sig).unwrap_or(usize::MAX))
-    }
 }
