@@ -1,6 +1,12 @@
 -- Targets by names, from what is told of their parts: parts, bits and words of memories.
-use Rattle.std.proofs.Common.{◌≡◌, ◌≢◌, ℕ, suc, ◌+◌, ◌*◌, ◌^◌, ◌<◌, ◌≤◌, Bool, true, false, not, cond, ◌==◌, List, [], ◌++◌, Option, Some, None, refl, sym, ap, ap₂, subst, ◌∙◌, arith, append_assoc, eqb-true, eq-eqb}
+use Rattle.std.proofs.Common.{◌≡◌, ◌≢◌, ℕ, suc, ◌+◌, ◌*◌, ◌^◌, ◌<◌, ◌≤◌, Bool, true, false, not, cond, ◌==◌, nat_lt, List, [], ◌++◌, Option, Some, None, refl, sym, ap, ap₂, subst, ◌∙◌, arith, append_assoc, eqb-true, eq-eqb}
 use Rattle.std.specs.Prelude.{option_and_then}
+use Rattle.std.specs.Option.{option_map_or}
+use Rattle.verilog_ast.specs.declared.Target.{Target}
+use Rattle.verilog_ast.specs.declared.Target.TheOpen.{Target-F}
+use Rattle.verilog_ast.specs.declared.Target.TheFolds.{fold-roll-Target}
+use Rattle.verilog_ast.specs.declared.Target.TheVariants as v
+use Rattle.verilog_reading.specs.ExprTree.{TargetTree, TargetTrees, join_of, target_tree_step, target_tree_of}
 use Rattle.std.proofs.Math.Pow.{pow_mono}
 use Rattle.std.proofs.lemmas.Nat.{pow_pos}
 use Rattle.flat_meaning.specs.Flat.{size}
@@ -9,7 +15,7 @@ use Rattle.flat_form.specs.declared.flat.FExpr.{FExpr}
 use Rattle.flat_form.specs.View.{expr_of}
 use Rattle.flat_form.specs.Sizes.{kept_of}
 use Rattle.flat_form.proofs.Sized.{sized_width}
-use Rattle.flat_unfolding.specs.Outcome.{Text, Broken, breaks}
+use Rattle.flat_unfolding.specs.Outcome.{Text, Broken, breaks, breaks_if}
 use Rattle.flat_unfolding.specs.Names as n
 use Rattle.flat_unfolding.specs.Names.{Range, meaning}
 use Rattle.flat_unfolding.specs.Constants.{own_value}
@@ -21,13 +27,14 @@ use Rattle.flat_names.specs.declared.scope.Meaning.TheVariants as m
 use Rattle.flat_names.specs.declared.scope.Memory.{Memory}
 use Rattle.flat_names.specs.declared.resolved.Resolved.{Resolved}
 use Rattle.flat_targets.specs.declared.target.Fixed.{Fixed}
+use Rattle.flat_targets.specs.declared.target.FixedParts.{FixedParts}
 use Rattle.flat_targets.specs.declared.target.Aim as code
 use Rattle.flat_targets.specs.declared.target.Aim.TheVariants as a
 use Rattle.flat_names.specs.Noting.{Noted, all_noted}
 use Rattle.flat_names.specs.Pieces.{EachIs, IsRead}
 use Rattle.flat_names.specs.Selects.{bound_notes}
 use Rattle.flat_names.specs.Looks.{as_value}
-use Rattle.flat_targets.specs.Aims.{IsAim, IsGoal, broken_in, chosen}
+use Rattle.flat_targets.specs.Aims.{IsAim, IsGoal, AreAllAims, breaks_of, broken_in, chosen, trees_in}
 use Rattle.flat_names.proofs.Notes.{IsOne}
 use Rattle.flat_names.proofs.Options.{none-some, some-same}
 use Rattle.flat_targets.proofs.Aimed.{then-noted, bounds-noted, behind-gives, no_target, aim-nowhere}
@@ -118,3 +125,14 @@ pub fixed-word : (l : n.Look) (u : Use) (x : Text) (g : Goal) (r : code.Aim) (k 
 fixed-word l u x (fixed b) r k i e f f1 f2 h q d told = absurd (subst (IsGoal (fixed b)) e h.0)
 fixed-word l u x (a_word b j cs) r k i e f f1 f2 h q d told =
     (subst (IsAim (nowhere (cs ++ breaks 319 x))) (sym d) (aim-nowhere (cs ++ breaks 319 x)), then-noted f f1 f2 cs (breaks 319 x) h.1 told)
+
+-- ---- groups
+
+pub join-tree : (parts : List Target) → target_tree_of (v.Join parts) ≡ join_of (trees_in parts)
+join-tree parts = ap target_tree_of (sym (v.rolls-Join parts)) ∙ fold-roll-Target TargetTree target_tree_step (Target-F.Join parts)
+
+pub join-gives : (l : n.Look) (u : Use) (ts : TargetTrees) (tree : TargetTree) → tree ≡ join_of ts → (f f1 f2 : Noted) (p : FixedParts) → AreAllAims l u ts f f1 p → (r : Fixed)
+    → IsAim (group_of (t.aims l u ts) (total (t.aims l u ts))) r × (f2 ≡ all_noted f1 (breaks_if (option_map_or (nat_lt 64) (total (t.aims l u ts)) false) 308 []))
+    → IsAim (t.aim l u tree) r × (f2 ≡ all_noted f (t.aim l u tree).broken)
+join-gives l u ts tree e f f1 f2 p h r k = subst (λ tree. IsAim (t.aim l u tree) r × (f2 ≡ all_noted f (t.aim l u tree).broken)) (sym e)
+    (k.0, then-noted f f1 f2 (breaks_of (t.aims l u ts)) _ h.noted k.1)

@@ -1,3 +1,4 @@
 pub mod Aimed
 pub mod AimedParts
 pub mod AimedWords
+pub mod Reading

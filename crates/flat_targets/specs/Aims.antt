@@ -1,5 +1,7 @@
 -- Targets with their names resolved, side by side with what the definition reads them as.
-use Rattle.std.specs.Prelude.{◌≡◌, ℕ, ◌-◌, ◌^◌, min, Bool, true, cond, ◌&&◌, List, [], ◌∷◌, map, Some, is_some}
+use Rattle.std.specs.Prelude.{◌≡◌, ℕ, ◌-◌, ◌^◌, min, Bool, true, cond, ◌&&◌, List, [], ◌∷◌, map, flat_map, Some, is_some}
+use Rattle.verilog_ast.specs.declared.Target.{Target}
+use Rattle.verilog_reading.specs.ExprTree.{TargetTrees, target_trees_of, target_tree_of}
 use Rattle.flat_form.specs.View.{expr_of, target_of}
 use Rattle.flat_form.specs.Sizes.{is_sized}
 use Rattle.flat_form.specs.declared.flat.FTarget.{FTarget}
@@ -16,6 +18,7 @@ use Rattle.flat_targets.specs.declared.target.Fixed.{Fixed}
 use Rattle.flat_targets.specs.declared.target.FixedParts.{FixedParts}
 use Rattle.flat_targets.specs.declared.target.Aim.{Aim}
 use Rattle.flat_targets.specs.declared.target.Aim.TheVariants as a
+use Rattle.flat_names.specs.Noting.{Noted, all_noted}
 use Rattle.flat_names.specs.Looks.{memory_of}
 
 abbrev pub use_of : Assigned → Use
@@ -60,6 +63,18 @@ pub record AreAims (bs : List t.Aim) (p : FixedParts) : Type 0 where
   pub targets : map target_of p.items.items ≡ map (λ (b : t.Aim). b.target) bs
   pub sized : all_true (map is_target_sized p.items.items) ≡ true
 
+-- all breaks of some parts
+abbrev pub breaks_of : List t.Aim → List Broken
+breaks_of bs = flat_map (λ (b : t.Aim). b.broken) bs
+
+-- parts that were resolved between two notes of broken rules
+pub record AreAllAims (l : Look) (u : Use) (ts : TargetTrees) (f g : Noted) (p : FixedParts) : Type 0 where
+  pub are : AreAims (t.aims l u ts) p
+  pub noted : g ≡ all_noted f (breaks_of (t.aims l u ts))
+
 -- what an index chooses, past what its name and its parts break
 abbrev pub chosen : Look → Use → Text → Term → Goal
 chosen l u x i = cond (is_sound i) (t.meant_goal l u x i (meaning l x)) (fixed (t.nowhere []))
+
+abbrev pub trees_in : List Target → TargetTrees
+trees_in ts = target_trees_of (map target_tree_of ts)

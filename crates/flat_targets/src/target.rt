@@ -16,7 +16,7 @@ ghost use Rattle.flat_unfolding.specs.Formed.{IsFormed, AreFormed, IsTargetForme
 ghost use Rattle.flat_names.specs.Noting.{all_noted};
 ghost use Rattle.flat_names.specs.Looks.{Shows, IsFit, range_of, memory_of};
 ghost use Rattle.flat_names.specs.Pieces.{IsRead};
-ghost use Rattle.flat_targets.specs.Aims.{use_of, IsAim, IsGoal, broken_in, AreAims, chosen};
+ghost use Rattle.flat_targets.specs.Aims.{use_of, IsAim, IsGoal, broken_in, AreAims, AreAllAims, chosen, trees_in};
 
 use cdc_base::limits::MAX_WIDTH;
 use cdc_base::{List, Name, NoMemory};
@@ -85,7 +85,10 @@ fn part(sig: u32, at: u8, width: u8) -> Fixed
 }
 
 /// A target of a process, which alone may be a word of a memory with a variable index.
-pub fn process_target(look: &Look, target: &Target, faults: &mut Faults) -> Result<Aim, NoMemory> {
+pub fn process_target(look: &Look, target: &Target, faults: &mut Faults) -> Result<Aim, NoMemory>
+    ensures { (l : definition.Look) → Shows look.now l → IsFit l → IsTargetFormed (target_tree_of target.now)
+        → IfOk result (λ r. IsGoal (aims.goal l (target_tree_of target.now)) r × (faults.new ≡ all_noted faults.old (broken_in (aims.goal l (target_tree_of target.now))))) }
+{
     if let Target::At { name, index } = target {
         return index_goal(look, name, index, Assigned::Registers, faults);
     }
@@ -100,7 +103,10 @@ pub fn fixed_target(
     target: &Target,
     assigned: Assigned,
     faults: &mut Faults,
-) -> Result<Fixed, NoMemory> {
+) -> Result<Fixed, NoMemory>
+    ensures { (l : definition.Look) → Shows look.now l → IsFit l → IsTargetFormed (target_tree_of target.now)
+        → IfOk result (λ r. IsAim (aims.aim l (use_of assigned) (target_tree_of target.now)) r × (faults.new ≡ all_noted faults.old (aims.aim l (use_of assigned) (target_tree_of target.now)).broken)) }
+{
     match target {
         Target::Whole(name) => whole_target(look, name, assigned, faults),
         Target::At { name, index } => index_target(look, name, index, assigned, faults),
@@ -120,7 +126,10 @@ fn fixed_targets(
     targets: &[Target],
     assigned: Assigned,
     faults: &mut Faults,
-) -> Result<FixedParts, NoMemory> {
+) -> Result<FixedParts, NoMemory>
+    ensures { (l : definition.Look) → Shows look.now l → IsFit l → AreTargetsFormed (trees_in targets.now)
+        → IfOk result (λ r. AreAllAims l (use_of assigned) (trees_in targets.now) faults.old faults.new r) }
+{
     let mut parts = FixedParts::new(look.alloc);
     for target in targets {
         let part = fixed_target(look, target, assigned, faults)?;
@@ -131,7 +140,9 @@ fn fixed_targets(
 
 /// Whether an expression reads as a target too.
 #[cycle(is_target)]
-pub fn is_target(expr: &Expr) -> bool {
+pub fn is_target(expr: &Expr) -> bool
+    ensures { result ≡ is_some (as_target (tree_of expr.now)) }
+{
     match expr {
         Expr::Ident(_) | Expr::At { .. } | Expr::Part { .. } => true,
         Expr::Join(parts) => are_targets(parts.as_slice()),
@@ -140,7 +151,9 @@ pub fn is_target(expr: &Expr) -> bool {
 }
 
 #[cycle(is_target)]
-fn are_targets(exprs: &[Expr]) -> bool {
+fn are_targets(exprs: &[Expr]) -> bool
+    ensures { result ≡ is_some (as_targets (trees_of (map tree_of exprs.now))) }
+{
     for expr in exprs {
         if !is_target(expr) {
             return false;
@@ -151,7 +164,10 @@ fn are_targets(exprs: &[Expr]) -> bool {
 
 /// An expression of a connection or a terminal, taken as the target that it reads as.
 #[cycle(expr_target)]
-pub fn expr_target(look: &Look, expr: &Expr, faults: &mut Faults) -> Result<Fixed, NoMemory> {
+pub fn expr_target(look: &Look, expr: &Expr, faults: &mut Faults) -> Result<Fixed, NoMemory>
+    ensures { (l : definition.Look) (t : TargetTree) → Shows look.now l → IsFit l → IsFormed (tree_of expr.now) → as_target (tree_of expr.now) ≡ Some t
+        → IfOk result (λ r. IsAim (aims.aim l of_wires t) r × (faults.new ≡ all_noted faults.old (aims.aim l of_wires t).broken)) }
+{
     match expr {
         Expr::Ident(name) => whole_target(look, name, Assigned::Wires, faults),
         Expr::At { name, index } => index_target(look, name, index, Assigned::Wires, faults),
@@ -167,7 +183,10 @@ pub fn expr_target(look: &Look, expr: &Expr, faults: &mut Faults) -> Result<Fixe
 }
 
 #[cycle(expr_target)]
-fn expr_targets(look: &Look, exprs: &[Expr], faults: &mut Faults) -> Result<FixedParts, NoMemory> {
+fn expr_targets(look: &Look, exprs: &[Expr], faults: &mut Faults) -> Result<FixedParts, NoMemory>
+    ensures { (l : definition.Look) (ts : TargetTrees) → Shows look.now l → IsFit l → AreFormed (trees_of (map tree_of exprs.now)) → as_targets (trees_of (map tree_of exprs.now)) ≡ Some ts
+        → IfOk result (λ r. AreAllAims l of_wires ts faults.old faults.new r) }
+{
     let mut parts = FixedParts::new(look.alloc);
     for expr in exprs {
         let part = expr_target(look, expr, faults)?;
@@ -497,7 +516,9 @@ fn word_at(
 
 /// The first name of a target.
 #[cycle(first_name)]
-pub fn first_name(target: &Target) -> Option<&Name> {
+pub fn first_name(target: &Target) -> Option<&Name>
+    ensures { IsTargetFormed (target_tree_of target.now) → option_copied result ≡ Some (aims.first_name (target_tree_of target.now)) }
+{
     match target {
         Target::Whole(name) | Target::At { name, .. } | Target::Part { name, .. } => Some(name),
         Target::Join(parts) => first_name_of(parts.as_slice()),
@@ -505,7 +526,9 @@ pub fn first_name(target: &Target) -> Option<&Name> {
 }
 
 #[cycle(first_name)]
-fn first_name_of(targets: &[Target]) -> Option<&Name> {
+fn first_name_of(targets: &[Target]) -> Option<&Name>
+    ensures { AreSomeParts (trees_in targets.now) → AreTargetsFormed (trees_in targets.now) → option_copied result ≡ Some (aims.first_name_in (trees_in targets.now)) }
+{
     for target in targets {
         if let Some(name) = first_name(target) {
             return Some(name);
@@ -515,7 +538,9 @@ fn first_name_of(targets: &[Target]) -> Option<&Name> {
 }
 
 /// The first name of a target as a text, empty where it has none.
-pub fn first_text(target: &Target) -> &str {
+pub fn first_text(target: &Target) -> &str
+    ensures { IsTargetFormed (target_tree_of target.now) → result.now ≡ aims.first_name (target_tree_of target.now) }
+{
     match first_name(target) {
         Some(name) => name.as_str(),
         None => "",
@@ -524,7 +549,9 @@ pub fn first_text(target: &Target) -> &str {
 
 /// The signal of the first variable index in a target.
 #[cycle(first_index)]
-pub fn first_index(target: &FTarget) -> Option<u32> {
+pub fn first_index(target: &FTarget) -> Option<u32>
+    ensures { result ≡ first_pick (target_of target.now) }
+{
     match target {
         FTarget::Whole { .. } | FTarget::Part { .. } => None,
         FTarget::At { sig, .. } => Some(*sig),
@@ -533,7 +560,9 @@ pub fn first_index(target: &FTarget) -> Option<u32> {
 }
 
 #[cycle(first_index)]
-fn first_index_of(targets: &[FTarget]) -> Option<u32> {
+fn first_index_of(targets: &[FTarget]) -> Option<u32>
+    ensures { result ≡ first_pick_in (targets_of (map target_of targets.now)) }
+{
     for target in targets {
         if let Some(sig) = first_index(target) {
             return Some(sig);
