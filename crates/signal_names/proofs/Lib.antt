@@ -1,0 +1,5 @@
+pub mod Cuts
+pub mod Named
+pub mod Words
+pub mod Visits
+pub mod Sources
