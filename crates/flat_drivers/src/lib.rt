@@ -1,0 +1,6 @@
+//! What drives the bits of a flat design: each bit has one driver at most, each bit that is read has one, and registers
+//! are what clocked processes drive.
+#![tactic(auto)]
+
+pub mod drivers;
+pub mod registers;
