@@ -1,0 +1,13 @@
+pub mod Lefts
+pub mod Sizes
+pub mod Alike
+pub mod Done
+pub mod Loops
+pub mod Trees
+pub mod Forms
+pub mod Assignments
+pub mod Written
+pub mod Paths
+pub mod Firsts
+pub mod Within
+pub mod Latched
