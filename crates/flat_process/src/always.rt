@@ -1,16 +1,39 @@
 //! Processes: their events, latches and resets.
-ghost use Rattle.std.specs.Prelude.{IfErr};
+ghost use Rattle.std.specs.Prelude.{◌≡◌, ℕ, ◌++◌, ◌∷◌, [], true, false, not, ◌||◌, ◌==◌, List, Option, Some, None, is_some, is_none, length, map, flat_map, unwrap_or, IfOk, IfErr};
+ghost use Rattle.std.specs.Option.{option_map_or};
+ghost use Rattle.std.specs.List.{list_all};
 ghost use Rattle.refusals.specs.Numbers.{HasNumberIn, unfolding_numbers};
+ghost use Rattle.cdc_base.specs.declared.signal.ResetPin.{ResetPin};
+ghost use Rattle.verilog_reading.specs.StmtTree.{StmtTree, stmt_tree_of};
+ghost use Rattle.flat_meaning.specs.Flat.{Stmt as FlatStmt};
+ghost use Rattle.flat_unfolding.specs.Outcome.{Broken, breaks_if, judged, by_number};
+ghost use Rattle.flat_unfolding.specs.Names as n;
+ghost use Rattle.flat_unfolding.specs.Statements.{clocked as clocked_kind, of_wires, done};
+ghost use Rattle.flat_unfolding.specs.Reads.{latch_rule};
+ghost use Rattle.flat_unfolding.specs.Resets as q;
+ghost use Rattle.flat_unfolding.specs.Resets.{reset_form as reset_form_of, reset_rules, is_edge_of as is_edge_of_reset, is_active_edge as is_active};
+ghost use Rattle.flat_unfolding.specs.Design as u;
+ghost use Rattle.flat_unfolding.specs.Design.{Stage, look_of};
+ghost use Rattle.flat_unfolding.specs.Processes as w;
+ghost use Rattle.flat_unfolding.specs.Processes.{always_item, edge_rules, event_rules, clocked_rules, clocked_body, body_without, reset_gives, form_of, second_edge};
+ghost use Rattle.flat_unfolding.specs.Formed.{IsStmtFormed};
+ghost use Rattle.flat_names.specs.Noting.{all_noted};
+ghost use Rattle.flat_names.specs.Looks.{Shows, IsFit};
+ghost use Rattle.flat_names.specs.Designs.{IsPin, ShowsDesign, ShowsStage, Ends, Meets, signal_of};
+ghost use Rattle.flat_statements.specs.Statements.{IsDone};
+ghost use Rattle.flat_process.specs.Assigns.{fresh};
+ghost use Rattle.flat_process.specs.Resets.{ArePins};
+ghost use Rattle.flat_process.specs.Processes.{is_wide_clock, IsBody, IsClocked, IsForm, IsFormIf};
 
-use crate::latch::first_latch;
-use crate::process::{Mode, statement};
 use crate::reset::{Given, keep_given, peeled, reset_branch, reset_signals};
-use cdc_base::{NoMemory, Place, Stop};
+use cdc_base::{Name, NoMemory, Place, Stop};
 use flat_form::flat::{FStmt, FlatClocked, FlatComb};
 use flat_form::memory::push;
-use flat_names::design::Design;
+use flat_names::design::{Design, Reset};
 use flat_names::fault::{Faults, Order, Rule};
 use flat_names::scope::{Look, Meaning, Names};
+use flat_statements::latch::first_latch;
+use flat_statements::statement::{Mode, statement};
 use std::alloc::Global;
 use verilog_ast::{Edge, EdgeKind, Event, Stmt};
 
@@ -23,6 +46,8 @@ pub fn add_process(
     names: &Names,
     design: &mut Design,
 ) -> Result<(), Stop>
+    ensures meets { (pins : List ResetPin) (s : Stage) → ShowsStage pins names.now design.old s → IsFit (look_of s) → IsStmtFormed (stmt_tree_of body.now)
+        → Meets pins names.now (always_item s place event.now (stmt_tree_of body.now)) result design.new }
     ensures numbered { IfErr result (HasNumberIn unfolding_numbers) }
 {
     match event {
@@ -40,6 +65,8 @@ fn add_wires_process(
     names: &Names,
     design: &mut Design,
 ) -> Result<(), Stop>
+    ensures meets { (pins : List ResetPin) (s : Stage) → ShowsStage pins names.now design.old s → IsFit (look_of s) → IsStmtFormed (stmt_tree_of body.now)
+        → Meets pins names.now (w.wires_process s place (stmt_tree_of body.now)) result design.new }
     ensures numbered { IfErr result (HasNumberIn unfolding_numbers) }
 {
     let mut faults = Faults::new(alloc, Order::Other);
@@ -47,17 +74,35 @@ fn add_wires_process(
         let look = design.look(alloc, names);
         wires_process(&look, body, &mut faults)?
     };
-    faults.raise(place)?;
-    push(&mut design.combs, FlatComb { body })?;
-    Ok(())
+    keep_wires_process(place, faults, body, design)
 }
 
-fn wires_process(look: &Look, body: &Stmt, faults: &mut Faults) -> Result<FStmt, NoMemory> {
+fn wires_process(look: &Look, body: &Stmt, faults: &mut Faults) -> Result<FStmt, NoMemory>
+    ensures { (l : n.Look) → Shows look.now l → IsFit l → look.now.signals.now ≡ map signal_of l.entries → IsStmtFormed (stmt_tree_of body.now)
+        → IfOk result (λ r. IsBody (done l of_wires (stmt_tree_of body.now)).stmt (done l of_wires (stmt_tree_of body.now)).broken r
+        × (faults.new ≡ all_noted faults.old ((done l of_wires (stmt_tree_of body.now)).broken ++ latch_rule l.entries (done l of_wires (stmt_tree_of body.now)).stmt))) }
+{
     let body = statement(look, body, Mode::Wires, faults)?;
     if let Some(sig) = first_latch(look.alloc, look.signals, &body)? {
         faults.note(Rule::Latch, look.own_name(sig))?;
     }
     Ok(body)
+}
+
+/// Adds a process of wires, if its item broke no rule.
+fn keep_wires_process(
+    place: Place,
+    faults: Faults,
+    body: FStmt,
+    design: &mut Design,
+) -> Result<(), Stop>
+    ensures kept { (pins : List ResetPin) (e : u.Design) (x : FlatStmt) (bs : List Broken) → ShowsDesign pins design.old e → faults ≡ all_noted fresh bs → IsBody x bs body
+        → Ends (ShowsDesign pins design.new) (judged by_number place bs (record e { combs = e.combs ++ x ∷ [] })) result }
+    ensures numbered { IfErr result (HasNumberIn unfolding_numbers) }
+{
+    faults.raise(place)?;
+    push(&mut design.combs, FlatComb { body })?;
+    Ok(())
 }
 
 /// A clocked process with what its reset gives.
@@ -76,25 +121,68 @@ fn add_clocked_process(
     names: &Names,
     design: &mut Design,
 ) -> Result<(), Stop>
+    ensures meets { (pins : List ResetPin) (s : Stage) → ShowsStage pins names.now design.old s → IsFit (look_of s) → IsStmtFormed (stmt_tree_of body.now)
+        → Meets pins names.now (w.clocked_process s place edges.now (stmt_tree_of body.now)) result design.new }
     ensures numbered { IfErr result (HasNumberIn unfolding_numbers) }
 {
     let mut faults = Faults::new(alloc, Order::Other);
-    let clocked = {
+    let process = {
         let look = design.look(alloc, names);
         clocked_process(&look, edges, body, &mut faults)?
     };
+    keep_clocked_process(place, faults, process, design)
+}
+
+/// Adds a clocked process, if its item broke no rule.
+fn keep_clocked_process(
+    place: Place,
+    faults: Faults,
+    process: Clocked,
+    design: &mut Design,
+) -> Result<(), Stop>
+    ensures kept { (pins : List ResetPin) (e : u.Design) (clock : ℕ) (x : FlatStmt) (us : List u.Given) (bs : List Broken) → ShowsDesign pins design.old e → faults ≡ all_noted fresh bs
+        → IsClocked (length e.entries) clock x us bs process
+        → Ends (ShowsDesign pins design.new) (judged by_number place bs (record e { clocked = e.clocked ++ (clock, x) ∷ []; givens = e.givens ++ us })) result }
+    ensures numbered { IfErr result (HasNumberIn unfolding_numbers) }
+{
     faults.raise(place)?;
-    keep_given(design, clocked.given.as_slice());
+    keep_given(design, process.given.as_slice());
     let process = FlatClocked {
-        clock: clocked.clock,
-        body: clocked.body,
+        clock: process.clock,
+        body: process.body,
     };
     push(&mut design.clocked, process)?;
     Ok(())
 }
 
+fn clocked_process(
+    look: &Look,
+    edges: &[Edge],
+    body: &Stmt,
+    faults: &mut Faults,
+) -> Result<Clocked, NoMemory>
+    ensures { (pins : List ResetPin) (l : n.Look) → Shows look.now l → IsFit l → ArePins pins look.now l → IsStmtFormed (stmt_tree_of body.now)
+        → IfOk result (λ p. IsClocked (length l.entries) (unwrap_or (w.clock_of l edges.now) 0) (clocked_body l edges.now (stmt_tree_of body.now)) (reset_gives l (form_of l edges.now (stmt_tree_of body.now)))
+        (clocked_rules l edges.now (stmt_tree_of body.now)) p × (faults.new ≡ all_noted faults.old (clocked_rules l edges.now (stmt_tree_of body.now)))) }
+{
+    note_event(look, edges, faults)?;
+    let clock = clock_of(look, edges).unwrap_or(0);
+    if has_form(edges) {
+        process_with_form(look, edges, clock, body, faults)
+    } else {
+        let body = statement(look, body, Mode::Neither, faults)?;
+        Ok(Clocked {
+            clock,
+            body,
+            given: Vec::new(look.alloc),
+        })
+    }
+}
+
 /// Whether an event is one rising edge, or a rising edge and one more edge.
-fn has_form(edges: &[Edge]) -> bool {
+fn has_form(edges: &[Edge]) -> bool
+    ensures { result ≡ w.has_form edges.now }
+{
     match edges {
         [clock] => clock.kind == EdgeKind::Pos,
         [clock, second] => clock.kind == EdgeKind::Pos && second.kind != EdgeKind::Level,
@@ -103,109 +191,234 @@ fn has_form(edges: &[Edge]) -> bool {
 }
 
 /// The name of the first edge, which faults of clocks and resets tell.
-fn first_edge(edges: &[Edge]) -> &str {
+fn first_edge(edges: &[Edge]) -> &str
+    ensures { result.now ≡ w.first_edge edges.now }
+{
     match edges.first() {
         Some(edge) => edge.name.as_str(),
         None => "",
     }
 }
 
-fn clocked_process(
-    look: &Look,
-    edges: &[Edge],
-    body: &Stmt,
-    faults: &mut Faults,
-) -> Result<Clocked, NoMemory> {
+/// Notes where an event hasn't its form, an edge is that of no signal, or the clock has several bits.
+fn note_event(look: &Look, edges: &[Edge], faults: &mut Faults) -> Result<(), NoMemory>
+    ensures { (l : n.Look) → Shows look.now l → IsFit l → IfOk result (λ _. faults.new ≡ all_noted faults.old (event_rules l edges.now)) }
+{
     note_edges(look, edges, faults)?;
-    let clock = clock_of(look, edges);
-    let is_clocked = has_form(edges);
-    if !is_clocked || look.width(clock.unwrap_or(u32::MAX)) != 1 {
+    if breaks_event(look, edges) {
         faults.note(Rule::ClockForm, first_edge(edges))?;
-    }
-    let mode = if is_clocked {
-        Mode::Clocked
-    } else {
-        Mode::Neither
-    };
-    let whole = statement(look, body, mode, faults)?;
-    let clock = clock.unwrap_or(0);
-    if is_clocked {
-        if let Some(process) = reset_process(look, edges, clock, body, faults)? {
-            return Ok(process);
-        }
-    }
-    Ok(Clocked {
-        clock,
-        body: whole,
-        given: Vec::new(look.alloc),
-    })
-}
-
-/// Notes the names of edges that stand for no signal.
-fn note_edges(look: &Look, edges: &[Edge], faults: &mut Faults) -> Result<(), NoMemory> {
-    for edge in edges {
-        match look.meaning(&edge.name) {
-            Some(Meaning::Signal(_)) => {}
-            Some(Meaning::Memory(_) | Meaning::Param(_)) => {
-                faults.note(Rule::ClockForm, first_edge(edges))?;
-            }
-            Some(Meaning::Instance) | None => faults.note(Rule::UnknownName, edge.name.as_str())?,
-        }
     }
     Ok(())
 }
 
-fn clock_of(look: &Look, edges: &[Edge]) -> Option<u32> {
+fn breaks_event(look: &Look, edges: &[Edge]) -> bool
+    ensures { (l : n.Look) → Shows look.now l → IsFit l → result ≡ (not (w.has_form edges.now) || is_wide_clock l edges.now) }
+{
+    !has_form(edges) || has_wide_clock(look, edges)
+}
+
+fn note_edges(look: &Look, edges: &[Edge], faults: &mut Faults) -> Result<(), NoMemory>
+    ensures { (l : n.Look) → Shows look.now l → IfOk result (λ _. faults.new ≡ all_noted faults.old (flat_map (edge_rules l (w.first_edge edges.now)) edges.now)) }
+{
+    let first = first_edge(edges);
+    for edge in edges {
+        note_edge(look, first, &edge.name, faults)?;
+    }
+    Ok(())
+}
+
+/// Notes the name of an edge that stands for no signal.
+fn note_edge(look: &Look, first: &str, name: &Name, faults: &mut Faults) -> Result<(), NoMemory>
+    ensures { (l : n.Look) (e : Edge) → Shows look.now l → e.name ≡ name.now → IfOk result (λ _. faults.new ≡ all_noted faults.old (edge_rules l first.now e)) }
+{
+    match look.meaning(name) {
+        Some(Meaning::Signal(_)) => Ok(()),
+        Some(_) => faults.note(Rule::ClockForm, first),
+        None => faults.note(Rule::UnknownName, name.as_str()),
+    }
+}
+
+fn clock_of(look: &Look, edges: &[Edge]) -> Option<u32>
+    ensures { (l : n.Look) → Shows look.now l → result ≡ w.clock_of l edges.now }
+{
     match look.meaning(&edges.first()?.name) {
         Some(Meaning::Signal(sig)) => Some(sig),
         _ => None,
     }
 }
 
-/// The process of a body with a reset: the values that its first branch gives, and the other branch. A second edge has
-/// to be that of the very reset.
-fn reset_process(
+fn has_wide_clock(look: &Look, edges: &[Edge]) -> bool
+    ensures { (l : n.Look) → Shows look.now l → IsFit l → result ≡ is_wide_clock l edges.now }
+{
+    match clock_of(look, edges) {
+        Some(sig) => look.width(sig) != 1,
+        None => false,
+    }
+}
+
+/// The process of a body whose event has its form.
+fn process_with_form(
     look: &Look,
     edges: &[Edge],
     clock: u32,
     body: &Stmt,
     faults: &mut Faults,
-) -> Result<Option<Clocked>, NoMemory> {
-    let first = first_edge(edges);
-    let second = edges.get(1);
-    if let Stmt::If { cond, yes, other } = peeled(body) {
-        if let Some(signals) = reset_signals(look, cond)? {
-            if !fits_second(look, second, signals.as_slice()) {
-                faults.note(Rule::ResetForm, first)?;
-            }
-            let Some(given) = reset_branch(look, yes)? else {
-                faults.note(Rule::ResetForm, first)?;
-                return Ok(None);
-            };
-            let body = match other {
-                Some(other) => statement(look, other, Mode::Clocked, faults)?,
-                None => FStmt::Null,
-            };
-            return Ok(Some(Clocked { clock, body, given }));
-        }
-    }
-    if second.is_some() {
-        faults.note(Rule::ResetForm, first)?;
-    }
-    Ok(None)
+) -> Result<Clocked, NoMemory>
+    ensures { (pins : List ResetPin) (l : n.Look) → Shows look.now l → IsFit l → ArePins pins look.now l → IsStmtFormed (stmt_tree_of body.now)
+        → IfOk result (λ p. IsClocked (length l.entries) clock (body_without l (stmt_tree_of body.now) (reset_form_of l (stmt_tree_of body.now))) (reset_gives l (reset_form_of l (stmt_tree_of body.now)))
+        (done l clocked_kind (stmt_tree_of body.now)).broken p
+        × (faults.new ≡ all_noted faults.old ((done l clocked_kind (stmt_tree_of body.now)).broken ++ reset_rules l (w.first_edge edges.now) (second_edge edges.now) (reset_form_of l (stmt_tree_of body.now))))) }
+{
+    let whole = statement(look, body, Mode::Clocked, faults)?;
+    let form = reset_form(look, body)?;
+    note_reset(look, edges, &form, faults)?;
+    Ok(with_reset(look.alloc, clock, whole, form))
 }
 
-/// Whether a second edge is the one at which the reset with these signals becomes active.
-fn fits_second(look: &Look, second: Option<&Edge>, signals: &[u32]) -> bool {
-    let Some(edge) = second else {
-        return true;
+/// A body in reset form: the signals of its condition, what its first branch gives where that has its form, and its
+/// other branch.
+#[derive(Drop)]
+struct ResetForm {
+    signals: Vec<u32>,
+    given: Option<Vec<Given>>,
+    rest: FStmt,
+}
+
+fn reset_form(look: &Look, body: &Stmt) -> Result<Option<ResetForm>, NoMemory>
+    ensures { (pins : List ResetPin) (l : n.Look) → Shows look.now l → IsFit l → ArePins pins look.now l → IsStmtFormed (stmt_tree_of body.now)
+        → IfOk result (λ o. IsFormIf l (reset_form_of l (stmt_tree_of body.now)) o) }
+{
+    let Stmt::If { cond, yes, other } = peeled(body) else {
+        return Ok(None);
     };
-    let Some(Meaning::Signal(sig)) = look.meaning(&edge.name) else {
-        return false;
+    let Some(signals) = reset_signals(look, cond)? else {
+        return Ok(None);
     };
-    let Some(reset) = look.reset(sig) else {
-        return false;
+    let given = reset_branch(look, yes)?;
+    let rest = match other {
+        Some(other) => branch_body(look, other)?,
+        None => FStmt::Null,
     };
-    let rises = edge.kind == EdgeKind::Pos;
-    rises == reset.is_high && signals.iter().all(|one| *one == sig)
+    Ok(Some(ResetForm {
+        signals,
+        given,
+        rest,
+    }))
+}
+
+/// The branch beside that of the reset. What it breaks is noted with the whole body.
+fn branch_body(look: &Look, branch: &Stmt) -> Result<FStmt, NoMemory>
+    ensures { (l : n.Look) → Shows look.now l → IsFit l → IsStmtFormed (stmt_tree_of branch.now) → IfOk result (λ r. IsDone (done l clocked_kind (stmt_tree_of branch.now)) r) }
+{
+    let mut unheard = Faults::new(look.alloc, Order::Other);
+    statement(look, branch, Mode::Clocked, &mut unheard)
+}
+
+/// Notes where a second edge isn't that of the reset, or where the reset's branch hasn't its form.
+fn note_reset(
+    look: &Look,
+    edges: &[Edge],
+    form: &Option<ResetForm>,
+    faults: &mut Faults,
+) -> Result<(), NoMemory>
+    ensures { (pins : List ResetPin) (l : n.Look) (f : Option q.ResetForm) → Shows look.now l → ArePins pins look.now l → IsFormIf l f form.now
+        → IfOk result (λ _. faults.new ≡ all_noted faults.old (reset_rules l (w.first_edge edges.now) (second_edge edges.now) f)) }
+{
+    if breaks_reset(look, edges, form) {
+        faults.note(Rule::ResetForm, first_edge(edges))?;
+    }
+    Ok(())
+}
+
+fn breaks_reset(look: &Look, edges: &[Edge], form: &Option<ResetForm>) -> bool
+    ensures { (pins : List ResetPin) (l : n.Look) (f : Option q.ResetForm) → Shows look.now l → ArePins pins look.now l → IsFormIf l f form.now
+        → breaks_if result 317 (w.first_edge edges.now) ≡ reset_rules l (w.first_edge edges.now) (second_edge edges.now) f }
+{
+    match form {
+        Some(form) => breaks_form(look, edges, form),
+        None => has_second(edges),
+    }
+}
+
+fn has_second(edges: &[Edge]) -> bool
+    ensures { result ≡ is_some (second_edge edges.now) }
+{
+    match edges {
+        [_, _, ..] => true,
+        _ => false,
+    }
+}
+
+fn breaks_form(look: &Look, edges: &[Edge], form: &ResetForm) -> bool
+    ensures { (pins : List ResetPin) (l : n.Look) (f : q.ResetForm) → Shows look.now l → ArePins pins look.now l → IsForm l f form.now
+        → result ≡ (not (option_map_or (is_edge_of_reset l f.signals) (second_edge edges.now) true) || is_none f.given) }
+{
+    !fits_second(look, edges, form.signals.as_slice()) || form.given.is_none()
+}
+
+/// Whether a second edge is that of the reset with these signals.
+fn fits_second(look: &Look, edges: &[Edge], signals: &[u32]) -> bool
+    ensures { (pins : List ResetPin) (l : n.Look) → Shows look.now l → ArePins pins look.now l → result ≡ option_map_or (is_edge_of_reset l signals.now) (second_edge edges.now) true }
+{
+    match edges {
+        [_, second, ..] => is_edge_of(look, second, signals),
+        _ => true,
+    }
+}
+
+/// Whether an edge is the one at which the reset with these signals becomes active.
+fn is_edge_of(look: &Look, edge: &Edge, signals: &[u32]) -> bool
+    ensures { (pins : List ResetPin) (l : n.Look) → Shows look.now l → ArePins pins look.now l → result ≡ is_edge_of_reset l signals.now edge.now }
+{
+    match look.meaning(&edge.name) {
+        Some(Meaning::Signal(sig)) => {
+            becomes_active(look, edge.kind, sig) && are_all(signals, sig)
+        }
+        _ => false,
+    }
+}
+
+fn are_all(signals: &[u32], sig: u32) -> bool
+    ensures { result ≡ list_all (λ t. t == sig) signals.now }
+{
+    signals.iter().all(|one| *one == sig)
+}
+
+/// Whether a reset becomes active at this edge of its signal.
+fn becomes_active(look: &Look, kind: EdgeKind, sig: u32) -> bool
+    ensures { (pins : List ResetPin) (l : n.Look) → Shows look.now l → ArePins pins look.now l → result ≡ option_map_or (is_active kind) (n.reset_at l.entries sig) false }
+{
+    match look.reset(sig) {
+        Some(reset) => is_active_edge(kind, reset),
+        None => false,
+    }
+}
+
+fn is_active_edge(kind: EdgeKind, reset: Reset) -> bool
+    ensures { (pins : List ResetPin) (pin : ResetPin) → IsPin pins reset pin → result ≡ is_active kind pin }
+{
+    match kind {
+        EdgeKind::Pos => reset.is_high,
+        EdgeKind::Neg => !reset.is_high,
+        EdgeKind::Level => false,
+    }
+}
+
+/// The process of a body, which leaves out the reset's branch where it has reset form.
+fn with_reset(alloc: Global, clock: u32, whole: FStmt, form: Option<ResetForm>) -> Clocked
+    ensures { (l : n.Look) (body : StmtTree) → IsDone (done l clocked_kind body) whole → IsFormIf l (reset_form_of l body) form
+        → IsClocked (length l.entries) clock (body_without l body (reset_form_of l body)) (reset_gives l (reset_form_of l body)) (done l clocked_kind body).broken result }
+{
+    match form {
+        Some(form) => Clocked {
+            clock,
+            body: form.rest,
+            given: form.given.unwrap_or(Vec::new(alloc)),
+        },
+        None => Clocked {
+            clock,
+            body: whole,
+            given: Vec::new(alloc),
+        },
+    }
 }

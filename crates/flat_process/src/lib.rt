@@ -3,7 +3,5 @@
 
 pub mod always;
 pub mod assign;
-mod latch;
-mod process;
 mod reset;
 pub mod start;

@@ -1,14 +1,35 @@
 //! Resets of clocked processes: the form `if (reset) constants else rest`.
+ghost use Rattle.std.specs.Prelude.{◌≡◌, ℕ, ◌+◌, ◌-◌, ◌^◌, ◌/◌, ◌<◌, ◌≤◌, ◌==◌, ◌++◌, ◌∷◌, [], true, false, not, List, length, map, is_some, option_map, IfOk};
+ghost use Rattle.std.specs.Option.{option_map_or};
+ghost use Rattle.cdc_base.specs.declared.signal.ResetPin.{ResetPin};
+ghost use Rattle.verilog_reading.specs.ExprTree.{tree_of, trees_of, target_tree_of, target_trees_of};
+ghost use Rattle.verilog_reading.specs.StmtTree.{stmt_tree_of, stmt_trees_of, set as set_tree};
+ghost use Rattle.flat_meaning.specs.Flat.{target_size, target_sizes};
+ghost use Rattle.flat_form.specs.View.{target_of, targets_of};
+ghost use Rattle.flat_unfolding.specs.Names as n;
+ghost use Rattle.flat_unfolding.specs.Names.{width_at};
+ghost use Rattle.flat_unfolding.specs.Expressions.{Term};
+ghost use Rattle.flat_unfolding.specs.Targets.{Aim};
+ghost use Rattle.flat_unfolding.specs.Resets.{peeled as peeled_of, names_in, all_names_in, signals_among, is_one_reset, is_test as is_test_of, at_level, reset_signals as reset_signals_of, has_variable_index as has_variable_index_of, has_variable_index_in, row_given as row_given_of, rows_given as rows_given_of, branch_given};
+ghost use Rattle.flat_unfolding.specs.Design as u;
+ghost use Rattle.flat_unfolding.specs.Formed.{IsFormed, IsTargetFormed, AreTargetsFormed, IsStmtFormed, AreRowsFormed};
+ghost use Rattle.flat_names.specs.Looks.{Shows, IsFit};
+ghost use Rattle.flat_names.specs.Pieces.{IsRead};
+ghost use Rattle.flat_names.specs.Designs.{ShowsDesign};
+ghost use Rattle.flat_targets.specs.Aims.{IsAim};
+ghost use Rattle.flat_process.specs.Resets.{ArePins, signals_of, joined, bits_given, IsPlain, ArePlain, IsPlainAim, given_by, IsGiven, AreGiven, AreGivenIf, AddsGiven, Gives, GivesAll, with_given};
+
 use cdc_base::{Name, NoMemory};
 use flat_form::bits::{bits, low_bits, shifted_left, shifted_right};
 use flat_form::flat::FTarget;
 use flat_form::memory::push;
 use flat_form::value::{assigned_value, own_value};
-use flat_names::design::{Design, Reset};
+use flat_names::design::{Design, Entry, Reset};
 use flat_names::expr::resolve;
 use flat_names::fault::{Faults, Order};
+use flat_names::resolved::Resolved;
 use flat_names::scope::{Look, Meaning};
-use flat_targets::target::{Assigned, first_index, fixed_target};
+use flat_targets::target::{Assigned, Fixed, fixed_target};
 use verilog_ast::{Expr, Stmt, Target};
 
 /// A value that a reset gives to bits of a register.
@@ -21,7 +42,9 @@ pub struct Given {
 
 /// A statement without the blocks of one statement around it.
 #[cycle(peeled)]
-pub fn peeled(stmt: &Stmt) -> &Stmt {
+pub fn peeled(stmt: &Stmt) -> &Stmt
+    ensures { stmt_tree_of result.now ≡ peeled_of (stmt_tree_of stmt.now) }
+{
     match stmt {
         Stmt::Block(stmts) => match stmts.as_slice() {
             [one] => peeled(one),
@@ -39,7 +62,9 @@ struct Signals {
 }
 
 impl Signals {
-    fn add(&mut self, look: &Look, name: &Name) -> Result<(), NoMemory> {
+    fn add(&mut self, look: &Look, name: &Name) -> Result<(), NoMemory>
+        ensures { (l : n.Look) → Shows look.now l → IfOk result (λ _. signals_of self.new ≡ joined (signals_of self.old) (signals_among l (name.now ∷ []))) }
+    {
         match look.meaning(name) {
             Some(Meaning::Signal(sig)) => push(&mut self.numbers, sig),
             Some(Meaning::Param(_)) => Ok(()),
@@ -49,10 +74,19 @@ impl Signals {
             }
         }
     }
+
+    /// Whether there is no other name, and the signals resolve to one reset.
+    fn are_one_reset(&self, look: &Look) -> bool
+        ensures { (pins : List ResetPin) (l : n.Look) → Shows look.now l → ArePins pins look.now l → result ≡ option_map_or (is_one_reset l) (signals_of self.now) false }
+    {
+        !self.has_others && common_reset(look, self.numbers.as_slice()).is_some()
+    }
 }
 
 #[cycle(add_names)]
-fn add_names(look: &Look, expr: &Expr, signals: &mut Signals) -> Result<(), NoMemory> {
+fn add_names(look: &Look, expr: &Expr, signals: &mut Signals) -> Result<(), NoMemory>
+    ensures { (l : n.Look) → Shows look.now l → IfOk result (λ _. signals_of signals.new ≡ joined (signals_of signals.old) (signals_among l (names_in (tree_of expr.now)))) }
+{
     match expr {
         Expr::Number { .. } => Ok(()),
         Expr::Ident(name) => signals.add(look, name),
@@ -85,7 +119,9 @@ fn add_names(look: &Look, expr: &Expr, signals: &mut Signals) -> Result<(), NoMe
 }
 
 #[cycle(add_names)]
-fn add_names_of(look: &Look, exprs: &[Expr], signals: &mut Signals) -> Result<(), NoMemory> {
+fn add_names_of(look: &Look, exprs: &[Expr], signals: &mut Signals) -> Result<(), NoMemory>
+    ensures { (l : n.Look) → Shows look.now l → IfOk result (λ _. signals_of signals.new ≡ joined (signals_of signals.old) (signals_among l (all_names_in (trees_of (map tree_of exprs.now))))) }
+{
     for expr in exprs {
         add_names(look, expr, signals)?;
     }
@@ -93,7 +129,9 @@ fn add_names_of(look: &Look, exprs: &[Expr], signals: &mut Signals) -> Result<()
 }
 
 /// The one reset that all these signals resolve to.
-fn common_reset(look: &Look, signals: &[u32]) -> Option<Reset> {
+fn common_reset(look: &Look, signals: &[u32]) -> Option<Reset>
+    ensures { (pins : List ResetPin) (l : n.Look) → Shows look.now l → ArePins pins look.now l → is_some result ≡ is_one_reset l signals.now }
+{
     let (first, others) = signals.split_first()?;
     let reset = look.reset(*first)?;
     for sig in others {
@@ -106,26 +144,34 @@ fn common_reset(look: &Look, signals: &[u32]) -> Option<Reset> {
 
 /// The signals of a condition that tests one reset alone: it is false at the inactive level and true at the active one.
 /// `None` where the condition is another one.
-pub fn reset_signals(look: &Look, cond: &Expr) -> Result<Option<Vec<u32>>, NoMemory> {
+pub fn reset_signals(look: &Look, cond: &Expr) -> Result<Option<Vec<u32>>, NoMemory>
+    ensures { (pins : List ResetPin) (l : n.Look) → Shows look.now l → IsFit l → ArePins pins look.now l → IsFormed (tree_of cond.now) → IfOk result (λ o. option_map (λ v. v.items) o ≡ reset_signals_of l (tree_of cond.now)) }
+{
     let mut signals = Signals {
         numbers: Vec::new(look.alloc),
         has_others: false,
     };
     add_names(look, cond, &mut signals)?;
-    if signals.has_others || common_reset(look, signals.numbers.as_slice()).is_none() {
-        return Ok(None);
-    }
-    let inactive = is_true_at(look, cond, false)?;
-    let active = is_true_at(look, cond, true)?;
-    if inactive == Some(false) && active == Some(true) {
+    if signals.are_one_reset(look) && is_test(look, cond)? {
         Ok(Some(signals.numbers))
     } else {
         Ok(None)
     }
 }
 
+/// Whether a condition over resets is false while they are inactive, and true while they are active.
+fn is_test(look: &Look, cond: &Expr) -> Result<bool, NoMemory>
+    ensures { (l : n.Look) → Shows look.now l → IsFit l → IsFormed (tree_of cond.now) → IfOk result (λ b. b ≡ is_test_of l (at_level l false (tree_of cond.now)) (at_level l true (tree_of cond.now))) }
+{
+    let inactive = is_true_at(look, cond, false)?;
+    let active = is_true_at(look, cond, true)?;
+    Ok(inactive == Some(false) && active == Some(true))
+}
+
 /// Whether a condition over resets is true while they are at one of their levels.
-fn is_true_at(look: &Look, cond: &Expr, active: bool) -> Result<Option<bool>, NoMemory> {
+fn is_true_at(look: &Look, cond: &Expr, active: bool) -> Result<Option<bool>, NoMemory>
+    ensures { (l : n.Look) → Shows look.now l → IsFit l → IsFormed (tree_of cond.now) → IfOk result (λ o. o ≡ option_map (λ n. not (n == 0)) (at_level l active (tree_of cond.now))) }
+{
     let level = Look {
         alloc: look.alloc,
         names: look.names,
@@ -143,27 +189,43 @@ fn is_true_at(look: &Look, cond: &Expr, active: bool) -> Result<Option<bool>, No
 
 /// The values that a reset's branch gives, in textual order. `None` where the branch is neither a nonblocking assignment
 /// of a constant nor a block of these.
-pub fn reset_branch(look: &Look, branch: &Stmt) -> Result<Option<Vec<Given>>, NoMemory> {
-    let mut given = Vec::new(look.alloc);
+pub fn reset_branch(look: &Look, branch: &Stmt) -> Result<Option<Vec<Given>>, NoMemory>
+    ensures { (l : n.Look) → Shows look.now l → IsFit l → IsStmtFormed (stmt_tree_of branch.now) → IfOk result (λ o. AreGivenIf (length l.entries) (branch_given l (stmt_tree_of branch.now)) (option_map (λ v. v.items) o)) }
+{
     match branch {
-        Stmt::Block(stmts) => {
-            for stmt in stmts.as_slice() {
-                if !add_given(look, stmt, &mut given)? {
-                    return Ok(None);
-                }
-            }
-        }
-        stmt => {
-            if !add_given(look, stmt, &mut given)? {
-                return Ok(None);
-            }
+        Stmt::Block(stmts) => block_given(look, stmts.as_slice()),
+        stmt => row_given(look, stmt),
+    }
+}
+
+fn block_given(look: &Look, stmts: &[Stmt]) -> Result<Option<Vec<Given>>, NoMemory>
+    ensures { (l : n.Look) → Shows look.now l → IsFit l → AreRowsFormed (stmt_trees_of (map stmt_tree_of stmts.now)) → IfOk result (λ o. AreGivenIf (length l.entries) (rows_given_of l (stmt_trees_of (map stmt_tree_of stmts.now))) (option_map (λ v. v.items) o)) }
+{
+    let mut given = Vec::new(look.alloc);
+    for stmt in stmts {
+        if !add_given(look, stmt, &mut given)? {
+            return Ok(None);
         }
     }
     Ok(Some(given))
 }
 
+fn row_given(look: &Look, stmt: &Stmt) -> Result<Option<Vec<Given>>, NoMemory>
+    ensures { (l : n.Look) → Shows look.now l → IsFit l → IsStmtFormed (stmt_tree_of stmt.now) → IfOk result (λ o. AreGivenIf (length l.entries) (row_given_of l (stmt_tree_of stmt.now)) (option_map (λ v. v.items) o)) }
+{
+    let mut given = Vec::new(look.alloc);
+    if add_given(look, stmt, &mut given)? {
+        Ok(Some(given))
+    } else {
+        Ok(None)
+    }
+}
+
 /// Adds what an assignment of a reset's branch gives. Answers false where it hasn't the form.
-fn add_given(look: &Look, stmt: &Stmt, given: &mut Vec<Given>) -> Result<bool, NoMemory> {
+fn add_given(look: &Look, stmt: &Stmt, given: &mut Vec<Given>) -> Result<bool, NoMemory>
+    ensures { (l : n.Look) (us : List u.Given) → Shows look.now l → IsFit l → IsStmtFormed (stmt_tree_of stmt.now) → AreGiven (length l.entries) us given.old.items
+        → IfOk result (λ b. AddsGiven (length l.entries) us (row_given_of l (stmt_tree_of stmt.now)) b given.new.items) }
+{
     let Stmt::Set {
         blocking: false,
         target,
@@ -172,26 +234,55 @@ fn add_given(look: &Look, stmt: &Stmt, given: &mut Vec<Given>) -> Result<bool, N
     else {
         return Ok(false);
     };
-    let mut unheard = Faults::new(look.alloc, Order::Other);
     if has_variable_index(look, target)? {
         return Ok(false);
     }
+    add_constant(look, target, value, given)
+}
+
+/// Adds what an assignment without a variable index gives. Answers false where its value is no constant.
+fn add_constant(
+    look: &Look,
+    target: &Target,
+    value: &Expr,
+    given: &mut Vec<Given>,
+) -> Result<bool, NoMemory>
+    ensures { (l : n.Look) (us : List u.Given) → Shows look.now l → IsFit l → IsTargetFormed (target_tree_of target.now) → IsFormed (tree_of value.now)
+        → has_variable_index_of l (target_tree_of target.now) ≡ false → AreGiven (length l.entries) us given.old.items
+        → IfOk result (λ b. AddsGiven (length l.entries) us (row_given_of l (set_tree false (target_tree_of target.now) (tree_of value.now))) b given.new.items) }
+{
+    let mut unheard = Faults::new(look.alloc, Order::Other);
     let fixed = fixed_target(look, target, Assigned::Registers, &mut unheard)?;
     let value = resolve(look, value, &mut unheard)?;
-    if !value.is_constant || first_index(&fixed.target).is_some() {
-        return Ok(false);
+    if value.is_constant {
+        give_constant(look, &fixed, &value, given)?;
     }
+    Ok(value.is_constant)
+}
+
+/// Gives the target a constant, where neither of them breaks a rule.
+fn give_constant(
+    look: &Look,
+    fixed: &Fixed,
+    value: &Resolved,
+    given: &mut Vec<Given>,
+) -> Result<(), NoMemory>
+    ensures { (l : n.Look) (us : List u.Given) (a : Aim) (v : Term) → Shows look.now l → IsAim a fixed.now → IsRead v value.now → IsPlainAim l a → AreGiven (length l.entries) us given.old.items
+        → IfOk result (λ _. AreGiven (length l.entries) (us ++ given_by l v a) given.new.items) }
+{
     if fixed.is_sound && value.is_sound {
         let width = u8::try_from(fixed.width).unwrap_or(64);
         let word = assigned_value(&value.expr, width);
         give(look, &fixed.target, word, fixed.width, given)?;
     }
-    Ok(true)
+    Ok(())
 }
 
 /// Whether an index that is no constant stands in the target.
 #[cycle(has_variable_index)]
-fn has_variable_index(look: &Look, target: &Target) -> Result<bool, NoMemory> {
+fn has_variable_index(look: &Look, target: &Target) -> Result<bool, NoMemory>
+    ensures { (l : n.Look) → Shows look.now l → IsFit l → IsTargetFormed (target_tree_of target.now) → IfOk result (λ b. b ≡ has_variable_index_of l (target_tree_of target.now)) }
+{
     match target {
         Target::At { index, .. } => {
             let mut unheard = Faults::new(look.alloc, Order::Other);
@@ -204,7 +295,9 @@ fn has_variable_index(look: &Look, target: &Target) -> Result<bool, NoMemory> {
 }
 
 #[cycle(has_variable_index)]
-fn have_variable_index(look: &Look, targets: &[Target]) -> Result<bool, NoMemory> {
+fn have_variable_index(look: &Look, targets: &[Target]) -> Result<bool, NoMemory>
+    ensures { (l : n.Look) → Shows look.now l → IsFit l → AreTargetsFormed (target_trees_of (map target_tree_of targets.now)) → IfOk result (λ b. b ≡ has_variable_index_in l (target_trees_of (map target_tree_of targets.now))) }
+{
     for target in targets {
         if has_variable_index(look, target)? {
             return Ok(true);
@@ -222,7 +315,10 @@ fn give(
     word: u64,
     top: u64,
     given: &mut Vec<Given>,
-) -> Result<u64, NoMemory> {
+) -> Result<u64, NoMemory>
+    ensures { (l : n.Look) (us : List u.Given) → Shows look.now l → IsPlain (length l.entries) (target_of target.now) → target_size (width_at l.entries) (target_of target.now) ≤ top → top ≤ 64 → AreGiven (length l.entries) us given.old.items
+        → IfOk result (λ rest. Gives l us (target_of target.now) word top rest given.new.items) }
+{
     match target {
         FTarget::Whole { sig } => give_bits(*sig, 0, look.width(*sig), word, top, given),
         FTarget::Part { sig, at, width } => give_bits(*sig, *at, *width, word, top, given),
@@ -238,12 +334,15 @@ fn give_all(
     word: u64,
     top: u64,
     given: &mut Vec<Given>,
-) -> Result<u64, NoMemory> {
-    let mut top = top;
+) -> Result<u64, NoMemory>
+    ensures { (l : n.Look) (us : List u.Given) → Shows look.now l → ArePlain (length l.entries) (targets_of (map target_of targets.now)) → target_sizes (width_at l.entries) (targets_of (map target_of targets.now)) ≤ top → top ≤ 64 → AreGiven (length l.entries) us given.old.items
+        → IfOk result (λ rest. GivesAll l us (targets_of (map target_of targets.now)) word top rest given.new.items) }
+{
+    let mut left = top;
     for target in targets {
-        top = give(look, target, word, top, given)?;
+        left = give(look, target, word, left, given)?;
     }
-    Ok(top)
+    Ok(left)
 }
 
 fn give_bits(
@@ -253,27 +352,49 @@ fn give_bits(
     word: u64,
     top: u64,
     given: &mut Vec<Given>,
-) -> Result<u64, NoMemory> {
+) -> Result<u64, NoMemory>
+    ensures { (n : ℕ) (us : List u.Given) → sig < n → width ≤ top → top ≤ 64 → AreGiven n us given.old.items
+        → IfOk result (λ rest. (rest + width ≡ top) × AreGiven n (us ++ bits_given sig at width (word / 2 ^ (top - width)) ∷ []) given.new.items) }
+{
     let rest = top.saturating_sub(u64::from(width));
-    let value = shifted_right(word, rest) & low_bits(width);
-    push(
-        given,
-        Given {
-            sig,
-            mask: bits(at, width),
-            value: shifted_left(value, u64::from(at)),
-        },
-    )?;
+    let one = given_bits(sig, at, width, shifted_right(word, rest));
+    push(given, one)?;
     Ok(rest)
+}
+
+/// The lowest `width` bits of a word, given to the bits of a signal from `at` on.
+fn given_bits(sig: u32, at: u8, width: u8, word: u64) -> Given
+    ensures { (n : ℕ) → sig < n → width ≤ 64 → IsGiven n (bits_given sig at width word) result }
+{
+    Given {
+        sig,
+        mask: bits(at, width),
+        value: shifted_left(word & low_bits(width), u64::from(at)),
+    }
 }
 
 /// Keeps the values that a reset gives. They win over those of declarations and of `initial`, and later ones over
 /// earlier ones.
-pub fn keep_given(design: &mut Design, given: &[Given]) {
+pub fn keep_given(design: &mut Design, given: &[Given])
+    ensures { (pins : List ResetPin) (e : u.Design) (us : List u.Given) → ShowsDesign pins design.old e → AreGiven (length e.entries) us given.now → ShowsDesign pins design.new (record e { givens = e.givens ++ us }) }
+{
     for one in given {
-        if let Some(entry) = design.entry_mut(one.sig) {
-            entry.reset_known |= one.mask;
-            entry.reset_start = (entry.reset_start & !one.mask) | one.value;
-        }
+        keep_one(design, *one);
+    }
+}
+
+fn keep_one(design: &mut Design, one: Given)
+    ensures { (pins : List ResetPin) (e : u.Design) (v : u.Given) → ShowsDesign pins design.old e → IsGiven (length e.entries) v one → ShowsDesign pins design.new (record e { givens = e.givens ++ v ∷ [] }) }
+{
+    let place = usize::try_from(one.sig).unwrap_or(usize::MAX);
+    write_given(&mut design.entries, place, one);
+}
+
+fn write_given(entries: &mut Vec<Entry>, place: usize, one: Given)
+    ensures { entries.new.items ≡ with_given place one entries.old.items }
+{
+    if let Some(entry) = entries.get_mut(place) {
+        entry.reset_known |= one.mask;
+        entry.reset_start = (entry.reset_start & !one.mask) | one.value;
     }
 }

@@ -1,0 +1,11 @@
+pub mod Wires
+pub mod Started
+pub mod Ended
+pub mod StmtTrees
+pub mod ResetSignals
+pub mod Levels
+pub mod Given
+pub mod Keeping
+pub mod PlainAims
+pub mod ResetRows
+pub mod Processes

@@ -1,0 +1,307 @@
+-- Processes: their events, bodies and resets, from what the code has to the definition's.
+use Rattle.std.proofs.Common.{◌≡◌, ℕ, ◌<◌, ◌≤◌, Bool, true, false, cond, not, ◌&&◌, ◌||◌, ◌==◌, List, [], ◌∷◌, ◌++◌, length, get_or, Option, Some, None, refl, sym, ap, subst, ◌∙◌, arith, rules, append_assoc, append-nil, Box, Vec, Global}
+use Rattle.std.specs.Prelude.{flat_map, option_map, is_some, is_none, unwrap_or, slice_get}
+use Rattle.std.specs.Option.{option_map_or}
+use Rattle.std.specs.List.{list_all}
+use Rattle.verilog_ast.specs.declared.Edge.{Edge}
+use Rattle.verilog_ast.specs.declared.EdgeKind.{EdgeKind}
+use Rattle.verilog_ast.specs.declared.Expr.{Expr}
+use Rattle.verilog_ast.specs.declared.Stmt as s
+use Rattle.verilog_ast.specs.declared.Stmt.TheVariants as vs
+use Rattle.verilog_reading.specs.ExprTree.{tree_of}
+use Rattle.verilog_reading.specs.StmtTree.{StmtTree, null, set, when, either, switch, switch_else, block, StmtTrees, no_rows, and_rows, stmt_tree_of}
+use Rattle.flat_meaning.specs.Flat.{Stmt}
+use Rattle.flat_form.specs.declared.flat.FStmt.{FStmt}
+use Rattle.flat_form.specs.declared.flat.FStmt.TheVariants as form
+use Rattle.flat_unfolding.specs.Outcome.{Text, Broken, breaks, breaks_if}
+use Rattle.flat_unfolding.specs.Names.{Meaning, a_param, a_signal, a_memory, an_instance, Look, meaning, width_at, reset_at}
+use Rattle.flat_unfolding.specs.Expressions.{read}
+use Rattle.flat_unfolding.specs.Statements.{Kind, clocked, neither, done, done_all}
+use Rattle.flat_unfolding.specs.Resets as q
+use Rattle.flat_unfolding.specs.Resets.{peeled, peeled_rows, reset_signals, branch_given, form_in, reset_form, reset_rules, is_edge_of, is_active_edge}
+use Rattle.flat_unfolding.specs.Processes.{has_form, first_edge, second_edge, edge_rules, meant_clock, clock_of, event_rules, body_without, reset_gives}
+use Rattle.flat_unfolding.specs.Formed.{IsFormed, IsStmtFormed, AreRowsFormed}
+use Rattle.flat_unfolding.specs.Design as u
+use Rattle.flat_unfolding.proofs.Steps.{none_of_both, some_is}
+use Rattle.flat_names.specs.declared.scope.Look as v
+use Rattle.flat_names.specs.declared.design.Entry.{Entry}
+use Rattle.flat_names.specs.Looks.{Shows, IsFit}
+use Rattle.flat_names.specs.Noting.{Noted, all_noted}
+use Rattle.flat_names.proofs.Looked.{width-is}
+use Rattle.flat_names.proofs.Notes.{then-noted}
+use Rattle.flat_names.proofs.Options.{none-some, some-same}
+use Rattle.flat_statements.specs.Statements.{IsDone}
+use Rattle.flat_statements.proofs.Done.{done-null}
+use Rattle.flat_statements.proofs.Trees.{tree-when, tree-either}
+use Rattle.flat_process.specs.declared.reset.Given.{Given}
+use Rattle.flat_process.specs.declared.always.Clocked.{Clocked}
+use Rattle.flat_process.specs.declared.always.ResetForm.{ResetForm}
+use Rattle.flat_process.specs.Resets.{AreGiven, AreGivenIf}
+use Rattle.flat_process.specs.Processes.{is_wide_clock, IsBody, IsClocked, IsForm, IsFormIf}
+
+-- ---- bodies
+
+pub done-body : (l : Look) (k : Kind) (t : StmtTree) (r : FStmt) → IsDone (done l k t) r → IsBody (done l k t).stmt (done l k t).broken r
+done-body l k t r h = record { stmt = h.stmt; sizes = h.sizes }
+
+-- the same where more rules may be broken
+pub body-amid : (x : Stmt) (front bs back : List Broken) (r : FStmt) → IsBody x bs r → IsBody x (front ++ bs ++ back) r
+body-amid x front bs back r h = record {
+  stmt = λ e. h.stmt (none_of_both front bs (none_of_both (front ++ bs) back e).0).1;
+  sizes = λ e. h.sizes (none_of_both front bs (none_of_both (front ++ bs) back e).0).1;
+}
+
+-- ---- blocks of one statement
+
+module _ (l : Look) (k : Kind) where
+  mutual
+    -- what is in such blocks breaks no rule where they break none
+    peeled-clean : (t : StmtTree) → (done l k t).broken ≡ [] → (done l k (peeled t)).broken ≡ []
+    peeled-clean null e = e
+    peeled-clean (set b t v) e = e
+    peeled-clean (when c s) e = e
+    peeled-clean (either c s z) e = e
+    peeled-clean (switch v rows) e = e
+    peeled-clean (switch_else v rows d) e = e
+    peeled-clean (block rows) e = rows-clean rows e
+
+    rows-clean : (rows : StmtTrees) → (done_all l k rows).broken ≡ [] → (done l k (peeled_rows rows)).broken ≡ []
+    rows-clean no_rows e = e
+    rows-clean (and_rows s no_rows) e = peeled-clean s (none_of_both (done l k s).broken [] e).0
+    rows-clean (and_rows s (and_rows s' rest)) e = e
+
+-- what is in blocks of one statement is as readings of texts give it
+mutual
+  pub peeled-formed : (t : StmtTree) → IsStmtFormed t → IsStmtFormed (peeled t)
+  peeled-formed null h = h
+  peeled-formed (set b t v) h = h
+  peeled-formed (when c s) h = h
+  peeled-formed (either c s z) h = h
+  peeled-formed (switch v rows) h = h
+  peeled-formed (switch_else v rows d) h = h
+  peeled-formed (block rows) h = rows-formed rows h
+
+  rows-formed : (rows : StmtTrees) → AreRowsFormed rows → IsStmtFormed (peeled_rows rows)
+  rows-formed no_rows h = h
+  rows-formed (and_rows s no_rows) h = peeled-formed s h.0
+  rows-formed (and_rows s (and_rows s' rest)) h = h
+
+-- ---- reset form
+
+module _ (l : Look) where
+  -- the other branch breaks no rule where the whole breaks none
+  form-clean : (t : StmtTree) (f : q.ResetForm) → form_in l t ≡ Some f → (done l clocked t).broken ≡ [] → (done l clocked f.rest).broken ≡ []
+  form-clean null f e c = absurd (search (rules, e))
+  form-clean (set b t v) f e c = absurd (search (rules, e))
+  form-clean (switch v rows) f e c = absurd (search (rules, e))
+  form-clean (switch_else v rows d) f e c = absurd (search (rules, e))
+  form-clean (block rows) f e c = absurd (search (rules, e))
+  form-clean (when k s) f e c = go (reset_signals l k) e
+    where
+      go : (o : Option (List ℕ)) → option_map (λ ss. record { signals = ss; given = branch_given l s; rest = null }) o ≡ Some f → (done l clocked f.rest).broken ≡ []
+      go None i = absurd (search (rules, i))
+      go (Some ss) i = subst (λ (g : q.ResetForm). (done l clocked g.rest).broken ≡ []) (some_is _ f i) refl
+  form-clean (either k s z) f e c = go (reset_signals l k) e
+    where
+      go : (o : Option (List ℕ)) → option_map (λ ss. record { signals = ss; given = branch_given l s; rest = z }) o ≡ Some f → (done l clocked f.rest).broken ≡ []
+      go None i = absurd (search (rules, i))
+      go (Some ss) i = subst (λ (g : q.ResetForm). (done l clocked g.rest).broken ≡ []) (some_is _ f i)
+          (none_of_both ((read l k).broken ++ (done l clocked s).broken) (done l clocked z).broken c).1
+
+  rest-clean : (t : StmtTree) (f : q.ResetForm) → reset_form l t ≡ Some f → (done l clocked t).broken ≡ [] → (done l clocked f.rest).broken ≡ []
+  rest-clean t f e c = form-clean (peeled t) f e (peeled-clean l clocked t c)
+
+  -- a body without reset form stays whole
+  pub whole-body : (c : ℕ) (t : StmtTree) (p : Clocked) → p.clock ≡ c → p.given.items ≡ [] → IsDone (done l clocked t) p.body → IsFormIf l (reset_form l t) None
+      → IsClocked (length l.entries) c (body_without l t (reset_form l t)) (reset_gives l (reset_form l t)) (done l clocked t).broken p
+  whole-body c t p e g d h = go (reset_form l t) h
+    where
+      go : (o : Option q.ResetForm) → IsFormIf l o None → IsClocked (length l.entries) c (body_without l t o) (reset_gives l o) (done l clocked t).broken p
+      go None h = record { clock = e; body = done-body l clocked t p.body d; given = subst (AreGiven (length l.entries) []) (sym g) tt }
+      go (Some f) h = absurd h
+
+  -- what a first branch gives, nothing where it hasn't its form
+  given-or : (gs : Option (List u.Given)) (o : Option (List Given)) → AreGivenIf (length l.entries) gs o → AreGiven (length l.entries) (unwrap_or gs []) (unwrap_or o [])
+  given-or None None h = tt
+  given-or None (Some xs) h = absurd h
+  given-or (Some us) None h = absurd h
+  given-or (Some us) (Some xs) h = h
+
+  pub items-or : (o : Option (Vec Given Global)) (x y : Vec Given Global) → y ≡ unwrap_or o x → x.items ≡ [] → y.items ≡ unwrap_or (option_map (λ (v : Vec Given Global). v.items) o) []
+  items-or None x y e h = ap (λ (v : Vec Given Global). v.items) e ∙ h
+  items-or (Some z) x y e h = ap (λ (v : Vec Given Global). v.items) e
+
+  -- one with reset form leaves out the reset's branch
+  pub rest-body : (c : ℕ) (t : StmtTree) (r : ResetForm) (p : Clocked) → p.clock ≡ c → p.body ≡ r.rest → p.given.items ≡ unwrap_or (option_map (λ (v : Vec Given Global). v.items) r.given) []
+      → IsFormIf l (reset_form l t) (Some r) → IsClocked (length l.entries) c (body_without l t (reset_form l t)) (reset_gives l (reset_form l t)) (done l clocked t).broken p
+  rest-body c t r p e b g h = go (reset_form l t) refl h
+    where
+      go : (o : Option q.ResetForm) → reset_form l t ≡ o → IsFormIf l o (Some r) → IsClocked (length l.entries) c (body_without l t o) (reset_gives l o) (done l clocked t).broken p
+      go None i h = absurd h
+      go (Some f) i h = record {
+        clock = e;
+        body = subst (λ x. IsBody (done l clocked f.rest).stmt (done l clocked t).broken x) (sym b) (record { stmt = λ k. h.rest.stmt (rest-clean t f i k); sizes = λ k. h.rest.sizes (rest-clean t f i k) });
+        given = subst (AreGiven (length l.entries) (unwrap_or f.given [])) (sym g) (given-or f.given (option_map (λ (v : Vec Given Global). v.items) r.given) h.given);
+      }
+
+-- what stands in the other branch
+abbrev pub rest_of : Option (Box s.Stmt Global) → StmtTree
+rest_of None = null
+rest_of (Some z) = stmt_tree_of z.value
+
+-- the form of a branch whose condition has these signals
+abbrev form_with : Look → (first rest : StmtTree) → List ℕ → q.ResetForm
+form_with l first rest ss = record { signals = ss; given = branch_given l first; rest = rest }
+
+module _ (l : Look) (x : s.Stmt) (k : Expr) (y : Box s.Stmt Global) where
+  -- the parts of a branch are as readings of texts give them
+  pub branch-formed : (o : Option (Box s.Stmt Global)) → x ≡ vs.If k y o → IsStmtFormed (stmt_tree_of x) → IsFormed (tree_of k) × IsStmtFormed (stmt_tree_of y.value) × IsStmtFormed (rest_of o)
+  branch-formed None e h = let i = subst IsStmtFormed (ap stmt_tree_of e ∙ tree-when k y) h in (i.0, i.1, tt)
+  branch-formed (Some z) e h = subst IsStmtFormed (ap stmt_tree_of e ∙ tree-either k y z) h
+
+  -- a branch whose condition tests no reset has no reset form
+  pub no-reset : (o : Option (Box s.Stmt Global)) → x ≡ vs.If k y o → None ≡ reset_signals l (tree_of k) → IsFormIf l (form_in l (stmt_tree_of x)) None
+  no-reset None e h = subst (λ t. IsFormIf l (form_in l t) None) (sym (ap stmt_tree_of e ∙ tree-when k y)) (subst (λ ss. IsFormIf l (option_map (form_with l (stmt_tree_of y.value) null) ss) None) h tt)
+  no-reset (Some z) e h = subst (λ t. IsFormIf l (form_in l t) None) (sym (ap stmt_tree_of e ∙ tree-either k y z)) (subst (λ ss. IsFormIf l (option_map (form_with l (stmt_tree_of y.value) (stmt_tree_of z.value)) ss) None) h tt)
+
+  -- one whose condition tests a reset has it
+  pub has-reset : (o : Option (Box s.Stmt Global)) (r : ResetForm) → x ≡ vs.If k y o → Some r.signals.items ≡ reset_signals l (tree_of k)
+      → AreGivenIf (length l.entries) (branch_given l (stmt_tree_of y.value)) (option_map (λ (v : Vec Given Global). v.items) r.given) → IsDone (done l clocked (rest_of o)) r.rest → IsFormIf l (form_in l (stmt_tree_of x)) (Some r)
+  has-reset None r e h g d = subst (λ t. IsFormIf l (form_in l t) (Some r)) (sym (ap stmt_tree_of e ∙ tree-when k y))
+      (subst (λ ss. IsFormIf l (option_map (form_with l (stmt_tree_of y.value) null) ss) (Some r)) h (record { signals = refl; given = g; rest = d }))
+  has-reset (Some z) r e h g d = subst (λ t. IsFormIf l (form_in l t) (Some r)) (sym (ap stmt_tree_of e ∙ tree-either k y z))
+      (subst (λ ss. IsFormIf l (option_map (form_with l (stmt_tree_of y.value) (stmt_tree_of z.value)) ss) (Some r)) h (record { signals = refl; given = g; rest = d }))
+
+module _ (l : Look) where
+  -- what the code reads as the other branch, where there is one and where there is none
+  pub some-rest : (o : Option (Box s.Stmt Global)) (z : Box s.Stmt Global) (a : s.Stmt) (r n : FStmt) → o ≡ Some z → a ≡ z.value → n ≡ r → IsDone (done l clocked (stmt_tree_of a)) r → IsDone (done l clocked (rest_of o)) n
+  some-rest o z a r n e i j d = subst (IsDone (done l clocked (rest_of o))) (sym j)
+      (subst (λ k. IsDone (done l clocked (rest_of k)) r) (sym e) (subst (λ (k : s.Stmt). IsDone (done l clocked (stmt_tree_of k)) r) i d))
+
+  pub no-rest : (o : Option (Box s.Stmt Global)) (n : FStmt) → o ≡ None → n ≡ form.Null → IsDone (done l clocked (rest_of o)) n
+  no-rest o n e j = subst (IsDone (done l clocked (rest_of o))) (sym j) (subst (λ k. IsDone (done l clocked (rest_of k)) form.Null) (sym e) (done-null l clocked))
+
+-- ---- events
+
+module _ (l : Look) where
+  -- a clock is declared
+  clock-there : IsFit l → (edges : List Edge) (s : ℕ) → Some s ≡ clock_of l edges → s < length l.entries
+  clock-there fit [] s e = none-some s (sym e)
+  clock-there fit (c ∷ rest) s e = go (meaning l c.name) refl e
+    where
+      go : (m : Option Meaning) → meaning l c.name ≡ m → Some s ≡ meant_clock l m → s < length l.entries
+      go None k e = none-some s (sym e)
+      go (Some (a_param p)) k e = none-some s (sym e)
+      go (Some (a_signal t)) k e = subst (λ i. i < length l.entries) (sym (some-same s t e)) (fit.signals c.name t k)
+      go (Some (a_memory m)) k e = none-some s (sym e)
+      go (Some an_instance) k e = none-some s (sym e)
+
+  pub wide-clock : (k : v.Look) → Shows k l → IsFit l → (edges : List Edge) (s n : ℕ) → Some s ≡ clock_of l edges → n ≡ option_map_or (λ (x : Entry). x.width) (slice_get k.entries.now s) 1 → not (n == 1) ≡ is_wide_clock l edges
+  wide-clock k h fit edges s n e w = ap (λ i. not (i == 1)) (w ∙ width-is k l h s (clock-there fit edges s e)) ∙ ap (λ o. option_map_or (λ i. not (width_at l.entries i == 1)) o false) e
+
+  -- an event without its form breaks a rule
+  no-form-breaks : (edges : List Edge) → has_form edges ≡ false → event_rules l edges ≡ [] → ⊥
+  no-form-breaks edges e h = go (is_wide_clock l edges) (none_of_both (flat_map (edge_rules l (first_edge edges)) edges) _ h).1
+    where
+      go : (b : Bool) → breaks_if (not (has_form edges) || b) 316 (first_edge edges) ≡ [] → ⊥
+      go b k = let n = subst (λ a. breaks_if (not a || b) 316 (first_edge edges) ≡ []) e k in absurd (search (rules, n))
+
+-- a rule that is noted where a test is true
+pub told-if : (f g : Noted) (t : Bool) (n : ℕ) (x y : Text) (bs : List Broken) → t ≡ true → g ≡ all_noted f (breaks n x) → x ≡ y → breaks_if t n y ≡ bs → g ≡ all_noted f bs
+told-if f g t n x y bs e d i k = d ∙ ap (λ z. all_noted f (breaks n z)) i ∙ ap (λ b. all_noted f (breaks_if b n y)) (sym e) ∙ ap (all_noted f) k
+
+pub untold : (f : Noted) (t : Bool) (n : ℕ) (y : Text) (bs : List Broken) → t ≡ false → breaks_if t n y ≡ bs → f ≡ all_noted f bs
+untold f t n y bs e k = ap (λ b. all_noted f (breaks_if b n y)) (sym e) ∙ ap (all_noted f) k
+
+-- the second edge of two or more
+pub second-is : (edges : List Edge) (e : Edge) → 2 ≤ length edges → e ≡ get_or edges 1 e → second_edge edges ≡ Some e
+second-is [] e h i = absurd (omega arith)
+second-is (c ∷ []) e h i = absurd (omega arith)
+second-is (c ∷ d ∷ rest) e h i = ap Some (sym i)
+
+-- ---- edges of resets
+
+pub or-left : (a b : Bool) → a ≡ true → a ≡ (a || b)
+or-left true b e = refl
+or-left false b e = absurd (search (rules, e))
+
+pub or-right : (a b : Bool) → a ≡ false → b ≡ (a || b)
+or-right true b e = absurd (search (rules, e))
+or-right false b e = refl
+
+module _ (l : Look) where
+  -- whether an edge is that of a reset, by what its name stands for
+  abbrev edge_by : List ℕ → EdgeKind → Option Meaning → Bool
+  edge_by ss k (Some (a_signal s)) = option_map_or (is_active_edge k) (reset_at l.entries s) false && list_all (λ t. t == s) ss
+  edge_by ss k m = false
+
+  pub is-edge : (ss : List ℕ) (e : Edge) (s : ℕ) → meaning l e.name ≡ Some (a_signal s) → is_edge_of l ss e ≡ (option_map_or (is_active_edge e.kind) (reset_at l.entries s) false && list_all (λ t. t == s) ss)
+  is-edge ss e s h = ap (edge_by ss e.kind) h
+
+  -- a first branch has its form in the code just where it has it in the definition
+  none-given : (us : Option (List u.Given)) (o : Option (Vec Given Global)) → AreGivenIf (length l.entries) us (option_map (λ (v : Vec Given Global). v.items) o) → is_none o ≡ is_none us
+  none-given None None h = refl
+  none-given None (Some v) h = absurd h
+  none-given (Some us) None h = absurd h
+  none-given (Some us) (Some v) h = refl
+
+  pub not-given : (f : q.ResetForm) (r : ResetForm) (b : Bool) → IsForm l f r → is_some r.given ≡ not b → b ≡ is_none f.given
+  not-given f r b h e = go r.given b e ∙ none-given f.given r.given h.given
+    where
+      go : (o : Option (Vec Given Global)) (b : Bool) → is_some o ≡ not b → b ≡ is_none o
+      go None true e = refl
+      go None false e = absurd (search (rules, e))
+      go (Some v) true e = absurd (search (rules, e))
+      go (Some v) false e = refl
+
+  -- what a body with reset form breaks, and one without it
+  pub form-breaks : (first : Text) (second : Option Edge) (f : Option q.ResetForm) (r : ResetForm) (b : Bool) → IsFormIf l f (Some r)
+      → ((g : q.ResetForm) → IsForm l g r → b ≡ (not (option_map_or (is_edge_of l g.signals) second true) || is_none g.given)) → breaks_if b 317 first ≡ reset_rules l first second f
+  form-breaks first second None r b h k = absurd h
+  form-breaks first None (Some g) r b h k = ap (λ t. breaks_if t 317 first) (k g h)
+  form-breaks first (Some e) (Some g) r b h k = ap (λ t. breaks_if t 317 first) (k g h)
+
+  pub no-form-tells : (first : Text) (second : Option Edge) (f : Option q.ResetForm) (b : Bool) → IsFormIf l f None → b ≡ is_some second → breaks_if b 317 first ≡ reset_rules l first second f
+  no-form-tells first None None b h e = ap (λ t. breaks_if t 317 first) e
+  no-form-tells first (Some x) None b h e = ap (λ t. breaks_if t 317 first) e
+  no-form-tells first second (Some g) b h e = absurd h
+
+-- ---- clocked processes
+
+-- a clocked process where more rules may be broken
+pub clocked-amid : (n c m : ℕ) (x : Stmt) (us : List u.Given) (front bs back : List Broken) (p : Clocked) → m ≡ c → IsClocked n m x us bs p → IsClocked n c x us (front ++ bs ++ back) p
+clocked-amid n c m x us front bs back p e h = record { clock = h.clock ∙ e; body = body-amid x front bs back p.body h.body; given = h.given }
+
+module _ (l : Look) (edges : List Edge) (t : StmtTree) where
+  -- what a process breaks, by whether its event has its form
+  abbrev rules_at : Bool → List Broken
+  rules_at b = event_rules l edges ++ (done l (cond b clocked neither) t).broken ++ reset_rules l (first_edge edges) (cond b (second_edge edges) None) (cond b (reset_form l t) None)
+
+  -- a process with what it notes
+  abbrev IsProcess : ℕ → Noted → Clocked → Noted → Bool → Type 0
+  IsProcess c f p h b = IsClocked (length l.entries) c (body_without l t (cond b (reset_form l t) None)) (reset_gives l (cond b (reset_form l t) None)) (rules_at b) p × (h ≡ all_noted f (rules_at b))
+
+  -- an event with its form, and one without it
+  pub formed-process : (c m : ℕ) (f g h : Noted) (p : Clocked) → m ≡ c → has_form edges ≡ true → g ≡ all_noted f (event_rules l edges)
+      → IsClocked (length l.entries) m (body_without l t (reset_form l t)) (reset_gives l (reset_form l t)) (done l clocked t).broken p
+      → h ≡ all_noted g ((done l clocked t).broken ++ reset_rules l (first_edge edges) (second_edge edges) (reset_form l t)) → IsProcess c f p h (has_form edges)
+  formed-process c m f g h p same e i k j = subst (IsProcess c f p h) (sym e) (
+    clocked-amid (length l.entries) c m (body_without l t (reset_form l t)) (reset_gives l (reset_form l t)) (event_rules l edges) (done l clocked t).broken
+        (reset_rules l (first_edge edges) (second_edge edges) (reset_form l t)) p same k,
+    then-noted f g h (event_rules l edges) ((done l clocked t).broken ++ reset_rules l (first_edge edges) (second_edge edges) (reset_form l t)) i j
+        ∙ ap (all_noted f) (sym (append_assoc (event_rules l edges) (done l clocked t).broken (reset_rules l (first_edge edges) (second_edge edges) (reset_form l t)))),
+  )
+
+  pub formless-process : (c : ℕ) (f g h : Noted) (p : Clocked) → has_form edges ≡ false → g ≡ all_noted f (event_rules l edges) → p.clock ≡ c → p.given.items ≡ []
+      → h ≡ all_noted g (done l neither t).broken → IsProcess c f p h (has_form edges)
+  formless-process c f g h p e i k none j = subst (IsProcess c f p h) (sym e) (
+    record {
+      clock = k;
+      body = record { stmt = λ b. absurd (tells b); sizes = λ b. absurd (tells b) };
+      given = subst (AreGiven (length l.entries) []) (sym none) tt;
+    },
+    then-noted f g h (event_rules l edges) (done l neither t).broken i j ∙ ap (all_noted f) (sym (append-nil (event_rules l edges ++ (done l neither t).broken))),
+  )
+    where
+      tells : (event_rules l edges ++ (done l neither t).broken) ++ [] ≡ [] → ⊥
+      tells b = no-form-breaks l edges e (none_of_both (event_rules l edges) (done l neither t).broken (none_of_both (event_rules l edges ++ (done l neither t).broken) [] b).0).0

@@ -1,0 +1,4 @@
+pub mod Assigns
+pub mod Starts
+pub mod Resets
+pub mod Processes
