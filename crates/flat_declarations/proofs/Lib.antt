@@ -1,0 +1,14 @@
+pub mod Named
+pub mod Tables
+pub mod Rules
+pub mod Values
+pub mod Kept
+pub mod Held
+pub mod Ended
+pub mod Formed
+pub mod Walks
+pub mod Headers
+pub mod Shown
+pub mod Judged
+pub mod Declares
+pub mod Added

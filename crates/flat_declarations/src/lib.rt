@@ -1,0 +1,5 @@
+//! Parameters and declarations of a module, added to its flat design.
+#![tactic(auto)]
+
+pub mod declare;
+pub mod parameter;
