@@ -1,19 +1,21 @@
 //! Flat designs: a source with its instances unfolded, its names resolved and its constants computed.
 #![tactic(auto)]
 
-ghost use Rattle.std.specs.Prelude.{IfErr};
+ghost use Rattle.std.specs.Prelude.{IfOk, IfErr};
 ghost use Rattle.refusals.specs.Numbers.{HasNumberIn, unfolding_numbers};
+ghost use Rattle.verilog_reading.specs.SourceTree.{source_of};
+ghost use Rattle.flat_unfolding.specs.Formed.{IsSourceFormed};
+ghost use Rattle.flat_unfolding.specs.Unfolding.{unfolded_source, IsUnfolding};
+ghost use Rattle.flat_unfolding.specs.Widths.{KeepsSizes};
+ghost use Rattle.signal_names.specs.Laws.{IsSourceVisible};
+ghost use Rattle.flat_design.specs.Flattened.{IsFlattened};
 
-mod declare;
-mod drivers;
 mod finish;
 mod instance;
-mod parameter;
 mod visit;
 
 use cdc_base::{Name, ResetPin, Stop};
-use drivers::try_drivers;
-use finish::finished;
+use finish::checked;
 pub use flat_form::{FCaseItem, FExpr, FStmt, FTarget, Flat, FlatAssign, FlatClocked, FlatComb};
 use flat_names::fault::{Rule, refused};
 use std::alloc::Global;
@@ -32,6 +34,9 @@ pub fn flatten(
     top: &Name,
     resets: &[ResetPin],
 ) -> Result<Flat, Stop>
+    ensures exact { IsSourceFormed (source_of source.now) → IsUnfolding (unfolded_source source.now top.now resets.now) result }
+    ensures sizes { IsSourceFormed (source_of source.now) → IfOk result KeepsSizes }
+    ensures fact { IsSourceFormed (source_of source.now) → IsSourceVisible (source_of source.now) → IfOk result IsFlattened }
     ensures numbered { IfErr result (HasNumberIn unfolding_numbers) }
 {
     let library = Library::new(alloc, source)?;
@@ -40,6 +45,5 @@ pub fn flatten(
     };
     let mut visit = Visit::new(&library)?;
     visit_top(&library, number, resets, &mut visit)?;
-    try_drivers(alloc, &visit.design)?;
-    Ok(finished(alloc, visit.design)?)
+    checked(alloc, visit.design)
 }

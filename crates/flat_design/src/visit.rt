@@ -1,13 +1,37 @@
 //! The visit of modules, each instance in its place.
-ghost use Rattle.std.specs.Prelude.{IfErr};
+ghost use Rattle.std.specs.Prelude.{◌≡◌, ◌==◌, ◌<◌, ◌^◌, ◌++◌, ◌∷◌, ℕ, false, cond, List, [], map, filter_map, length, string_bytes, codes, All, Some, None, is_some, option_map, option_copied, option_and_then, slice_get, slice_set, IfOk, IfErr};
+ghost use Rattle.std.specs.List.{list_any, AllZip};
+ghost use Rattle.std.specs.Cmp.Lexicographic.{pointwise};
 ghost use Rattle.refusals.specs.Numbers.{HasNumberIn, unfolding_numbers};
+ghost use Rattle.cdc_base.specs.declared.signal.ResetPin as pin;
+ghost use Rattle.cdc_base.specs.declared.signal.Signal.{Signal};
+ghost use Rattle.flat_names.specs.declared.design.Entry.{Entry};
+ghost use Rattle.verilog_ast.specs.declared.Module as code;
+ghost use Rattle.verilog_reading.specs.SourceTree.{ItemTree, ModuleTree, PortTree, decl_of, body_of, item_of as item_tree_of, port_of, conns_of, module_of};
+ghost use Rattle.flat_unfolding.specs.Outcome.{Text, then_, each};
+ghost use Rattle.flat_unfolding.specs.Names as meanings;
+ghost use Rattle.flat_unfolding.specs.Names.{printed_part};
+ghost use Rattle.flat_unfolding.specs.Parameters as law_parameters;
+ghost use Rattle.flat_unfolding.specs.Declarations as law_declarations;
+ghost use Rattle.flat_unfolding.specs.Declarations.{header_of};
+ghost use Rattle.flat_unfolding.specs.Instances.{Link, connected};
+ghost use Rattle.flat_unfolding.specs.Design as grown;
+ghost use Rattle.flat_unfolding.specs.Design.{Stage, look_of, no_design, change_entry};
+ghost use Rattle.flat_unfolding.specs.Formed.{IsFormedIf, IsPortFormed, IsBodyFormed, AreConnsFormed, IsModuleFormed};
+ghost use Rattle.flat_unfolding.specs.Targets.{is_input as is_inward};
+ghost use Rattle.flat_unfolding.specs.Unfolding as law;
+ghost use Rattle.flat_unfolding.specs.Unfolding.{declared_value, header_values, top_ports, top_port, top_input};
+ghost use Rattle.flat_names.specs.Looks.{meaning_of, IsFit};
+ghost use Rattle.flat_names.specs.Designs.{ShowsNames, ShowsDesign, ShowsStage, Meets, Ends};
+ghost use Rattle.flat_declarations.specs.Declaring.{MeetsFit, ShowsOverrides, AreFitOverrides};
+ghost use Rattle.flat_design.specs.Visiting.{ShowsPorts, IsLinkOf, IsNumber, IsLibrary, Lists, Frame, rest_of, part_in, part_of, item_before, IsVisiting, AreMarked, next_of, Goes, IsGrown, Steps, Begins, Enters, instance_tree, Finds, AreEnds, if_signal, pin_in, ShowsPins, outside_if, resolved_if, mark_at, prefix_of, is_declaration as is_declaration_of, declares as declares_of, IsPlain, IsFitDesign, AreFitNames};
 
-use crate::declare::add_declarations;
 use crate::instance::{Connection, Ports, add_connections, connections_of, overrides_of, ports_of};
-use crate::parameter::{Overrides, add_parameters};
-use cdc_base::{Name, NoMemory, Place, ResetPin, SigKind, Stop};
+use cdc_base::{Name, NoMemory, Place, ResetPin, SigKind, Signal, Stop};
+use flat_declarations::declare::add_declarations;
+use flat_declarations::parameter::{Overrides, add_parameters};
 use flat_form::memory::{append, push};
-use flat_names::design::{Design, Reset, Role};
+use flat_names::design::{Design, Entry, Reset, Role};
 use flat_names::fault::{Faults, Order, Rule, refused};
 use flat_names::printed::append_part;
 use flat_names::scope::{Look, Meaning, Names, define};
@@ -16,7 +40,7 @@ use flat_process::assign::{add_assign, add_gate, add_wire_value};
 use flat_process::start::{add_declared_start, add_initial};
 use indexmap::IndexMap;
 use std::alloc::Global;
-use verilog_ast::{Conns, Decl, DeclKind, Item, ItemBody, Module, Source};
+use verilog_ast::{Conns, Decl, DeclKind, Item, ItemBody, Module, Port, Source};
 
 /// The source with its modules by name.
 #[derive(Drop)]
@@ -29,6 +53,7 @@ pub struct Library<'a> {
 impl<'a> Library<'a> {
     /// Two modules of one name are refused.
     pub fn new(alloc: Global, source: &'a Source) -> Result<Library<'a>, Stop>
+        ensures exact { Lists source.entry.now.modules result }
         ensures numbered { IfErr result (HasNumberIn unfolding_numbers) }
     {
         let modules = source.modules.as_slice();
@@ -54,11 +79,21 @@ impl<'a> Library<'a> {
     }
 
     /// The number of the module with this name.
-    pub fn number(&self, name: &Name) -> Option<usize> {
+    pub fn number(&self, name: &Name) -> Option<usize>
+        ensures { IsLibrary self.now.modules.now self.now.by_name → IsNumber self.now.modules.now name.now result }
+    {
         self.by_name.get(name).copied()
     }
 
-    fn item(&self, module: usize, item: usize) -> Option<&Item> {
+    fn module(&self, number: usize) -> Option<&Module>
+        ensures { option_copied result ≡ slice_get self.now.modules.now number }
+    {
+        self.modules.get(number)
+    }
+
+    fn item(&self, module: usize, item: usize) -> Option<&Item>
+        ensures { option_copied result ≡ option_and_then (λ (m : code.Module). slice_get m.items item) (slice_get self.now.modules.now «module») }
+    {
         self.modules.get(module)?.items.as_slice().get(item)
     }
 }
@@ -81,50 +116,100 @@ pub struct Visit {
 }
 
 impl Visit {
-    pub fn new(library: &Library) -> Result<Visit, NoMemory> {
+    pub fn new(library: &Library) -> Result<Visit, NoMemory>
+        ensures { (pins : List pin.ResetPin) → IfOk result (λ v. (v.open.items ≡ []) × (v.is_open.items ≡ map (λ (m : code.Module). false) library.now.modules.now) × ShowsDesign pins v.design no_design) }
+    {
         let mut is_open = Vec::new(library.alloc);
-        for _ in library.modules {
+        for _module in library.modules {
             push(&mut is_open, false)?;
         }
         Ok(Visit {
             open: Vec::new(library.alloc),
             is_open,
-            design: Design::new(library.alloc),
+            design: empty_design(library.alloc),
         })
     }
 
-    fn is_visited(&self, module: usize) -> bool {
+    fn is_visited(&self, module: usize) -> bool
+        ensures { result ≡ mark_at self.now.is_open.items «module» }
+    {
         self.is_open.get(module).copied().unwrap_or(false)
     }
 
-    fn mark(&mut self, module: usize, is_open: bool) {
+    fn mark(&mut self, module: usize, is_open: bool)
+        ensures marks { self.new.is_open.items ≡ slice_set self.old.is_open.items «module» is_open }
+        ensures stack { self.new.open ≡ self.old.open }
+        ensures design { self.new.design ≡ self.old.design }
+    {
         if let Some(mark) = self.is_open.get_mut(module) {
             *mark = is_open;
         }
     }
 
     /// The printed instance names from the top to the module that is visited, each with its dot.
-    fn prefix(&self, library: &Library) -> Result<String, NoMemory> {
+    fn prefix(&self, library: &Library) -> Result<String, NoMemory>
+        ensures { IfOk result (λ t. string_bytes t ≡ prefix_of library.now.modules.now self.now.open.items) }
+    {
         let mut prefix = String::new(library.alloc);
-        for open in self.open.as_slice() {
-            let item = library.item(open.module, open.next.saturating_sub(1));
-            if let Some(ItemBody::Instance { name, .. }) = item.map(|item| &item.body) {
-                append_part(&mut prefix, name.as_str())?;
-                append(&mut prefix, ".")?;
-            }
+        for here in self.open.as_slice() {
+            let item = library.item(here.module, here.next.saturating_sub(1));
+            append_instance(&mut prefix, item)?;
         }
         Ok(prefix)
     }
 }
 
+/// The printed name of an instance, with its dot.
+fn append_instance(prefix: &mut String, item: Option<&Item>) -> Result<(), NoMemory>
+    ensures { IfOk result (λ _. string_bytes prefix.new ≡ string_bytes prefix.old ++ part_in (option_copied item.entry)) }
+{
+    let Some(item) = item else {
+        return Ok(());
+    };
+    match &item.body {
+        ItemBody::Instance { name, .. } => {
+            append_part(prefix, name.as_str())?;
+            append(prefix, ".")
+        }
+        _ => Ok(()),
+    }
+}
+
+fn empty_design(alloc: Global) -> Design
+    ensures { (pins : List pin.ResetPin) → ShowsDesign pins result no_design }
+{
+    Design {
+        signals: Vec::new(alloc),
+        entries: Vec::new(alloc),
+        assigns: Vec::new(alloc),
+        combs: Vec::new(alloc),
+        clocked: Vec::new(alloc),
+        outputs: Vec::new(alloc),
+    }
+}
+
 /// Whether a module declares anything.
-fn declares(module: &Module) -> bool {
-    module.ports.len() != 0
-        || module
-            .items
-            .as_slice()
-            .iter()
-            .any(|item| matches!(&item.body, ItemBody::Decl(_)))
+fn declares(module: &Module) -> bool
+    ensures { result ≡ declares_of (module_of «module».now) }
+{
+    module.ports.len() != 0 || declares_item(module.items.as_slice())
+}
+
+fn declares_item(items: &[Item]) -> bool
+    ensures { result ≡ list_any (λ (i : ItemTree). is_declaration_of i.body) (map item_tree_of items.now) }
+{
+    for item in items {
+        if is_declaration(&item.body) {
+            return true;
+        }
+    }
+    false
+}
+
+fn is_declaration(body: &ItemBody) -> bool
+    ensures { result ≡ is_declaration_of (body_of body.now) }
+{
+    matches!(body, ItemBody::Decl(_))
 }
 
 /// Visits the top and all that it has.
@@ -134,14 +219,42 @@ pub fn visit_top(
     resets: &[ResetPin],
     visit: &mut Visit,
 ) -> Result<(), Stop>
+    ensures exact { (m : code.Module) → IsLibrary library.now.modules.now library.now.by_name → All IsModuleFormed (map module_of library.now.modules.now) → slice_get library.now.modules.now top ≡ Some m
+        → visit.old.open.items ≡ [] → visit.old.is_open.items ≡ map (λ (q : code.Module). false) library.now.modules.now → ShowsDesign resets.now visit.old.design no_design
+        → Ends (IsGrown resets.now visit.new.design)
+        (law.visit (map module_of library.now.modules.now) (length library.now.modules.now) [] (m.name ∷ []) (module_of m) [] (top_ports resets.now (header_of (module_of m))) no_design) result }
     ensures numbered { IfErr result (HasNumberIn unfolding_numbers) }
 {
     let none = IndexMap::new(library.alloc);
     let names = begin(library, top, &none, visit)?;
-    if let Some(module) = library.modules.get(top) {
-        set_top_ports(library.alloc, module, resets, &names, &mut visit.design)?;
-    }
+    set_ports(library, top, resets, &names, &mut visit.design)?;
     open_module(library, top, names, visit)?;
+    visit_open(library, visit)
+}
+
+/// What the ports of the top are: what comes from outside, its resets, and its outputs.
+fn set_ports(
+    library: &Library,
+    top: usize,
+    resets: &[ResetPin],
+    names: &Names,
+    design: &mut Design,
+) -> Result<(), NoMemory>
+    ensures { (m : code.Module) (s : Stage) → slice_get library.now.modules.now top ≡ Some m → ShowsStage resets.now names.now design.old s → AreFitNames s.names (length s.design.entries)
+        → IfOk result (λ _. ShowsStage resets.now names.now design.new (top_ports resets.now (header_of (module_of m)) s)) }
+{
+    let Some(module) = library.module(top) else {
+        return Ok(());
+    };
+    set_top_ports(library.alloc, module, resets, names, design)
+}
+
+/// Visits what is left of the modules that are being visited.
+fn visit_open(library: &Library, visit: &mut Visit) -> Result<(), Stop>
+    ensures exact { (pins : List pin.ResetPin) (frames : List Frame) (d : grown.Design) → IsLibrary library.now.modules.now library.now.by_name → All IsModuleFormed (map module_of library.now.modules.now)
+        → IsVisiting pins library.now.modules.now visit.old.open.items visit.old.is_open.items visit.old.design frames d → Ends (IsGrown pins visit.new.design) (rest_of (map module_of library.now.modules.now) frames d) result }
+    ensures numbered { IfErr result (HasNumberIn unfolding_numbers) }
+{
     // A visit has fewer steps than any number that a machine could count to, so that the last line isn't met.
     for _ in 0..u64::MAX {
         if !step(library, visit)? {
@@ -158,25 +271,48 @@ fn begin(
     overrides: &Overrides,
     visit: &mut Visit,
 ) -> Result<Names, Stop>
+    ensures exact { (pins : List pin.ResetPin) (m : code.Module) (given : law_parameters.Overrides) (d : grown.Design) → slice_get library.now.modules.now «module» ≡ Some m → IsModuleFormed (module_of m)
+        → ShowsDesign pins visit.old.design d → IsFitDesign d → ShowsOverrides overrides.now given → AreFitOverrides given
+        → Begins pins (then_ (law_parameters.parameters given (module_of m) (record { names = []; design = d }))
+        (λ (s : Stage). law_declarations.declarations (prefix_of library.now.modules.now visit.old.open.items) (module_of m) s)) result visit.new.design }
+    ensures stack { visit.new.open ≡ visit.old.open }
+    ensures marks { visit.new.is_open ≡ visit.old.is_open }
     ensures numbered { IfErr result (HasNumberIn unfolding_numbers) }
 {
     let alloc = library.alloc;
     let mut names = IndexMap::new(alloc);
-    let Some(module) = library.modules.get(module) else {
+    let Some(module) = library.module(module) else {
         return Ok(names);
     };
     add_parameters(alloc, module, overrides, &mut names, &visit.design)?;
-    if declares(module) {
-        let prefix = visit.prefix(library)?;
-        add_declarations(
-            alloc,
-            module,
-            prefix.as_str(),
-            &mut names,
-            &mut visit.design,
-        )?;
-    }
+    declare(library, module, &mut names, visit)?;
     Ok(names)
+}
+
+/// Adds the declarations of a module.
+fn declare(
+    library: &Library,
+    module: &Module,
+    names: &mut Names,
+    visit: &mut Visit,
+) -> Result<(), Stop>
+    ensures exact { (pins : List pin.ResetPin) (s : Stage) → ShowsStage pins names.old visit.old.design s → IsFit (look_of s) → IsModuleFormed (module_of «module».now)
+        → MeetsFit pins names.new (law_declarations.declarations (prefix_of library.now.modules.now visit.old.open.items) (module_of «module».now) s) result visit.new.design }
+    ensures stack { visit.new.open ≡ visit.old.open }
+    ensures marks { visit.new.is_open ≡ visit.old.is_open }
+    ensures numbered { IfErr result (HasNumberIn unfolding_numbers) }
+{
+    if !declares(module) {
+        return Ok(());
+    }
+    let prefix = visit.prefix(library)?;
+    add_declarations(
+        library.alloc,
+        module,
+        prefix.as_str(),
+        names,
+        &mut visit.design,
+    )
 }
 
 /// Begins the visit of a module's items with the start values in its header.
@@ -186,15 +322,11 @@ fn open_module(
     names: Names,
     visit: &mut Visit,
 ) -> Result<(), Stop>
+    ensures exact { (pins : List pin.ResetPin) (m : code.Module) (s : Stage) → slice_get library.now.modules.now «module» ≡ Some m → IsModuleFormed (module_of m)
+        → ShowsStage pins names visit.old.design s → IsFit (look_of s) → Enters pins «module» names visit.old (header_values (module_of m) s) result visit.new }
     ensures numbered { IfErr result (HasNumberIn unfolding_numbers) }
 {
-    if let Some(found) = library.modules.get(module) {
-        for port in found.ports.as_slice() {
-            if let Some(decl) = &port.decl {
-                add_declared_value(library.alloc, found.place, decl, &names, &mut visit.design)?;
-            }
-        }
-    }
+    add_module_values(library, module, &names, &mut visit.design)?;
     visit.mark(module, true);
     let open = Open {
         module,
@@ -205,8 +337,69 @@ fn open_module(
     Ok(())
 }
 
+/// The start values in a module's header.
+fn add_module_values(
+    library: &Library,
+    module: usize,
+    names: &Names,
+    design: &mut Design,
+) -> Result<(), Stop>
+    ensures exact { (pins : List pin.ResetPin) (m : code.Module) (s : Stage) → slice_get library.now.modules.now «module» ≡ Some m → IsModuleFormed (module_of m)
+        → ShowsStage pins names.now design.old s → IsFit (look_of s) → Meets pins names.now (header_values (module_of m) s) result design.new }
+    ensures numbered { IfErr result (HasNumberIn unfolding_numbers) }
+{
+    let Some(found) = library.module(module) else {
+        return Ok(());
+    };
+    add_header_values(
+        library.alloc,
+        found.place,
+        found.ports.as_slice(),
+        names,
+        design,
+    )
+}
+
+/// The values of the declarations in a header.
+fn add_header_values(
+    alloc: Global,
+    place: Place,
+    header: &[Port],
+    names: &Names,
+    design: &mut Design,
+) -> Result<(), Stop>
+    ensures exact { (pins : List pin.ResetPin) (s : Stage) → ShowsStage pins names.now design.old s → IsFit (look_of s) → All IsPortFormed (map port_of header.now)
+        → Meets pins names.now (each (λ t d. declared_value t place d) s (filter_map (λ (p : PortTree). p.decl) (map port_of header.now))) result design.new }
+    ensures numbered { IfErr result (HasNumberIn unfolding_numbers) }
+{
+    for port in header {
+        add_port_value(alloc, place, port, names, design)?;
+    }
+    Ok(())
+}
+
+/// The value of a port's declaration.
+fn add_port_value(
+    alloc: Global,
+    place: Place,
+    port: &Port,
+    names: &Names,
+    design: &mut Design,
+) -> Result<(), Stop>
+    ensures exact { (pins : List pin.ResetPin) (s : Stage) → ShowsStage pins names.now design.old s → IsFit (look_of s) → IsPortFormed (port_of port.now)
+        → Meets pins names.now (each (λ t d. declared_value t place d) s (filter_map (λ (p : PortTree). p.decl) (port_of port.now ∷ []))) result design.new }
+    ensures numbered { IfErr result (HasNumberIn unfolding_numbers) }
+{
+    match &port.decl {
+        Some(decl) => add_declared_value(alloc, place, decl, names, design),
+        None => Ok(()),
+    }
+}
+
 /// One item of the innermost module, or its end. Answers whether there was a module left.
 fn step(library: &Library, visit: &mut Visit) -> Result<bool, Stop>
+    ensures exact { (pins : List pin.ResetPin) (frames : List Frame) (d : grown.Design) → IsLibrary library.now.modules.now library.now.by_name → All IsModuleFormed (map module_of library.now.modules.now)
+        → IsVisiting pins library.now.modules.now visit.old.open.items visit.old.is_open.items visit.old.design frames d → Steps pins library.now.modules.now frames d result visit.new }
     ensures numbered { IfErr result (HasNumberIn unfolding_numbers) }
 {
     let Some(mut open) = visit.open.pop() else {
@@ -216,35 +409,59 @@ fn step(library: &Library, visit: &mut Visit) -> Result<bool, Stop>
         visit.mark(open.module, false);
         return Ok(true);
     };
-    open.next = open.next.saturating_add(1);
-    match &item.body {
-        ItemBody::Instance {
+    let Some(next) = open.next.checked_add(1) else {
+        // No list is that long.
+        return Err(Stop::Memory);
+    };
+    open.next = next;
+    add_next(library, item, open, visit)?;
+    Ok(true)
+}
+
+/// One item of a module that is being visited.
+fn add_next(library: &Library, item: &Item, outer: Open, visit: &mut Visit) -> Result<(), Stop>
+    ensures exact { (pins : List pin.ResetPin) (frames : List Frame) (f : Frame) (d : grown.Design) → IsLibrary library.now.modules.now library.now.by_name → All IsModuleFormed (map module_of library.now.modules.now)
+        → IsVisiting pins library.now.modules.now (visit.old.open.items ++ outer ∷ []) visit.old.is_open.items visit.old.design (f ∷ frames) d
+        → item_before library.now.modules.now outer ≡ Some item.now
+        → Goes pins library.now.modules.now (next_of (map module_of library.now.modules.now) f frames d (item_tree_of item.now)) result visit.new }
+    ensures numbered { IfErr result (HasNumberIn unfolding_numbers) }
+{
+    if let ItemBody::Instance {
+        module,
+        params,
+        name,
+        ports,
+    } = &item.body
+    {
+        let instance = Instance {
+            place: item.place,
             module,
             params,
             name,
             ports,
-        } => {
-            let instance = Instance {
-                place: item.place,
-                module,
-                params,
-                name,
-                ports,
-            };
-            add_instance(library, &instance, open, visit)?;
-        }
-        body => {
-            add_item(
-                library.alloc,
-                item.place,
-                body,
-                &open.names,
-                &mut visit.design,
-            )?;
-            push(&mut visit.open, open)?;
-        }
+        };
+        return add_instance(library, &instance, outer, visit);
     }
-    Ok(true)
+    add_plain(library, item, outer, visit)
+}
+
+/// An item that isn't an instance.
+fn add_plain(library: &Library, item: &Item, outer: Open, visit: &mut Visit) -> Result<(), Stop>
+    ensures exact { (pins : List pin.ResetPin) (frames : List Frame) (f : Frame) (d : grown.Design) → IsLibrary library.now.modules.now library.now.by_name → All IsModuleFormed (map module_of library.now.modules.now)
+        → IsVisiting pins library.now.modules.now (visit.old.open.items ++ outer ∷ []) visit.old.is_open.items visit.old.design (f ∷ frames) d
+        → item_before library.now.modules.now outer ≡ Some item.now → IsPlain (body_of item.now.body)
+        → Goes pins library.now.modules.now (next_of (map module_of library.now.modules.now) f frames d (item_tree_of item.now)) result visit.new }
+    ensures numbered { IfErr result (HasNumberIn unfolding_numbers) }
+{
+    add_item(
+        library.alloc,
+        item.place,
+        &item.body,
+        &outer.names,
+        &mut visit.design,
+    )?;
+    push(&mut visit.open, outer)?;
+    Ok(())
 }
 
 /// An instance as the source has it.
@@ -264,23 +481,27 @@ fn add_instance(
     outer: Open,
     visit: &mut Visit,
 ) -> Result<(), Stop>
+    ensures exact { (pins : List pin.ResetPin) (frames : List Frame) (f : Frame) (d : grown.Design) → IsLibrary library.now.modules.now library.now.by_name → All IsModuleFormed (map module_of library.now.modules.now)
+        → IsVisiting pins library.now.modules.now (visit.old.open.items ++ outer ∷ []) visit.old.is_open.items visit.old.design (f ∷ frames) d
+        → part_of library.now.modules.now outer ≡ printed_part instance.now.name.now ++ codes "."
+        → AreConnsFormed (conns_of instance.now.params.now) → AreConnsFormed (conns_of instance.now.ports.now)
+        → Goes pins library.now.modules.now (next_of (map module_of library.now.modules.now) f frames d (instance_tree instance.now)) result visit.new }
     ensures numbered { IfErr result (HasNumberIn unfolding_numbers) }
 {
     let alloc = library.alloc;
     let number = instance_module(library, instance, &outer.names, visit)?;
-    let Some(module) = library.modules.get(number) else {
+    let Some(module) = library.module(number) else {
         return Ok(());
     };
     let ports = ports_of(alloc, module)?;
-    let word = instance.module.as_str();
-    let mut faults = Faults::new(alloc, Order::Other);
-    let (overrides, connections) = {
-        let look = visit.design.look(alloc, &outer.names);
-        let overrides = overrides_of(&look, module, word, instance.params, &mut faults)?;
-        let connections = connections_of(&look, module, word, &ports, instance.ports, &mut faults)?;
-        (overrides, connections)
-    };
-    faults.raise(instance.place)?;
+    let (overrides, connections) = ends_of(
+        alloc,
+        instance,
+        module,
+        &ports,
+        &outer.names,
+        &visit.design,
+    )?;
     let mut outer = outer;
     define(
         alloc,
@@ -293,6 +514,29 @@ fn add_instance(
     enter_module(library, number, names, (&ports, connections), visit)
 }
 
+/// The overrides and connections of an instance, where no rule is broken.
+fn ends_of(
+    alloc: Global,
+    instance: &Instance,
+    module: &Module,
+    ports: &Ports,
+    names: &Names,
+    design: &Design,
+) -> Result<(Overrides, Vec<Connection>), Stop>
+    ensures exact { (pins : List pin.ResetPin) (s : Stage) → ShowsStage pins names.now design.now s → IsFit (look_of s) → ShowsPorts ports.now (module_of «module».now)
+        → instance.now.«module».now ≡ «module».now.name → AreConnsFormed (conns_of instance.now.params.now) → AreConnsFormed (conns_of instance.now.ports.now)
+        → AreEnds pins ports.now s instance.now.place (module_of «module».now) (conns_of instance.now.params.now) (conns_of instance.now.ports.now) result }
+    ensures numbered { IfErr result (HasNumberIn unfolding_numbers) }
+{
+    let word = instance.module.as_str();
+    let mut faults = Faults::new(alloc, Order::Other);
+    let look = design.look(alloc, names);
+    let overrides = overrides_of(&look, module, word, instance.params, &mut faults)?;
+    let connections = connections_of(&look, module, word, ports, instance.ports, &mut faults)?;
+    faults.raise(instance.place)?;
+    Ok((overrides, connections))
+}
+
 /// Adds the connections of an instance whose module has begun, and goes into it.
 fn enter_module(
     library: &Library,
@@ -301,6 +545,9 @@ fn enter_module(
     ends: (&Ports, Vec<Connection>),
     visit: &mut Visit,
 ) -> Result<(), Stop>
+    ensures exact { (pins : List pin.ResetPin) (m : code.Module) (s : Stage) (links : List Link) → slice_get library.now.modules.now number ≡ Some m → IsModuleFormed (module_of m)
+        → ShowsStage pins names visit.old.design s → IsFit (look_of s) → AllZip (IsLinkOf pins ends.entry.0.now) ends.entry.1.items links
+        → Enters pins number names visit.old (header_values (module_of m) (connected links s)) result visit.new }
     ensures numbered { IfErr result (HasNumberIn unfolding_numbers) }
 {
     let (ports, connections) = ends;
@@ -315,6 +562,8 @@ fn instance_module(
     names: &Names,
     visit: &Visit,
 ) -> Result<usize, Stop>
+    ensures exact { (visiting : List Text) (s : Stage) → IsLibrary library.now.modules.now library.now.by_name → AreMarked library.now.modules.now visit.now.is_open.items visiting → ShowsNames names.now s.names
+        → Finds library.now.modules.now visiting s instance.now.place instance.now.«module».now instance.now.name.now result }
     ensures numbered { IfErr result (HasNumberIn unfolding_numbers) }
 {
     let place = Some(instance.place);
@@ -353,6 +602,8 @@ fn add_item(
     names: &Names,
     design: &mut Design,
 ) -> Result<(), Stop>
+    ensures exact { (pins : List pin.ResetPin) (s : Stage) (modules : List ModuleTree) (visiting : List Text) (prefix : Text) (inside : law.Visit) → ShowsStage pins names.now design.old s → IsFit (look_of s)
+        → IsBodyFormed (body_of body.now) → IsPlain (body_of body.now) → Meets pins names.now (law.item_of modules visiting prefix inside s place (body_of body.now)) result design.new }
     ensures numbered { IfErr result (HasNumberIn unfolding_numbers) }
 {
     match body {
@@ -377,6 +628,8 @@ fn add_declared_value(
     names: &Names,
     design: &mut Design,
 ) -> Result<(), Stop>
+    ensures exact { (pins : List pin.ResetPin) (s : Stage) → ShowsStage pins names.now design.old s → IsFit (look_of s) → IsFormedIf (decl_of decl.now).init
+        → Meets pins names.now (declared_value s place (decl_of decl.now)) result design.new }
     ensures numbered { IfErr result (HasNumberIn unfolding_numbers) }
 {
     match &decl.init {
@@ -396,47 +649,151 @@ fn set_top_ports(
     resets: &[ResetPin],
     names: &Names,
     design: &mut Design,
-) -> Result<(), NoMemory> {
+) -> Result<(), NoMemory>
+    ensures { (s : Stage) → ShowsStage resets.now names.now design.old s → AreFitNames s.names (length s.design.entries)
+        → IfOk result (λ _. ShowsStage resets.now names.now design.new (top_ports resets.now (header_of (module_of «module».now)) s)) }
+{
     let pins = pins_by_name(alloc, resets)?;
     for port in module.ports.as_slice() {
-        let Some(Meaning::Signal(sig)) = names.get(&port.name) else {
-            continue;
-        };
-        set_top_port(*sig, &pins, design)?;
+        if let Some(sig) = port_signal(names, &port.name) {
+            set_top_port(sig, &pins, design)?;
+        }
     }
     Ok(())
 }
 
-fn pins_by_name(alloc: Global, resets: &[ResetPin]) -> Result<IndexMap<Name, Reset>, NoMemory> {
+/// The signal of a port, where it is declared.
+fn port_signal(names: &Names, name: &Name) -> Option<u32>
+    ensures { (s : meanings.Names) → ShowsNames names.now s → result ≡ if_signal (meanings.meaning_in s name.now) }
+{
+    match names.get(name) {
+        Some(meaning) => signal_of(*meaning),
+        None => None,
+    }
+}
+
+fn signal_of(meaning: Meaning) -> Option<u32>
+    ensures { result ≡ if_signal (option_and_then meanings.as_value (Some (meaning_of meaning))) }
+{
+    match meaning {
+        Meaning::Signal(sig) => Some(sig),
+        _ => None,
+    }
+}
+
+/// The first pin of each name. More pins than numbers count as want of memory.
+fn pins_by_name(alloc: Global, resets: &[ResetPin]) -> Result<IndexMap<Name, Reset>, NoMemory>
+    ensures { IfOk result (λ table. ShowsPins table resets.now) }
+{
     let mut pins = IndexMap::new(alloc);
     for (number, pin) in resets.iter().enumerate() {
+        let Ok(number) = u32::try_from(number) else {
+            return Err(NoMemory);
+        };
         let reset = Reset {
-            pin: u32::try_from(number).unwrap_or(u32::MAX),
+            pin: number,
             is_high: pin.high,
         };
-        if pins.insert(pin.name.copy(alloc)?, reset).is_err() {
-            return Err(NoMemory);
-        }
+        add_pin(alloc, &mut pins, &pin.name, reset)?;
     }
     Ok(pins)
 }
 
-fn set_top_port(
-    sig: u32,
-    pins: &IndexMap<Name, Reset>,
-    design: &mut Design,
-) -> Result<(), NoMemory> {
-    let place = usize::try_from(sig).unwrap_or(usize::MAX);
-    let (Some(entry), Some(signal)) = (design.entries.get_mut(place), design.signals.get_mut(place))
-    else {
+/// Adds a pin, unless one of that name is there.
+fn add_pin(
+    alloc: Global,
+    pins: &mut IndexMap<Name, Reset>,
+    name: &Name,
+    reset: Reset,
+) -> Result<(), NoMemory>
+    ensures { IfOk result (λ _. (x : Text) → pin_in pins.new x ≡ cond (is_some (pin_in pins.old name.now)) (pin_in pins.old x) (cond (pointwise ◌==◌ name.now x) (Some reset) (pin_in pins.old x))) }
+{
+    if pins.contains_key(name) {
         return Ok(());
-    };
-    if entry.role == Role::Input {
-        signal.kind = SigKind::Input;
-        if entry.width == 1 {
-            entry.reset = pins.get(&signal.name).copied();
-        }
+    }
+    match pins.insert(name.copy(alloc)?, reset) {
+        Ok(_) => Ok(()),
+        Err(_) => Err(NoMemory),
+    }
+}
+
+fn set_top_port(sig: u32, pins: &IndexMap<Name, Reset>, design: &mut Design) -> Result<(), NoMemory>
+    ensures { (resets : List pin.ResetPin) (d : grown.Design) → ShowsPins pins.now resets → ShowsDesign resets design.old d → sig < length d.entries
+        → IfOk result (λ _. ShowsDesign resets design.new (top_port resets d (Some (meanings.a_signal sig)))) }
+{
+    if is_input(design, sig) {
+        set_top_input(design, sig, pins);
         return Ok(());
     }
     push(&mut design.outputs, sig)
+}
+
+fn is_input(design: &Design, sig: u32) -> bool
+    ensures { (resets : List pin.ResetPin) (d : grown.Design) → ShowsDesign resets design.now d → result ≡ is_inward (meanings.direction_at d.entries sig) }
+{
+    match entry(design, sig) {
+        Some(entry) => entry.role == Role::Input,
+        None => false,
+    }
+}
+
+fn entry(design: &Design, sig: u32) -> Option<&Entry>
+    ensures { option_copied result ≡ slice_get design.now.entries.items sig }
+{
+    design
+        .entries
+        .get(usize::try_from(sig).unwrap_or(usize::MAX))
+}
+
+/// What comes from outside, with the reset that it resolves to.
+fn set_top_input(design: &mut Design, sig: u32, pins: &IndexMap<Name, Reset>)
+    ensures { (resets : List pin.ResetPin) (d : grown.Design) → ShowsPins pins.now resets → ShowsDesign resets design.old d
+        → ShowsDesign resets design.new (record d { entries = change_entry (top_input resets) sig d.entries }) }
+{
+    let reset = top_reset(design, sig, pins);
+    set_outside(&mut design.signals, sig);
+    set_reset(&mut design.entries, sig, reset);
+}
+
+fn set_outside(signals: &mut Vec<Signal>, sig: u32)
+    ensures { (s : ℕ) → slice_get signals.new.items s ≡ option_map (outside_if (s == sig)) (slice_get signals.old.items s) }
+{
+    if let Some(signal) = signals.get_mut(usize::try_from(sig).unwrap_or(usize::MAX)) {
+        signal.kind = SigKind::Input;
+    }
+}
+
+fn set_reset(entries: &mut Vec<Entry>, sig: u32, reset: Option<Reset>)
+    ensures { (s : ℕ) → slice_get entries.new.items s ≡ option_map (resolved_if reset (s == sig)) (slice_get entries.old.items s) }
+{
+    if let Some(entry) = entries.get_mut(usize::try_from(sig).unwrap_or(usize::MAX)) {
+        entry.reset = reset;
+    }
+}
+
+/// The reset that a signal resolves to as an input of the top.
+fn top_reset(design: &Design, sig: u32, pins: &IndexMap<Name, Reset>) -> Option<Reset>
+    ensures { (x : Entry) (y : Signal) → slice_get design.now.entries.items sig ≡ Some x → slice_get design.now.signals.items sig ≡ Some y → result ≡ cond (x.width == 1) (pin_in pins.now y.name) None }
+{
+    let entry = entry(design, sig)?;
+    let signal = signal(design, sig)?;
+    reset_named(&signal.name, entry.width, pins)
+}
+
+fn signal(design: &Design, sig: u32) -> Option<&Signal>
+    ensures { option_copied result ≡ slice_get design.now.signals.items sig }
+{
+    design
+        .signals
+        .get(usize::try_from(sig).unwrap_or(usize::MAX))
+}
+
+/// The reset that an input of the top resolves to: that of its name, where it has one bit.
+fn reset_named(name: &Name, width: u8, pins: &IndexMap<Name, Reset>) -> Option<Reset>
+    ensures { result ≡ cond (width == 1) (pin_in pins.now name.now) None }
+{
+    if width != 1 {
+        return None;
+    }
+    pins.get(name).copied()
 }

@@ -1,0 +1,56 @@
+-- The unfolding of a source, up to the trial of its drivers.
+use Rattle.std.proofs.Common.{◌≡◌, ℕ, suc, List, [], ◌∷◌, length, map, Some, None, Result, Ok, Err, refl, sym, ap, ◌∙◌}
+use Rattle.cdc_base.specs.declared.fault.Stop.{Stop}
+use Rattle.cdc_base.specs.declared.fault.Stop.TheVariants.{Refused, Memory}
+use Rattle.cdc_base.specs.declared.signal.ResetPin.{ResetPin}
+use Rattle.verilog_ast.specs.declared.Module.{Module}
+use Rattle.verilog_reading.specs.SourceTree.{module_of}
+use Rattle.flat_meaning.specs.Design as meaning
+use Rattle.flat_form.specs.declared.flat.Flat.{Flat}
+use Rattle.flat_unfolding.specs.Outcome.{Text, Outcome, good, bad, then_}
+use Rattle.flat_unfolding.specs.Declarations.{header_of}
+use Rattle.flat_unfolding.specs.Design.{Design, no_design}
+use Rattle.flat_unfolding.specs.Unfolding as law
+use Rattle.flat_unfolding.specs.Unfolding.{module_named, visit, top_ports, modules_differ, from_top, unfolded, IsUnfolding}
+use Rattle.flat_names.specs.Noting.{Refuses}
+use Rattle.flat_names.specs.Designs.{Ends}
+use Rattle.flat_design.specs.Visiting.{Lists}
+
+as-many : (modules : List Module) → length (map module_of modules) ≡ length modules
+as-many [] = refl
+as-many (m ∷ modules) = ap suc (as-many modules)
+
+module _ (modules : List Module) (top : Text) (resets : List ResetPin) where
+  abbrev pub unfolding_of : Outcome meaning.Flat
+  unfolding_of = unfolded (map module_of modules) top resets
+
+  -- two modules of one name
+  pub not-listed : (e : Stop) → Lists modules (Err e) → IsUnfolding unfolding_of (Err e)
+  not-listed (Refused f) h = ap (λ (o : Outcome (Unit {0})). then_ o (λ u. from_top (map module_of modules) resets top (module_named top (map module_of modules)))) h
+  not-listed Memory h = tt
+
+  module _ (differ : modules_differ (map module_of modules) ≡ good tt) where
+    goes-on : unfolding_of ≡ from_top (map module_of modules) resets top (module_named top (map module_of modules))
+    goes-on = ap (λ (o : Outcome (Unit {0})). then_ o (λ u. from_top (map module_of modules) resets top (module_named top (map module_of modules)))) differ
+
+    -- no top
+    pub no-top : module_named top (map module_of modules) ≡ None → (r : Result Flat Stop) → Refuses (record { number = 301; place = None; name = top }) r → IsUnfolding unfolding_of r
+    no-top none (Ok f) h = absurd h
+    no-top none (Err (Refused f)) h = goes-on ∙ ap (from_top (map module_of modules) resets top) none ∙ ap bad (sym h)
+    no-top none (Err Memory) h = tt
+
+    module _ (m : Module) (named : module_named top (map module_of modules) ≡ Some (module_of m)) where
+      abbrev pub visit_of : Outcome Design
+      visit_of = visit (map module_of modules) (length modules) [] (m.name ∷ []) (module_of m) [] (top_ports resets (header_of (module_of m))) no_design
+
+      visits : unfolding_of ≡ then_ visit_of law.finished
+      visits = goes-on ∙ ap (from_top (map module_of modules) resets top) named
+          ∙ ap (λ (k : ℕ). then_ (visit (map module_of modules) k [] (m.name ∷ []) (module_of m) [] (top_ports resets (header_of (module_of m))) no_design) law.finished) (as-many modules)
+
+      -- the visit is refused
+      pub not-visited : (e : Stop) (P : Design → Type 0) → Ends P visit_of (Err e) → IsUnfolding unfolding_of (Err e)
+      not-visited (Refused f) P h = visits ∙ ap (λ (o : Outcome Design). then_ o law.finished) h
+      not-visited Memory P h = tt
+
+      pub visited-is : (d : Design) → visit_of ≡ good d → unfolding_of ≡ law.finished d
+      visited-is d h = visits ∙ ap (λ (o : Outcome Design). then_ o law.finished) h

@@ -1,0 +1,22 @@
+use Rattle.std.proofs.Common.{◌≡◌, sym, ap, ◌∙◌, subst, rules}
+use Rattle.std.specs.Prelude.{Ok, Err}
+use Rattle.flat_unfolding.specs.Outcome.{good}
+use Rattle.flat_unfolding.specs.Unfolding as law
+use Rattle.flat_unfolding.specs.Unfolding.{IsUnfolding}
+use Rattle.flat_design.proofs.Finished.{trial, trial-passed, trial-failed}
+use Rattle.flat_design.proofs.finish.checked.Goals as goal
+
+pub returns-in_err-try_drivers-clause-exact : goal.returns-in_err-try_drivers-clause-exact
+returns-in_err-try_drivers-clause-exact c = λ pins d shows fit.
+    let e = c.in_err-try_drivers.field-0.0 in
+    let same : c.from_residual.result ≡ Err e = search rules in
+    subst (IsUnfolding (law.finished d)) (sym same) (trial-failed d e
+    (trial pins c.args.design d shows fit c.as_slice.result.now c.as_slice-2.result.now c.as_slice-3.result.now c.as_slice-4.result.now
+    c.as_slice.ensures.value c.as_slice-2.ensures.value c.as_slice-3.ensures.value c.as_slice-4.ensures.value (Err e) c.in_err-try_drivers.ensures.exact))
+
+pub returns-clause-exact : goal.returns-clause-exact
+returns-clause-exact c = λ pins d shows fit.
+    trial-passed d
+    (trial pins c.args.design d shows fit c.as_slice.result.now c.as_slice-2.result.now c.as_slice-3.result.now c.as_slice-4.result.now
+    c.as_slice.ensures.value c.as_slice-2.ensures.value c.as_slice-3.ensures.value c.as_slice-4.ensures.value (Ok tt) c.in_ok-try_drivers.ensures.exact)
+    ∙ ap good (sym (c.in_ok-finished.ensures.exact pins d shows fit))
