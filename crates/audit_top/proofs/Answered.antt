@@ -1,5 +1,5 @@
 -- What an audit answers, once it came to its end.
-use Rattle.std.proofs.Common.{◌≡◌, ◌∙◌, ap, ap₂, sym, subst, inl, inr, ◌⊎◌, ◌∷◌, [], List, ℕ, true, Ok, Err, Some, refl, Result, codes, Option}
+use Rattle.std.proofs.Common.{◌≡◌, ◌∙◌, ap, sym, subst, inl, inr, ◌⊎◌, ◌∷◌, [], List, ℕ, true, Ok, Err, Some, refl, Result, Option}
 use Rattle.std.specs.Prelude.{IfOk, IfErr, IfSome, MatchResult}
 use Rattle.std.specs.List.{list_all}
 use Rattle.std.proofs.lemmas.Bool.{false≢true}
@@ -13,9 +13,9 @@ use Rattle.audit_top.specs.declared.answer.Ending.{Ending}
 use Rattle.audit_top.specs.declared.answer.Ending.TheVariants.{Refused, Memory}
 use Rattle.audit_top.specs.declared.status.Status.{Status}
 use Rattle.audit_top.specs.declared.status.Status.TheVariants as status
-use Rattle.audit_top.specs.Runs.{Seen, Text, IsAnswer, IsLong, IsRefusedBy, IsRefusedForLength, IsText, IsOfFile, IsOfStatus, TellsOfLength, fault_at, numbers_of, all_record_numbers}
+use Rattle.audit_top.specs.Runs.{Seen, Text, IsAnswer, IsLong, IsRefusedBy, IsRefusedForLength, IsText, IsOfFile, IsOfStatus, TellsOfLength, numbers_of, all_record_numbers}
 use Rattle.audit_top.specs.Endings.{IsAnswerTo, IsEnding, IsEndOfAudit, IsLengthEnding, IsOfFiles, IsReadOfBoth}
-use Rattle.audit_top.specs.Audits.{IsAudited, IsAuditUnder}
+use Rattle.audit_top.specs.Audits.{IsAudited, IsAuditOf}
 use Rattle.audit_top.proofs.Lines.{is_other, other_line}
 
 audited_fits : (before now : Seen) (s : Status) (text : Text) → IsAudited s → IsText before now s text
@@ -104,11 +104,12 @@ pub told_is : (held : Option Text) (bytes all : Text) → IfSome held (λ told. 
 told_is held bytes all told is = subst (λ (o : Option Text). IfSome o (λ t. bytes ≡ t)) is told
 
 -- both files were read, and their texts have an answer or a refusal
-pub answered_texts : {T : Type 0} (net con : Text) (before now : Seen) (texts : T) (r : Result Answer Ending) (con_read : Text)
+pub answered_texts : {T : Type 0} (net con : Text) (before now : Seen) (texts : T) (r : Result Answer Ending) (net_read con_read : Text)
     → IsReadOfBoth {T = T} net con before now (Ok texts) → MatchResult r (λ a. IsAudited a.status) IsOfFiles
-    → IfSome (before.held con) (λ all. con_read ≡ all) → IfOk r (λ a. IsAuditUnder con_read a.status)
+    → IfSome (before.held net) (λ all. net_read ≡ all) × IfSome (before.held con) (λ all. con_read ≡ all)
+    → IfOk r (λ a. IsAuditOf net_read con_read a.status)
     → IsEndOfAudit net con before now r
-answered_texts net con before now texts r con_read reads h told exact = record {
+answered_texts net con before now texts r net_read con_read reads h told exact = record {
   reads = record {
     asks = reads.asks;
     ended = texts_ended before now r h;
@@ -116,7 +117,9 @@ answered_texts net con before now texts r con_read reads h told exact = record {
     long_con = λ long. absurd (reads.long_con long);
   };
   audited = texts_audited r h;
-  exact = λ con_bytes con_is. subst (λ (c : Text). IfOk r (λ a. IsAuditUnder c a.status)) (told_is (before.held con) con_read con_bytes told con_is) exact;
+  exact = λ net_bytes con_bytes net_is con_is.
+      subst (λ (n : Text). IfOk r (λ a. IsAuditOf n con_bytes a.status)) (told_is (before.held net) net_read net_bytes told.0 net_is)
+      (subst (λ (c : Text). IfOk r (λ a. IsAuditOf net_read c a.status)) (told_is (before.held con) con_read con_bytes told.1 con_is) exact);
 }
 
 -- a selftest reads no file
@@ -131,7 +134,7 @@ module _ (words : List Text) (before now : Seen) (accepted : IsAccepted words) (
     long_con = λ n c rest _ files long. cc;
     long_run = λ n c r _ files long. cc;
     replayed = λ n c r _ _ _ files _ _. cc;
-    audited = λ n c _ _ files _ _. cc;
+    audited = λ n c _ _ _ files _ _ _. cc;
   }
 
   line_test : (s : Status) (f : Fault) → IsRefusedBy before now s f → IsAnswer words before now s (line_of f)
@@ -144,7 +147,7 @@ module _ (words : List Text) (before now : Seen) (accepted : IsAccepted words) (
     long_con = λ n c rest _ files long. cc;
     long_run = λ n c r _ files long. cc;
     replayed = λ n c r _ _ _ files _ _. cc;
-    audited = λ n c _ _ files _ _. cc;
+    audited = λ n c _ _ _ files _ _ _. cc;
   }
 
   one_test : (ended : Result Answer Ending) (a : Answer) → MatchResult ended (λ own. IsAudited own.status) IsOfFiles
@@ -189,7 +192,8 @@ module _ (words : List Text) (before now : Seen) (net con : Text) (accepted : Is
     long_con = λ n c rest _ files long. absurd (end.reads.long_con (subst (λ (x : Text). IsLong before x) (sym (is_con n c rest files)) long));
     long_run = λ n c r _ files long. cc;
     replayed = λ n c r _ _ _ files _ _. cc;
-    audited = λ n c con_bytes _ files con_is _. end.exact con_bytes (ap before.held (is_con n c [] files) ∙ con_is);
+    audited = λ n c net_bytes con_bytes _ files net_is con_is _.
+        end.exact net_bytes con_bytes (ap before.held (is_net n c [] files) ∙ net_is) (ap before.held (is_con n c [] files) ∙ con_is);
   }
 
   line_answer : (s : Status) (f : Fault) → IsEndOfAudit net con before now (Err (Refused s f)) → IsAnswer words before now s (line_of f)
@@ -206,7 +210,7 @@ module _ (words : List Text) (before now : Seen) (net con : Text) (accepted : Is
         (length_answers s f net con (end.reads.long_con (subst (λ (x : Text). IsLong before x) (sym (is_con n c rest files)) long))));
     long_run = λ n c r _ files long. cc;
     replayed = λ n c r _ _ _ files _ _. cc;
-    audited = λ n c _ _ _ _ is. absurd (refused_audit before now s f end.reads.ended is);
+    audited = λ n c _ _ _ _ _ _ is. absurd (refused_audit before now s f end.reads.ended is);
   }
 
   one_answer : (ended : Result Answer Ending) (a : Answer) → IsEndOfAudit net con before now ended

@@ -8,3 +8,4 @@ pub mod Finished
 pub mod Replayed
 pub mod Replays
 pub mod Audits
+pub mod Described

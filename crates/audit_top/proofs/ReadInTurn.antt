@@ -1,5 +1,5 @@
 -- Reads, one after the other.
-use Rattle.std.proofs.Common.{◌≡◌, ◌≢◌, ◌∙◌, ◌≤◌, ap, sym, subst, append-nil, inl, inr, ◌⊎◌, ◌++◌, ◌+◌, ◌∷◌, [], List, ℕ, Ok, Err, Option, Some, append_assoc, arith, refl, Result}
+use Rattle.std.proofs.Common.{◌≡◌, ◌≢◌, ◌∙◌, ◌≤◌, ap, sym, subst, append-nil, inl, inr, ◌⊎◌, ◌++◌, ◌+◌, ◌∷◌, [], List, ℕ, Ok, Err, Option, append_assoc, arith, refl, Result}
 use Rattle.std.specs.Prelude.{IfSome}
 use Rattle.cdc_base.specs.Causes.{Rose, RoseBy}
 use Rattle.cdc_base.specs.declared.fault.Fault.{Fault}
@@ -8,7 +8,7 @@ use Rattle.audit_top.specs.declared.answer.Ending.TheVariants.{Refused, Memory}
 use Rattle.audit_top.specs.declared.status.Status.{Status}
 use Rattle.audit_top.specs.declared.status.Status.TheVariants.{Netlist, Constraints, Record, ReadFault}
 use Rattle.audit_top.specs.declared.status.Status.TheVariants as status
-use Rattle.audit_top.specs.Runs.{Seen, Text, AskedFor, AskedInOrder, IsLong, IsRefusedBy, IsUnread, IsTooLong, IsLastAsked, fault_at, max_bytes}
+use Rattle.audit_top.specs.Runs.{Seen, Text, AskedFor, AskedInOrder, IsRefusedBy, IsUnread, IsTooLong, fault_at, max_bytes}
 use Rattle.audit_top.specs.Endings.{IsEnding, IsLengthEnding, IsOfLength, IsReadEnding, IsReadOf, IsReadOfBoth, IsReadOfThree}
 
 -- no count is lower than before

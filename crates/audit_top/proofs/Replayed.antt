@@ -110,7 +110,7 @@ module _ (words : List Text) (before now : Seen) (net con run : Text) (accepted 
     long_run = λ n c r _ files long. absurd (end.reads.long_run (subst (λ (x : Text). IsLong before x) (sym (is_run n c r files)) long));
     replayed = λ n c r con_bytes run_bytes _ files con_is run_is. subst (λ (s : Status). IsReplayed r con_bytes run_bytes s own.text) (sym end.replayed)
         (end.exact con_bytes run_bytes (ap before.held (is_con n c (r ∷ []) files) ∙ con_is) (ap before.held (is_run n c r files) ∙ run_is));
-    audited = λ n c _ _ files _ _. cc;
+    audited = λ n c _ _ _ files _ _ _. cc;
   }
 
   line_answer : (s : Status) (f : Fault) → IsEndOfReplay net con run before now (Err (Refused s f)) → IsAnswer words before now s (line_of f)
@@ -133,7 +133,7 @@ module _ (words : List Text) (before now : Seen) (net con run : Text) (accepted 
     replayed = λ n c r con_bytes run_bytes _ files con_is run_is. subst (λ (x : Text). IsReplayed x con_bytes run_bytes s (line_of f)) (is_run n c r files)
         (line_replayed before now run con_bytes run_bytes s f end.reads.ended
         (end.exact con_bytes run_bytes (ap before.held (is_con n c (r ∷ []) files) ∙ con_is) (ap before.held (is_run n c r files) ∙ run_is)));
-    audited = λ n c _ _ files _ _. cc;
+    audited = λ n c _ _ _ files _ _ _. cc;
   }
 
   one_answer : (ended : Result Answer Ending) (a : Answer) → IsEndOfReplay net con run before now ended

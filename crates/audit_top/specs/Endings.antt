@@ -1,5 +1,5 @@
 -- How the parts of a command end.
-use Rattle.std.specs.Prelude.{ℕ, ◌≡◌, ◌+◌, ◌≤◌, ◌⊎◌, true, List, [], ◌∷◌, ◌++◌, length, Option, Some, Result, Ok, Err, IfOk, IfErr, IfSome, IsErrAnd}
+use Rattle.std.specs.Prelude.{ℕ, ◌≡◌, ◌+◌, ◌≤◌, ◌⊎◌, true, List, [], ◌∷◌, ◌++◌, length, Some, Result, Ok, Err, IfOk, IfErr, IfSome, IsErrAnd}
 use Rattle.cdc_base.specs.Causes.{Rose, RoseBy}
 use Rattle.cdc_base.specs.declared.fault.Fault.{Fault}
 use Rattle.refusals.specs.Numbers.{is_listed}
@@ -9,9 +9,9 @@ use Rattle.audit_top.specs.declared.answer.Ending.{Ending}
 use Rattle.audit_top.specs.declared.answer.Ending.TheVariants.{Refused, Memory}
 use Rattle.audit_top.specs.declared.status.Status.{Status}
 use Rattle.audit_top.specs.declared.status.Status.TheVariants.{Done, Usage, Netlist, Constraints, Record, ReadFault}
-use Rattle.audit_top.specs.Audits.{IsAudited, IsAuditUnder}
+use Rattle.audit_top.specs.Audits.{IsAudited, IsAuditOf}
 use Rattle.audit_top.specs.Replays.{IsReplayUnder}
-use Rattle.audit_top.specs.Runs.{Seen, Text, AskedFor, AskedInOrder, IsLong, IsRefusedBy, fault_at, max_bytes, numbers_of, usage_line}
+use Rattle.audit_top.specs.Runs.{Seen, Text, AskedInOrder, IsLong, IsRefusedBy, fault_at, max_bytes, numbers_of, usage_line}
 
 -- want of memory, or this refusal
 abbrev pub IsRefusal : Status → Fault → Ending → Type 0
@@ -71,7 +71,8 @@ pub record IsReadOfBoth {T : Type 0} (net con : Text) (before now : Seen) (resul
 pub record IsEndOfAudit (net con : Text) (before now : Seen) (result : Result Answer Ending) : Type 0 where
   pub reads : IsReadOfBoth net con before now result
   pub audited : IfOk result (λ answer. IsAudited answer.status)
-  pub exact : (con_bytes : Text) → before.held con ≡ Some con_bytes → IfOk result (λ answer. IsAuditUnder con_bytes answer.status)
+  pub exact : (net_bytes con_bytes : Text) → before.held net ≡ Some net_bytes → before.held con ≡ Some con_bytes
+      → IfOk result (λ answer. IsAuditOf net_bytes con_bytes answer.status)
 
 -- a read that ended refuses the record as too long alone
 abbrev pub IsOfLength : Text → Ending → Type 0

@@ -2,4 +2,5 @@ pub mod Runs
 pub mod Statuses
 pub mod Endings
 pub mod Replays
+pub mod Described
 pub mod Audits

@@ -1,6 +1,5 @@
 -- What the replay of a record answers, over a net and its domains.
 use Rattle.std.specs.Prelude.{◌≡◌, ◌⊎◌, ℕ, List, Result, Ok, Err}
-use Rattle.cdc_base.specs.declared.fault.Fault.{Fault}
 use Rattle.cdc_base.specs.declared.fault.Stop.{Stop}
 use Rattle.cdc_base.specs.declared.fault.Stop.TheVariants as stop
 use Rattle.cell_graph.specs.declared.net.Net.{Net}

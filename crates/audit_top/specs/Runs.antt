@@ -1,5 +1,5 @@
 -- What a run of the program answers, as far as its words, its files and its output tell.
-use Rattle.std.specs.Prelude.{ℕ, ◌≡◌, ◌+◌, ◌<◌, ◌≤◌, ◌⊎◌, true, List, [], ◌∷◌, ◌++◌, length, Option, Some, None, Ok, Err, codes}
+use Rattle.std.specs.Prelude.{ℕ, ◌≡◌, ◌+◌, ◌<◌, ◌⊎◌, true, List, [], ◌∷◌, ◌++◌, length, Option, Some, None, Ok, Err, codes}
 use Rattle.cdc_base.specs.Causes.{Rose, RoseBy, IsAdded, IsFrontAdded}
 use Rattle.cdc_base.specs.declared.fault.Fault.{Fault}
 use Rattle.command_line.specs.Cli.{IsAccepted, file_words}
@@ -10,7 +10,7 @@ use Rattle.run_report.specs.Refusals.{step_numbers}
 use Rattle.audit_top.specs.declared.answer.Ending.TheVariants.{Refused}
 use Rattle.audit_top.specs.declared.status.Status.{Status}
 use Rattle.audit_top.specs.declared.status.Status.TheVariants.{Done, Violations, Usage, Netlist, Constraints, Record, ReadFault, WriteFault, Memory, Waived}
-use Rattle.audit_top.specs.Audits.{IsAudited, IsAuditUnder}
+use Rattle.audit_top.specs.Audits.{IsAudited, IsAuditOf}
 use Rattle.audit_top.specs.Replays.{IsReplayUnder}
 
 abbrev pub Text : Type 0
@@ -134,8 +134,8 @@ pub record IsAnswer (words : List Text) (before now : Seen) (status : Status) (t
       → IsRefusedForLength Record run status text ⊎ (IsRefusedForLength Constraints con status text ⊎ IsRefusedForLength Netlist net status text)
   pub replayed : (net con run con_bytes run_bytes : Text) → IsAccepted words → file_words words ≡ net ∷ con ∷ run ∷ []
       → before.held con ≡ Some con_bytes → before.held run ≡ Some run_bytes → IsReplayed run con_bytes run_bytes status text
-  pub audited : (net con con_bytes : Text) → IsAccepted words → file_words words ≡ net ∷ con ∷ [] → before.held con ≡ Some con_bytes
-      → IsAudited status → IsAuditUnder con_bytes status
+  pub audited : (net con net_bytes con_bytes : Text) → IsAccepted words → file_words words ≡ net ∷ con ∷ []
+      → before.held net ≡ Some net_bytes → before.held con ≡ Some con_bytes → IsAudited status → IsAuditOf net_bytes con_bytes status
 
 -- what the output told before the run and tells after it, for a text that went to it
 abbrev pub IsWritten : Status → Status → Text → Option Text → Option Text → Type 0

@@ -5,11 +5,14 @@ ghost use Rattle.cell_graph.specs.Nets.{HasNextCells, IsNet};
 ghost use Rattle.cell_graph.specs.Shared.{IsShared};
 ghost use Rattle.clock_constraints.specs.Fit.{AreFit};
 ghost use Rattle.elaborate.specs.Words.{AreStarted};
+ghost use Rattle.flat_unfolding.specs.Formed.{IsSourceFormed};
 ghost use Rattle.obligations.specs.Judged.{CanAudit};
+ghost use Rattle.verilog_reading.specs.SourceTree.{source_of};
 ghost use Rattle.audit_top.specs.Runs.{Seen, max_bytes};
 ghost use Rattle.audit_top.specs.Statuses.{audited_status};
 ghost use Rattle.audit_top.specs.Replays.{IsDesign};
-ghost use Rattle.audit_top.specs.Audits.{IsAudited, IsAuditUnder, IsVerdictOn};
+ghost use Rattle.audit_top.specs.Described.{IsNetOfModules, ReadsAs};
+ghost use Rattle.audit_top.specs.Audits.{IsAudited, IsAuditOf, IsVerdictOn};
 ghost use Rattle.audit_top.specs.Endings.{IsOfDesign, IsOfFiles, IsEndOfAudit};
 
 use crate::answer::{Answer, Ending, or_refused};
@@ -29,6 +32,7 @@ pub(crate) fn read_source(alloc: Global, text: &[u8]) -> Result<Source, Ending>
     requires { length text.now ≤ max_bytes }
     ensures of_files { IfErr result IsOfFiles }
     ensures of_design { IfErr result IsOfDesign }
+    ensures reads { IfOk result (λ source. ReadsAs text.now (source_of source)) }
 {
     let tokens = or_refused(Status::Netlist, verilog_lex::lex(alloc, text))?;
     or_refused(
@@ -45,6 +49,7 @@ fn elaborated(alloc: Global, source: &Source, constraints: &Constraints) -> Resu
     ensures next_cells { IfOk result HasNextCells }
     ensures started { IfOk result (λ net. AreStarted net.graph.signals) }
     ensures shared { IfOk result (λ net. IsShared net.graph) }
+    ensures unfolded { IsSourceFormed (source_of source.now) → IfOk result (IsNetOfModules (source_of source.now) constraints.now) }
 {
     let resets = constraints.resets.as_slice();
     let flat = flat_design::flatten(alloc, source, &constraints.top, resets);
@@ -73,6 +78,7 @@ pub(crate) fn constrained(
     ensures of_files { IfErr result IsOfFiles }
     ensures of_design { IfErr result IsOfDesign }
     ensures design { AreFit constraints.now → IfOk result (λ made. IsDesign constraints.now made.0 made.1) }
+    ensures unfolded { IsSourceFormed (source_of source.now) → IfOk result (λ made. IsNetOfModules (source_of source.now) constraints.now made.0) }
 {
     let net = elaborated(alloc, source, constraints)?;
     let domains = domains::assign(alloc, &net, constraints, &Plain);
@@ -136,7 +142,7 @@ fn verdict_text(
 /// the unfolding, of the cells, of the clocks, of the crossings, of the waivers.
 fn audit_texts(alloc: Global, json: bool, net: &[u8], con: &[u8]) -> Result<Answer, Ending>
     requires { length net.now ≤ max_bytes }
-    ensures exact { IfOk result (λ answer. IsAuditUnder con.now answer.status) }
+    ensures exact { IfOk result (λ answer. IsAuditOf net.now con.now answer.status) }
     ensures ended { MatchResult result (λ answer. IsAudited answer.status) IsOfFiles }
 {
     let source = read_source(alloc, net)?;

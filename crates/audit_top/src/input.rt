@@ -56,7 +56,7 @@ pub fn read_both<F: Files>(
         let now : Seen = record { held = F.held files.new; asked = F.asked files.new; taken = F.taken files.new; faults = F.faults files.new } in
         IsReadOfBoth net.now con.now before now result }
     ensures within { IfOk result (λ texts. (length texts.0 ≤ max_bytes) × (length texts.1 ≤ max_bytes)) }
-    ensures content { IfOk result (λ texts. IfSome (F.held files.old con.now) (λ all. texts.1 ≡ all)) }
+    ensures content { IfOk result (λ texts. IfSome (F.held files.old net.now) (λ all. texts.0 ≡ all) × IfSome (F.held files.old con.now) (λ all. texts.1 ≡ all)) }
 {
     let net = match read_text(alloc, files, net, Status::Netlist) {
         Ok(net) => net,

@@ -1,4 +1,4 @@
-use Rattle.std.proofs.Common.{◌≡◌, ap, subst, Result, Err}
+use Rattle.std.proofs.Common.{◌≡◌, subst, Result, Err}
 use Rattle.std.specs.Prelude.{IfErr}
 use Rattle.cdc_base.specs.declared.fault.Stop.{Stop}
 use Rattle.cdc_base.specs.declared.fault.Stop.TheVariants.{Refused}

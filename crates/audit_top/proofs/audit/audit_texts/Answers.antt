@@ -3,7 +3,7 @@ use Rattle.std.specs.Prelude.{IfErr}
 use Rattle.clock_constraints.specs.Files.{IsMeaning}
 use Rattle.clock_constraints.specs.Fit.{AreFit}
 use Rattle.refusals.specs.Numbers.{constraint_numbers, waiver_numbers}
-use Rattle.audit_top.proofs.Audits.{audited_under}
+use Rattle.audit_top.proofs.Audits.{audited_texts}
 use Rattle.audit_top.proofs.ConstraintNumbers.{constraint_stop}
 use Rattle.audit_top.proofs.Replays.{given_holds}
 use Rattle.audit_top.specs.Endings.{IsOfFiles}
@@ -24,5 +24,6 @@ pub returns-clause-exact : goal.returns-clause-exact
 returns-clause-exact c =
     let means = given_holds (IsMeaning c.args.con.now) _ (Ok c.in_ok-constraints.constraints) c.in_ok-constraints.ensures.given c.read.ensures.ok in
     let fits = given_holds AreFit _ (Ok c.in_ok-constraints.constraints) c.in_ok-constraints.ensures.given c.read.ensures.fit in
-    audited_under _ c.in_ok-constraints.constraints c.in_ok-net.net c.in_ok-net.domains c.in_ok-verdict.verdict c.as_slice-2.result.now _ means fits c.in_ok-net.ensures.design c.in_ok-verdict.ensures.exact
+    audited_texts _ _ _ c.in_ok-constraints.constraints c.in_ok-net.net c.in_ok-net.domains c.in_ok-verdict.verdict c.as_slice-2.result.now _ c.in_ok-source.ensures.reads means fits
+    c.in_ok-net.ensures.design c.in_ok-net.ensures.unfolded c.in_ok-verdict.ensures.exact
     (c.audited.ensures.exact ∙ ap (λ n. audited_status n c.as_slice-2.result.now) c.len.ensures)

@@ -1,4 +1,4 @@
-use Rattle.std.proofs.Common.{◌≡◌, Ok, inr, refl, rules}
+use Rattle.std.proofs.Common.{Ok, inr, refl, rules}
 use Rattle.std.specs.Prelude.{IfErr}
 use Rattle.cofactor.specs.contracts.nodes.PlainCofactors.TheImpl as plain
 use Rattle.domains.specs.Assignment.{AreDomains}

@@ -1,10 +1,13 @@
-use Rattle.std.proofs.Common.{◌≡◌, inl, refl, rules}
+use Rattle.std.proofs.Common.{Ok, inl, refl, rules}
 use Rattle.std.specs.Prelude.{IfErr}
 use Rattle.cell_graph.specs.Nets.{HasNextCells, IsNet}
 use Rattle.cell_graph.specs.Shared.{IsShared}
 use Rattle.elaborate.specs.Words.{AreStarted}
 use Rattle.refusals.specs.Numbers.{unfolding_numbers, elaboration_numbers}
+use Rattle.verilog_reading.specs.SourceTree.{source_of}
+use Rattle.audit_top.specs.Described.{IsNetOfModules}
 use Rattle.audit_top.specs.Endings.{IsOfDesign, IsOfFiles}
+use Rattle.audit_top.proofs.Described.{IsFlatOfModules, flat_of_modules, net_of_modules}
 use Rattle.audit_top.proofs.Replays.{given_holds, of_design}
 use Rattle.audit_top.proofs.audit.elaborated.Goals as goal
 
@@ -35,3 +38,13 @@ returns-clause-started c = given_holds (λ net. AreStarted net.graph.signals) _ 
 
 pub returns-clause-shared : goal.returns-clause-shared
 returns-clause-shared c = given_holds (λ net. IsShared net.graph) _ _ c.or_refused-2.ensures.given c.elaborate.ensures.shared
+
+pub returns-clause-unfolded : goal.returns-clause-unfolded
+returns-clause-unfolded c = λ formed.
+    let modules = source_of c.args.source.now in
+    let constraints = c.args.constraints.now in
+    let unfolds = rw c.as_slice-resets.ensures at (c.flatten-flat.ensures.exact formed) in
+    let flat = given_holds (IsFlatOfModules modules constraints) _ (Ok c.in_ok-flat.flat) c.in_ok-flat.ensures.given
+    (flat_of_modules modules constraints formed _ unfolds (c.flatten-flat.ensures.sizes formed)) in
+    given_holds (IsNetOfModules modules constraints) _ _ c.or_refused-2.ensures.given
+    (net_of_modules modules constraints c.in_ok-flat.flat flat _ c.elaborate.ensures.unfolds c.elaborate.ensures.accepted c.elaborate.ensures.signals)

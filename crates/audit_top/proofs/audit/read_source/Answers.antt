@@ -1,9 +1,13 @@
-use Rattle.std.proofs.Common.{◌≡◌, inl, refl, rules}
+use Rattle.std.proofs.Common.{◌≡◌, Ok, inl, refl, rules}
 use Rattle.std.specs.Prelude.{IfErr}
 use Rattle.refusals.specs.Numbers.{token_numbers, grammar_numbers}
 use Rattle.audit_top.proofs.TokenNumbers.{token_stop}
+use Rattle.verilog_lex.specs.Tokens.{tokens_of}
+use Rattle.verilog_reading.specs.SourceTree.{source_of}
+use Rattle.audit_top.specs.Described.{ReadsAs}
 use Rattle.audit_top.specs.Endings.{IsOfDesign, IsOfFiles}
-use Rattle.audit_top.proofs.Replays.{of_design}
+use Rattle.audit_top.proofs.Described.{text_reads}
+use Rattle.audit_top.proofs.Replays.{given_holds, of_design}
 use Rattle.audit_top.proofs.audit.read_source.Goals as goal
 
 pub returns-in_err-tokens-clause-of_files : goal.returns-in_err-tokens-clause-of_files
@@ -21,3 +25,10 @@ returns-clause-of_files c = c.or_refused-2.ensures.ended grammar_numbers refl c.
 
 pub returns-clause-of_design : goal.returns-clause-of_design
 returns-clause-of_design c = of_design _ _ _ (inl refl) c.or_refused-2.ensures.exact
+
+pub returns-clause-reads : goal.returns-clause-reads
+returns-clause-reads c =
+    let text = c.args.text.now in
+    let are = given_holds (λ ts. tokens_of text ≡ Ok ts) _ (Ok c.in_ok-tokens.tokens) c.in_ok-tokens.ensures.given c.lex.ensures.tokens in
+    given_holds (λ s. ReadsAs text (source_of s)) _ _ c.or_refused-2.ensures.given
+    (text_reads text c.in_ok-tokens.tokens c.parse.result are (rw c.as_slice.ensures at c.parse.ensures.reading) (rw c.as_slice.ensures at c.parse.ensures.one))

@@ -28,7 +28,8 @@ pub returns-in_err-text-clause-exact : goal.returns-in_err-text-clause-exact
 returns-in_err-text-clause-exact c =
     let means = given_holds (IsMeaning c.args.con.now) _ (Ok c.in_ok-constraints.constraints) c.in_ok-constraints.ensures.given c.read.ensures.ok in
     let fits = given_holds AreFit _ (Ok c.in_ok-constraints.constraints) c.in_ok-constraints.ensures.given c.read.ensures.fit in
-    let same : c.from_residual-in_err-text.result ≡ Err c.in_err-text.field-0.0 = search rules in
+    let same : c.from_residual-in_err-text.result ≡ Err c.in_err-text.field-0.0
+    = search (rules, c.in_err-text.was, c.from_residual-in_err-text.ensures.0, c.from_residual-in_err-text.ensures.1) in
     rw same (record_refused _ _ _
     (replayed_under _ _ c.in_ok-constraints.constraints c.in_ok-net.net c.in_ok-net.domains _ means fits c.in_ok-net.ensures.design c.in_err-text.ensures.exact))
 

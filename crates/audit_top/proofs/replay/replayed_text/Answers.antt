@@ -1,4 +1,4 @@
-use Rattle.std.proofs.Common.{◌≡◌, Ok, Err, refl, rules, subst, sym}
+use Rattle.std.proofs.Common.{Ok, Err, refl, rules, subst, sym}
 use Rattle.std.specs.Prelude.{IfErr}
 use Rattle.run_file.specs.Files.{FitsNet, IsMeaning}
 use Rattle.run_file.specs.Numbers.{record_numbers}

@@ -1,4 +1,4 @@
-use Rattle.std.proofs.Common.{◌≡◌, refl, rules}
+use Rattle.std.proofs.Common.{refl, rules}
 use Rattle.std.specs.Prelude.{IfErr}
 use Rattle.refusals.specs.Numbers.{crossing_numbers}
 use Rattle.audit_top.specs.Endings.{IsOfFiles}

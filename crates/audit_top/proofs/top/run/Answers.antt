@@ -1,4 +1,3 @@
-use Rattle.std.proofs.Common.{ap, Err}
 use Rattle.audit_top.proofs.Finished.{run_done, run_unwritten, run_out_of_memory}
 use Rattle.audit_top.proofs.top.run.Goals as goal
 

@@ -1,0 +1,45 @@
+-- The flat design that a netlist's text describes, and the net that is made of it.
+use Rattle.std.specs.Prelude.{◌≡◌, ℕ, List, map, Ok}
+use Rattle.cell_graph.specs.declared.net.Net.{Net}
+use Rattle.cell_graph.specs.Nets.{AreSized}
+use Rattle.clock_constraints.specs.declared.Constraints.{Constraints}
+use Rattle.verilog_lex.specs.declared.token.Token.{Token}
+use Rattle.verilog_lex.specs.Tokens.{tokens_of}
+use Rattle.verilog_reading.specs.ItemReading.{IsSource}
+use Rattle.verilog_reading.specs.SourceTree.{ModuleTree}
+use Rattle.flat_unfolding.specs.Outcome.{good}
+use Rattle.flat_unfolding.specs.Unfolding.{unfolded}
+use Rattle.flat_meaning.specs.Design.{Flat}
+use Rattle.flat_meaning.specs.Segments.{IsLoopFree}
+use Rattle.flat_meaning.specs.SignalTrees.{AreTrees}
+use Rattle.flat_meaning.specs.Sound.{IsSound}
+use Rattle.flat_meaning.specs.Trees.{Selects}
+use Rattle.elaborate.specs.NetTrees.{HasTrees}
+use Rattle.elaborate.specs.Words.{as_word}
+
+-- the text has tokens, and they read as these modules alone
+pub record ReadsAs (text : List ℕ) (modules : List ModuleTree) : Type 0 where
+  pub tokens : List Token
+  pub are_tokens : tokens_of text ≡ Ok tokens
+  pub reads : IsSource tokens modules
+  pub alone : (others : List ModuleTree) → IsSource tokens others → others ≡ modules
+
+-- the modules unfold to the flat design, from the top that the constraints name, with their resets
+abbrev pub UnfoldsTo : List ModuleTree → Constraints → Flat → Type 0
+UnfoldsTo modules c f = unfolded modules c.top c.resets ≡ good f
+
+-- the text describes the flat design under the constraints
+pub record Describes (text : List ℕ) (c : Constraints) (f : Flat) : Type 0 where
+  pub modules : List ModuleTree
+  pub reads : ReadsAs text modules
+  pub unfolds : UnfoldsTo modules c f
+
+-- the net has the trees and the signals of the flat design that the modules unfold to, which is sound and has no loop
+pub record IsNetOfModules (modules : List ModuleTree) (c : Constraints) (net : Net) : Type 0 where
+  pub flat : Flat
+  pub unfolds : UnfoldsTo modules c flat
+  pub sound : IsSound flat
+  pub loop_free : IsLoopFree flat
+  pub sized : AreSized flat.signals
+  pub signals : net.graph.signals ≡ map as_word flat.signals
+  pub has_trees : (sel : Selects) → AreTrees flat sel → HasTrees flat sel net
