@@ -13,6 +13,7 @@ pub mod mem_sinks;
 pub mod name;
 pub mod outside;
 pub mod signal;
+pub mod size;
 pub mod words;
 
 pub use bit::Bit;
@@ -24,6 +25,7 @@ pub use mem_sinks::{MemSink, SureSink};
 pub use name::Name;
 pub use outside::{FileFault, Files, Sink, SinkFault};
 pub use signal::{ResetPin, SigKind, Signal};
+pub use size::NumberSize;
 
 #[cfg(test)]
 mod tests;

@@ -1,6 +1,6 @@
 //! What the program asks of the outside: files to read, and an output.
-ghost use Rattle.std.specs.Prelude.{◌≡◌, ◌≢◌, ℕ, ◌+◌, ◌≤◌, ◌<◌, List, [], ◌∷◌, ◌++◌, length, IfOk, OnOk, OnErr, IsOk, Option, IfSome, ◌⊎◌};
-ghost use Rattle.cdc_base.specs.Causes.{Rose, RoseBy, IsAdded, IsFrontAdded};
+ghost use Rattle.std.specs.Prelude.{◌≡◌, ◌≢◌, ℕ, ◌+◌, ◌≤◌, ◌<◌, List, [], ◌∷◌, ◌++◌, length, IfOk, OnOk, OnErr, IsOk, Option, Some, IfSome, ◌⊎◌};
+ghost use Rattle.cdc_base.specs.Causes.{Rose, RoseBy, StaysTold, IsAdded, IsFrontAdded};
 
 use crate::list::{List, NoMemory};
 use thiserror::Error;
@@ -45,9 +45,9 @@ impl From<NoMemory> for SinkFault {
     }
 }
 
-/// Files that can be read whole. `held` is what lies under a name, where the form tells it; `asked` lists the names
-/// that were asked for; `taken` counts the bytes that were taken, and `faults` the reads that failed. Both counts
-/// stand still at the end of `u64`.
+/// Files that can be read whole. `held` is what lies under a name, where the form tells it: what is told stays told, and what
+/// was read is told from then on. `asked` lists the names that were asked for; `taken` counts the bytes that were taken, and
+/// `faults` the reads that failed. Both counts stand still at the end of `u64`.
 pub trait Files {
     ghost held: { Self → List ℕ → Option (List ℕ) };
 
@@ -59,13 +59,13 @@ pub trait Files {
 
     /// The bytes of the file `name`, at most `limit` of them.
     fn read_file(&mut self, name: &str, limit: u64) -> Result<List<u8>, FileFault>
-        ensures holds { (other : List ℕ) → held self.new other ≡ held self.old other }
+        ensures holds { (other : List ℕ) → StaysTold (held self.old other) (held self.new other) }
         ensures rising { (taken self.old ≤ taken self.new) × (faults self.old ≤ faults self.new) }
         ensures asks { (asked self.new ≡ asked self.old ++ name.now ∷ [])
             ⊎ ((result ≡ Err FileFault.Memory) × (asked self.new ≡ asked self.old)
             × (taken self.new ≡ taken self.old) × (faults self.new ≡ faults self.old)) }
         ensures within { IfOk result (λ bytes. length bytes ≤ limit) }
-        ensures content { IfOk result (λ bytes. IfSome (held self.old name.now) (λ all. bytes ≡ all)) }
+        ensures content { IfOk result (λ bytes. held self.new name.now ≡ Some bytes) }
         ensures failed { result ≡ Err FileFault.Failed → Rose (faults self.old) (faults self.new) }
         ensures long { result ≡ Err FileFault.TooLong → RoseBy (limit + 1) (taken self.old) (taken self.new) }
         ensures longer { result ≡ Err FileFault.TooLong → IfSome (held self.old name.now) (λ all. limit < length all) };
