@@ -1,5 +1,7 @@
 -- Counted and whole expressions: plain numbers and counted parameters, taken as whole numbers.
-use Rattle.std.specs.Prelude.{ℕ, ◌+◌, ◌-◌, ◌*◌, ◌^◌, ◌/◌, ◌%◌, max, Bool, cond, not, ◌&&◌, ◌||◌, ◌==◌, nat_lt, nat_le, Option, Some, None, is_some, option_map, option_and_then, unwrap_or, bit_and, bit_or, bit_xor}
+use Rattle.std.specs.Prelude.{ℕ, ◌+◌, ◌-◌, ◌*◌, ◌^◌, ◌/◌, ◌%◌, max, Bool, true, false, cond, not, ◌&&◌, ◌||◌, ◌==◌, nat_lt, nat_le, Option, Some, None, is_some, option_map, option_and_then, unwrap_or, bit_and, bit_or, bit_xor}
+use Rattle.cdc_base.specs.declared.size.NumberSize.{NumberSize}
+use Rattle.cdc_base.specs.declared.size.NumberSize.TheVariants as z
 use Rattle.verilog_ast.specs.declared.UnaryOp.{UnaryOp}
 use Rattle.verilog_ast.specs.declared.UnaryOp.TheVariants as u
 use Rattle.verilog_ast.specs.declared.BinaryOp.{BinaryOp}
@@ -32,9 +34,14 @@ abbrev pub both : {A B C : Type 0} → (A → B → C) → Option A → Option B
 both f (Some a) (Some b) = Some (f a b)
 both f a b = None
 
+-- a decimal run alone
+abbrev pub is_plain : NumberSize → Bool
+is_plain z.Plain = true
+is_plain size = false
+
 -- the own size of a counted expression, and nothing of any other: no concatenation, replication, select or sized number is counted
 abbrev pub counted_size : Names → ExprTree → Option ℕ
-counted_size names (number v w plain) = cond plain (Some w) None
+counted_size names (number v w size) = cond (is_plain size) (Some w) None
 counted_size names (name x) = option_map (λ (p : Param). p.width) (counted_param names x)
 counted_size names (index x i) = None
 counted_size names (part x l r) = None
@@ -88,7 +95,7 @@ module _ (names : Names) where
 
   -- the value of a counted expression as a whole number; of a choice the chosen branch alone is judged. None breaks E307
   abbrev pub whole : ExprTree → Option ℕ
-  whole (number v w plain) = within 32 v
+  whole (number v w size) = within 32 v
   whole (name x) = option_and_then (λ (p : Param). within p.width p.value) (counted_param names x)
   whole (index x i) = None
   whole (part x l r) = None

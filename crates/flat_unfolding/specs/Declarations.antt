@@ -7,7 +7,7 @@ use Rattle.verilog_ast.specs.declared.DeclKind.{DeclKind}
 use Rattle.verilog_ast.specs.declared.DeclKind.TheVariants as k
 use Rattle.verilog_reading.specs.SourceTree.{Bounds, DeclTree, PortTree, ItemTree, BodyTree, decl, ModuleTree}
 use Rattle.flat_unfolding.specs.Outcome.{Text, Broken, breaks, breaks_if, Outcome, good, then_, each, refused, refused_if, Order, as_listed, judged}
-use Rattle.flat_unfolding.specs.Names.{Range, Meaning, a_signal, a_memory, Names, is_declared, Direction, inner, inward, outward, Entry, Look, meaning, range_at, printed_part}
+use Rattle.flat_unfolding.specs.Names.{Range, Meaning, a_signal, a_memory, no_value, Names, is_declared, Direction, inner, inward, outward, Entry, Look, meaning, range_at, printed_part}
 use Rattle.flat_unfolding.specs.Memories.{words_of, word_names, taken}
 use Rattle.flat_unfolding.specs.Parameters.{range_read, bounds_read}
 use Rattle.flat_unfolding.specs.Design.{Stage, look_of, with_design, change_entry}
@@ -24,14 +24,24 @@ is_inner inner = true
 is_inner inward = false
 is_inner outward = false
 
+abbrev pub is_inward : Direction → Bool
+is_inward inward = true
+is_inward inner = false
+is_inward outward = false
+
 abbrev pub is_reg_kind : DeclKind → Bool
 is_reg_kind k.Reg = true
 is_reg_kind k.OutputReg = true
 is_reg_kind kind = false
 
-abbrev pub is_plain_output : DeclKind → Bool
-is_plain_output k.Output = true
-is_plain_output kind = false
+-- an old-style port that may be declared once more: an output as `wire` or `reg`, an input as `wire`
+abbrev pub is_plain_port : DeclKind → Bool
+is_plain_port k.Input = true
+is_plain_port k.Output = true
+is_plain_port kind = false
+
+abbrev pub may_be_again : DeclKind → Entry → Bool
+may_be_again kind e = e.is_open && not (is_reg_kind kind && is_inward e.direction)
 
 -- kinds that take no value
 abbrev pub is_bare : DeclKind → Bool
@@ -55,13 +65,13 @@ pub record Site : Type 0 where
   pub in_header : Bool
   pub place : Place
 
--- the signal that is declared once more: an old-style `output` may be declared again as `wire` or `reg`, once
-abbrev pub if_open : List Entry → Option Meaning → Option ℕ
-if_open entries (Some (a_signal s)) = cond (option_map_or (λ (e : Entry). e.is_open) (slice_get entries s) false) (Some s) None
-if_open entries m = None
+-- the signal that is declared once more
+abbrev pub if_open : DeclKind → List Entry → Option Meaning → Option ℕ
+if_open kind entries (Some (a_signal s)) = cond (option_map_or (may_be_again kind) (slice_get entries s) false) (Some s) None
+if_open kind entries m = None
 
 abbrev pub again : Look → DeclTree → Option ℕ
-again look d = cond (is_inner (direction_of d.kind) && is_none d.array) (if_open look.entries (meaning look d.name)) None
+again look d = cond (is_inner (direction_of d.kind) && is_none d.array) (if_open d.kind look.entries (meaning look d.name)) None
 
 -- E306: a direction for a name that isn't in the header, or a value where none may stand
 abbrev pub breaks_form : Site → DeclTree → Bool
@@ -111,16 +121,17 @@ abbrev pub added : Stage → List Entry → Names → Outcome Stage
 added s es names = then_ (refused_if (nat_lt 65536 (length s.design.entries + length es)) 601 None [])
     (λ u. good (record { names = s.names ++ names; design = record s.design { entries = s.design.entries ++ es } }))
 
-abbrev pub numbered : ℕ → List Text → Names
-numbered n [] = []
-numbered n (x ∷ rest) = (x, a_signal n) ∷ numbered (n + 1) rest
+-- the printed names of words are taken, and stand for nothing
+abbrev pub taken_names : List Text → Names
+taken_names words = map (λ x. (x, no_value)) words
+
 
 abbrev pub add_signal : Stage → Site → DeclTree → Option Range → Outcome Stage
-add_signal s at d r = added s (entry at d.kind r (is_plain_output d.kind && not at.in_header) d.name ∷ []) (numbered (length s.design.entries) (d.name ∷ []))
+add_signal s at d r = added s (entry at d.kind r (is_plain_port d.kind && not at.in_header) d.name ∷ []) ((d.name, a_signal (length s.design.entries)) ∷ [])
 
 abbrev pub add_memory : Stage → Site → DeclTree → Option Range → ℕ → Outcome Stage
 add_memory s at d r n = let first = length s.design.entries in let words = word_names d.name 0 n in
-    added s (map (entry at d.kind r false) words) (numbered first words ++ ((d.name, a_memory (record { first = first; words = n })) ∷ []))
+    added s (map (entry at d.kind r false) words) (taken_names words ++ ((d.name, a_memory (record { first = first; words = n })) ∷ []))
 
 abbrev pub declared_again : DeclKind → Entry → Entry
 declared_again kind e = record e { is_open = false; is_reg = is_reg_kind kind }

@@ -10,6 +10,7 @@ use Rattle.flat_form.specs.View.{unary_of, binary_of, exprs_of}
 use Rattle.flat_unfolding.specs.Outcome.{Text, Broken, breaks, breaks_if}
 use Rattle.flat_unfolding.specs.Names.{Range, span, offset_in, Param, Memory, Meaning, a_param, a_signal, a_memory, Look, meaning, range_at, bits_of, whole_of, unknown}
 use Rattle.flat_unfolding.specs.Constants.{own_value, counted_size, whole}
+use Rattle.flat_unfolding.specs.Signs.{compares_signed, is_unsized}
 
 -- an expression as it was read. `is_constant` tells that no signal is in it, `broken` has the rules that it breaks in textual order.
 -- What breaks a rule stands as no expression, so that `expr` tells what the others read.
@@ -172,10 +173,10 @@ module _ (look : Look) where
   words_from m i n zero = whole_of look (m.first + n)
   words_from m i n (suc more) = Choose (is_index i n) (whole_of look (m.first + n)) (words_from m i (suc n) more)
 
-  -- E315: the own size of a memory's variable index is log2 of its number of words
+  -- E315: a memory's variable index chooses among words that are all there
   abbrev pub memory_index : Text → Memory → Term → Term
   memory_index x m i = cond i.is_constant (word_bits x (word_of m (own_value i.expr)))
-      (cond (2 ^ size i.expr == m.words) (variable (words_from m i.expr 0 (m.words - 1))) (spoilt i.expr false (breaks 315 x)))
+      (cond (nat_le (2 ^ size i.expr) m.words) (variable (words_from m i.expr 0 (2 ^ size i.expr - 1))) (spoilt i.expr false (breaks 315 x)))
 
   abbrev pub also_first : List Broken → Term → Term
   also_first bs t = spoilt t.expr t.is_constant (bs ++ t.broken)
@@ -219,17 +220,18 @@ module _ (look : Look) where
 
   abbrev mutual
     pub read : ExprTree → Term
-    read (number v w plain) = constant (Number w v)
+    read (number v w size) = constant (Number w v)
     read (name x) = name_term x
     read (index x i) = index_term x (read i)
     read (part x l r) = part_term x (read l) (read r)
     read (unary op a) = judged_whole (counted_size look.names (unary op a)) (whole look.names (unary op a)) (unary_term op (read a))
-    read (binary op a b) = judged_whole (counted_size look.names (binary op a b)) (whole look.names (binary op a b)) (binary_term op (read a) (read b))
+    read (binary op a b) = judged_whole (counted_size look.names (binary op a b)) (whole look.names (binary op a b)) (also (binary_term op (read a) (read b)) (breaks_if (compares_signed look.names op a b) 307 []))
     read (choice c a b) = judged_whole (counted_size look.names (choice c a b)) (whole look.names (choice c a b)) (choice_term (read c) (read a) (read b))
-    read (join parts) = join_term (read_all parts)
-    read (repeat count parts) = repeat_term (read count) (read_all parts)
+    read (join parts) = join_term (read_parts parts)
+    read (repeat count parts) = repeat_term (read count) (read_parts parts)
     read (paren a) = read a
 
-    pub read_all : ExprTrees → List Term
-    read_all no_trees = []
-    read_all (and_trees a rest) = read a ∷ read_all rest
+    -- parts of a concatenation or a replication. E308: each has a size of its own
+    pub read_parts : ExprTrees → List Term
+    read_parts no_trees = []
+    read_parts (and_trees a rest) = also (read a) (breaks_if (is_unsized look.names a) 308 []) ∷ read_parts rest

@@ -1,6 +1,7 @@
 -- Sources as readings of texts give them: a number fits in its 1 to 64 bits, a plain one is a whole number of 32, and no list of parts or labels is empty.
 use Rattle.std.specs.Prelude.{◌≡◌, ◌^◌, ◌<◌, ◌≤◌, true, List, [], ◌∷◌, All, Option, Some, None}
 use Rattle.verilog_reading.specs.ExprTree.{ExprTree, number, name, index, part, unary, binary, choice, join, repeat, paren, ExprTrees, no_trees, and_trees, TargetTree, whole, index_of, part_of, join_of, TargetTrees, no_parts, and_parts}
+use Rattle.flat_unfolding.specs.Constants.{is_plain}
 use Rattle.verilog_reading.specs.StmtTree.{StmtTree, null, set, when, either, switch, switch_else, block, StmtTrees, no_rows, and_rows, ArmTrees, no_arms, and_arms}
 use Rattle.verilog_reading.specs.SourceTree.{Bounds, ParamTree, DeclTree, PortTree, ConnTree, ConnsTree, ordered, named, BodyTree, param, decl, assign, gate, instance, always, initial, ItemTree, ModuleTree}
 
@@ -11,7 +12,7 @@ AreSome (and_trees a rest) = Unit {0}
 
 abbrev mutual
   pub IsFormed : ExprTree → Type 0
-  IsFormed (number v w plain) = (1 ≤ w) × (w ≤ 64) × (v < 2 ^ w) × (plain ≡ true → (w ≡ 32) × (v < 2 ^ 31))
+  IsFormed (number v w size) = (1 ≤ w) × (w ≤ 64) × (v < 2 ^ w) × (is_plain size ≡ true → (w ≡ 32) × (v < 2 ^ 31))
   IsFormed (name x) = Unit {0}
   IsFormed (index x i) = IsFormed i
   IsFormed (part x l r) = IsFormed l × IsFormed r

@@ -1,16 +1,16 @@
 -- Instances: overrides of parameters and connections of ports.
-use Rattle.std.specs.Prelude.{Bool, false, cond, not, ◌&&◌, ◌||◌, nat_lt, List, [], ◌∷◌, ◌++◌, length, map, filter_map, flat_map, Option, Some, None, bytes_eq, option_map}
-use Rattle.std.specs.List.{list_any}
+use Rattle.std.specs.Prelude.{ℕ, Bool, false, cond, not, ◌&&◌, ◌||◌, nat_lt, List, [], ◌∷◌, ◌++◌, length, map, filter, filter_map, flat_map, Option, Some, None, bytes_eq, option_map, option_and_then}
 use Rattle.std.specs.Option.{option_map_or}
 use Rattle.cdc_base.specs.declared.fault.Place.{Place}
 use Rattle.cdc_base.specs.declared.signal.ResetPin.{ResetPin}
 use Rattle.cdc_base.specs.Words.{is_in}
 use Rattle.verilog_reading.specs.ExprTree.{ExprTree, name, paren}
 use Rattle.verilog_reading.specs.SourceTree.{DeclTree, ConnTree, ConnsTree, ordered, named, ModuleTree}
-use Rattle.flat_meaning.specs.Flat.{Expr, Read, Target, Whole}
+use Rattle.flat_meaning.specs.Flat.{Expr, size, Read, Target, Whole}
 use Rattle.flat_unfolding.specs.Outcome.{Text, Broken, breaks_if}
-use Rattle.flat_unfolding.specs.Names.{Meaning, a_signal, Names, Direction, inward, Entry, Look, meaning, meaning_in, reset_at, width_at}
+use Rattle.flat_unfolding.specs.Names.{span, Param, Meaning, a_param, a_signal, Names, Direction, inward, Entry, Look, meaning, meaning_in, reset_at, width_at}
 use Rattle.flat_unfolding.specs.Constants.{is_counted}
+use Rattle.flat_unfolding.specs.Signs.{is_signed, leans}
 use Rattle.flat_unfolding.specs.Expressions.{as_constant, read}
 use Rattle.flat_unfolding.specs.Targets.{is_input, driven}
 use Rattle.flat_unfolding.specs.Parameters.{Override, Overrides, overridable}
@@ -57,7 +57,7 @@ abbrev pub override_rules : Look → ModuleTree → ConnsTree → List Broken
 override_rules look m given = joint_rules m.name (overridable m) given ++ flat_map (λ (j : Joint). (as_constant (read look j.value)).broken) (joints (overridable m) given)
 
 abbrev pub override : Look → Joint → Option (Text × Override)
-override look j = option_map (λ (x : Text). (x, record { value = (read look j.value).expr; is_counted = is_counted look.names j.value })) j.name
+override look j = option_map (λ (x : Text). (x, record { value = (read look j.value).expr; is_counted = is_counted look.names j.value; is_signed = is_signed look.names j.value })) j.name
 
 abbrev pub overrides_of : Look → ModuleTree → ConnsTree → Overrides
 overrides_of look m given = filter_map (override look) (joints (overridable m) given)
@@ -108,17 +108,8 @@ module _ (look : Look) (value : ExprTree) where
 abbrev pub linked : Look → ModuleTree → Joint → Linked
 linked look m j = linked_to look j.value m j.name
 
-abbrev pub is_for : Text → Joint → Bool
-is_for x j = option_map_or (bytes_eq x) j.name false
-
--- E306: an input has no expression
-abbrev pub open_inputs : ModuleTree → List Joint → List Text → List Broken
-open_inputs m js [] = []
-open_inputs m js (x ∷ rest) = breaks_if (option_map_or is_input (port_direction m x) false && not (list_any (is_for x) js)) 306 m.name ++ open_inputs m js rest
-
 abbrev pub connection_rules : Look → ModuleTree → ConnsTree → List Broken
-connection_rules look m given = let js = joints (header_of m) given in
-    joint_rules m.name (header_of m) given ++ flat_map (λ (j : Joint). (linked look m j).broken) js ++ open_inputs m js (header_of m)
+connection_rules look m given = joint_rules m.name (header_of m) given ++ flat_map (λ (j : Joint). (linked look m j).broken) (joints (header_of m) given)
 
 abbrev pub links_of : Look → ModuleTree → ConnsTree → List Link
 links_of look m given = filter_map (λ (j : Joint). (linked look m j).link) (joints (header_of m) given)
@@ -142,3 +133,30 @@ connect_all names d (l ∷ rest) = connect_all names (connect_one names d l) res
 
 abbrev pub connected : List Link → Stage → Stage
 connected links s = with_design s (connect_all s.names s.design links)
+
+-- ---- widths of what is given
+
+-- an expression of so many bits that leans, for the input or the parameter of a name
+pub record Leaning : Type 0 where
+  pub name : Text
+  pub bits : ℕ
+
+abbrev pub leaning_joint : Look → Joint → Option Leaning
+leaning_joint look j = cond (leans look.names j.value) (option_map (λ (x : Text). record { name = x; bits = size (read look j.value).expr }) j.name) None
+
+abbrev pub takes_input : ModuleTree → Joint → Bool
+takes_input m j = option_map_or is_input (option_and_then (port_direction m) j.name) false
+
+abbrev pub leaning_of : Look → ModuleTree → (params ports : ConnsTree) → List Leaning
+leaning_of look m params ports =
+    filter_map (leaning_joint look) (joints (overridable m) params) ++ filter_map (leaning_joint look) (filter (takes_input m) (joints (header_of m) ports))
+
+-- how many bits a signal takes, or a parameter with a range; one without has those of its expression
+abbrev pub taken_bits : List Entry → Option Meaning → ℕ
+taken_bits entries (Some (a_signal s)) = width_at entries s
+taken_bits entries (Some (a_param p)) = option_map_or span p.range 0
+taken_bits entries m = 0
+
+-- IEEE 1364-2005, 12.3.9.2: such an expression would be evaluated at the greater size
+abbrev pub is_short : Stage → Leaning → Bool
+is_short s l = nat_lt l.bits (taken_bits s.design.entries (meaning_in s.names l.name))

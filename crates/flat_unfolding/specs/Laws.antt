@@ -61,8 +61,8 @@ StandsBehind before after = (more : List Kept) × (map kept after ≡ map kept b
 
 -- the signals of an instance's module, and those of its instances, come behind all that were declared before
 abbrev pub NumbersLaw : Type 0
-NumbersLaw = (modules : List ModuleTree) (n : ℕ) (prefix : Text) (visiting : List Text) (m : ModuleTree) (overrides : Overrides) (links : List Link) (d e : Design)
-    → visit modules n prefix visiting m overrides (connected links) d ≡ good e → StandsBehind d.entries e.entries
+NumbersLaw = (modules : List ModuleTree) (n : ℕ) (prefix : Text) (visiting : List Text) (m : ModuleTree) (overrides : Overrides) (links : List Link) (d : Design) (e : Stage)
+    → visit modules n prefix visiting m overrides (connected links) d ≡ good e → StandsBehind d.entries e.design.entries
 
 -- each word of the flat design has 1 to 64 bits, numbers fit in theirs, and what is selected lies in its signal
 abbrev pub SizesLaw : Type 0

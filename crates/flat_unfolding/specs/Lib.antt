@@ -1,6 +1,7 @@
 pub mod Outcome
 pub mod Names
 pub mod Constants
+pub mod Signs
 pub mod Expressions
 pub mod Targets
 pub mod Memories

@@ -28,11 +28,12 @@ offset i r = cond (nat_lt r.left r.right) (cond (nat_le r.left i && nat_le i r.r
 abbrev pub offset_in : Option Range → ℕ → Option ℕ
 offset_in r i = option_and_then (offset i) r
 
--- a parameter: its value, its size, and whether it is counted
+-- a parameter: its value, its size, and whether it is counted, and signed
 pub record Param : Type 0 where
   pub value : ℕ
   pub width : ℕ
   pub is_counted : Bool
+  pub is_signed : Bool
   pub range : Option Range
 
 -- a memory: the number of its first word, and how many words follow one another from there
@@ -40,12 +41,12 @@ pub record Memory : Type 0 where
   pub first : ℕ
   pub words : ℕ
 
--- a signal is meant by its number
+-- a signal is meant by its number; no value is that of an instance or of a memory's word by its printed name
 pub data Meaning : Type 0 where
   a_param : Param → Meaning
   a_signal : ℕ → Meaning
   a_memory : Memory → Meaning
-  an_instance : Meaning
+  no_value : Meaning
 
 -- the names of one module
 abbrev pub Names : Type 0
@@ -54,9 +55,8 @@ Names = List (Text × Meaning)
 abbrev pub is_declared : Names → Text → Bool
 is_declared names x = is_some (found_in names x)
 
--- an instance's name stands for no value
 abbrev pub as_value : Meaning → Option Meaning
-as_value an_instance = None
+as_value no_value = None
 as_value m = Some m
 
 -- what a name stands for in an expression or a target
@@ -76,7 +76,7 @@ pub record Entry : Type 0 where
   pub range : Option Range
   pub is_reg : Bool
   pub direction : Direction
-  -- a plain output of the old style, which may be declared once more
+  -- a plain port of the old style, which may be declared once more
   pub is_open : Bool
   pub is_top_input : Bool
   -- the reset that it resolves to

@@ -1,5 +1,5 @@
 -- Parameters of a module.
-use Rattle.std.specs.Prelude.{Bool, false, cond, nat_lt, List, [], ◌∷◌, ◌++◌, flat_map, map, Option, Some, None}
+use Rattle.std.specs.Prelude.{◌^◌, Bool, false, cond, ◌&&◌, nat_lt, nat_le, is_none, List, [], ◌∷◌, ◌++◌, flat_map, map, Option, Some, None}
 use Rattle.std.specs.Option.{option_map_or}
 use Rattle.cdc_base.specs.declared.fault.Place.{Place}
 use Rattle.cdc_base.specs.Words.{found_in}
@@ -7,8 +7,9 @@ use Rattle.verilog_reading.specs.SourceTree.{Bounds, ParamTree, ItemTree, BodyTr
 use Rattle.flat_meaning.specs.Flat.{Expr, size}
 use Rattle.flat_unfolding.specs.Outcome.{Text, Broken, breaks_if, Outcome, each, Order, as_listed, judged}
 use Rattle.flat_unfolding.specs.Names.{Range, span, Param, a_param, is_declared, Look}
-use Rattle.flat_unfolding.specs.Constants.{assigned_value, is_counted}
-use Rattle.flat_unfolding.specs.Expressions.{as_constant, as_bound, range_of, read}
+use Rattle.flat_unfolding.specs.Constants.{own_value, assigned_value, is_counted}
+use Rattle.flat_unfolding.specs.Signs.{is_signed}
+use Rattle.flat_unfolding.specs.Expressions.{is_empty, as_constant, as_bound, range_of, read}
 use Rattle.flat_unfolding.specs.Design.{Stage, look_of}
 
 -- a declared range as it was read
@@ -32,14 +33,15 @@ range_read look x (Some b) = let a = bounds_read look b in record a { broken = a
 pub record Override : Type 0 where
   pub value : Expr
   pub is_counted : Bool
+  pub is_signed : Bool
 
 abbrev pub Overrides : Type 0
 Overrides = List (Text × Override)
 
--- with a range a parameter takes its value as in an assignment to that width, and isn't counted; without one it has its expression's own size
-abbrev pub held : Option Range → Expr → (counted : Bool) → Param
-held None e counted = record { value = assigned_value e (size e); width = size e; is_counted = counted; range = None }
-held (Some r) e counted = record { value = assigned_value e (span r); width = span r; is_counted = false; range = Some r }
+-- with a range a parameter takes its value as in an assignment to that width, and is neither counted nor signed; without one it has its expression's own size
+abbrev pub held : Option Range → Expr → (counted signed : Bool) → Param
+held None e counted signed = record { value = assigned_value e (size e); width = size e; is_counted = counted; is_signed = signed; range = None }
+held (Some r) e counted signed = record { value = assigned_value e (span r); width = span r; is_counted = false; is_signed = false; range = Some r }
 
 -- the order of trial of one parameter
 abbrev pub parameter_order : Order
@@ -49,11 +51,16 @@ parameter_order = as_listed (305 ∷ 304 ∷ 307 ∷ 308 ∷ [])
 pub record Valued : Type 0 where
   pub value : Expr
   pub is_counted : Bool
+  pub is_signed : Bool
   pub broken : List Broken
 
 abbrev pub value_of : Look → ParamTree → Option Override → Valued
-value_of look p None = let v = as_constant (read look p.value) in record { value = v.expr; is_counted = is_counted look.names p.value; broken = v.broken }
-value_of look p (Some o) = record { value = o.value; is_counted = o.is_counted; broken = [] }
+value_of look p None = let v = as_constant (read look p.value) in record { value = v.expr; is_counted = is_counted look.names p.value; is_signed = is_signed look.names p.value; broken = v.broken }
+value_of look p (Some o) = record { value = o.value; is_counted = o.is_counted; is_signed = o.is_signed; broken = [] }
+
+-- E307: without a range a signed value is at most 2^31 - 1
+abbrev pub sign_rule : Option Bounds → Valued → List Broken
+sign_rule r v = breaks_if (is_none r && v.is_signed && is_empty v.broken && nat_le (2 ^ 31) (own_value v.value)) 307 []
 
 -- a `localparam` has no override
 abbrev pub override_of : Overrides → ParamTree → Option Override
@@ -61,8 +68,8 @@ override_of overrides p = cond p.local None (found_in overrides p.name)
 
 abbrev pub parameter : Overrides → Stage → Place × ParamTree → Outcome Stage
 parameter overrides s q = let look = look_of s in let r = range_read look q.1.name q.1.range in let v = value_of look q.1 (override_of overrides q.1) in
-    judged parameter_order q.0 (breaks_if (is_declared s.names q.1.name) 304 q.1.name ++ r.broken ++ v.broken)
-    (record s { names = s.names ++ ((q.1.name, a_param (held r.range v.value v.is_counted)) ∷ []) })
+    judged parameter_order q.0 (breaks_if (is_declared s.names q.1.name) 304 q.1.name ++ r.broken ++ v.broken ++ sign_rule q.1.range v)
+    (record s { names = s.names ++ ((q.1.name, a_param (held r.range v.value v.is_counted v.is_signed)) ∷ []) })
 
 abbrev pub param_in : ItemTree → List (Place × ParamTree)
 param_in i = go i.body

@@ -1,9 +1,13 @@
 -- Targets with their names resolved, and the rules that they break.
-use Rattle.std.specs.Prelude.{ℕ, ◌+◌, ◌^◌, Bool, true, false, cond, not, ◌&&◌, ◌==◌, nat_lt, List, [], ◌∷◌, ◌++◌, map, flat_map, Option, Some, None, slice_get, option_map}
+use Rattle.std.specs.Prelude.{ℕ, ◌+◌, ◌^◌, Bool, true, false, cond, not, ◌&&◌, ◌||◌, nat_lt, nat_le, List, [], ◌∷◌, ◌++◌, length, map, flat_map, Option, Some, None, slice_get, option_map}
+use Rattle.std.specs.List.{list_any}
 use Rattle.std.specs.Option.{option_map_or, option_or}
 use Rattle.verilog_reading.specs.ExprTree.{ExprTree, name, index, part, join, ExprTrees, no_trees, and_trees, TargetTree, whole, index_of, part_of, join_of, TargetTrees, no_parts, and_parts}
+use Rattle.cell_graph.specs.Tree.{any_below}
+use Rattle.flat_meaning.specs.Assigned.{reaches}
 use Rattle.flat_meaning.specs.Flat.{Expr, size, Target, Whole, Part, Pick, Group, Targets, no_targets, target}
 use Rattle.flat_form.specs.View.{targets_of}
+use Rattle.flat_form.specs.Uses.{target_reads}
 use Rattle.flat_unfolding.specs.Outcome.{Text, Broken, breaks, breaks_if}
 use Rattle.flat_unfolding.specs.Names.{Range, Memory, Meaning, a_param, a_signal, a_memory, Direction, inner, inward, outward, Entry, Look, meaning, width_at, range_at, own_at, unknown}
 use Rattle.flat_unfolding.specs.Constants.{own_value, both}
@@ -57,10 +61,51 @@ group_of parts n = let is_wide = option_map_or (nat_lt 64) n false in record {
   broken = flat_map (λ (a : Aim). a.broken) parts ++ breaks_if is_wide 308 [];
 }
 
+-- the first name in a target
+abbrev mutual
+  pub first_name : TargetTree → Text
+  first_name (whole x) = x
+  first_name (index_of x i) = x
+  first_name (part_of x l r) = x
+  first_name (join_of parts) = first_name_in parts
+
+  pub first_name_in : TargetTrees → Text
+  first_name_in no_parts = []
+  first_name_in (and_parts t rest) = first_name t
+
 -- a word of a memory that a variable index chooses may be a target by itself in a process alone
 pub data Goal : Type 0 where
   fixed : Aim → Goal
   a_word : Memory → (index : Expr) → List Broken → Goal
+
+-- a part of a target concatenation: the name in it, and what it assigns
+pub record Piece : Type 0 where
+  pub name : Text
+  pub target : Target
+
+module _ (entries : List Entry) where
+  -- some bit of a signal is among these
+  abbrev pub some_bit : (ℕ → Bool) → ℕ → Bool
+  some_bit among s = any_below among (width_at entries s)
+
+  abbrev pub assigns_bits_of : Target → Target → ℕ → Bool
+  assigns_bits_of t g s = some_bit (λ i. reaches (width_at entries) t s i && reaches (width_at entries) g s i) s
+
+  abbrev pub reads_what_is_assigned : Target → Target → ℕ → Bool
+  reads_what_is_assigned t g s = some_bit (target_reads (width_at entries) t s) s && some_bit (reaches (width_at entries) g s) s
+
+  abbrev pub in_some_signal : (ℕ → Bool) → Bool
+  in_some_signal p = any_below p (length entries)
+
+  -- a part may assign a bit that an earlier one may assign, or its index reads a signal that the concatenation assigns
+  abbrev pub meets : (all before : List Piece) → Piece → Bool
+  meets all before p = list_any (λ (q : Piece). in_some_signal (assigns_bits_of p.target q.target)) before
+      || list_any (λ (q : Piece). in_some_signal (reads_what_is_assigned p.target q.target)) all
+
+  -- E313, with the part's name: the order in which the parts are assigned would count
+  abbrev pub meeting : (all before : List Piece) → List Piece → List Broken
+  meeting all before [] = []
+  meeting all before (p ∷ rest) = breaks_if (meets all before p) 313 p.name ++ meeting all (before ++ p ∷ []) rest
 
 module _ (look : Look) (use_ : Use) where
   -- E305, and E313: what may not be assigned so
@@ -91,7 +136,7 @@ module _ (look : Look) (use_ : Use) where
 
   abbrev pub memory_goal : Text → Memory → Term → Goal
   memory_goal x m i = cond i.is_constant (fixed (word_aim x (word_of m (own_value i.expr))))
-      (cond (2 ^ size i.expr == m.words) (a_word m i.expr []) (fixed (nowhere (breaks 315 x))))
+      (cond (nat_le (2 ^ size i.expr) m.words) (a_word m i.expr []) (fixed (nowhere (breaks 315 x))))
 
   abbrev pub after : List Broken → Goal → Goal
   after bs (fixed a) = fixed (behind bs a)
@@ -130,10 +175,29 @@ module _ (look : Look) (use_ : Use) where
     aims no_parts = []
     aims (and_parts t rest) = aim t ∷ aims rest
 
+  -- the parts of a target concatenation that are none themselves, from the left
+  abbrev mutual
+    pub pieces : TargetTree → List Piece
+    pieces (whole x) = record { name = x; target = (aim (whole x)).target } ∷ []
+    pieces (index_of x i) = record { name = x; target = (aim (index_of x i)).target } ∷ []
+    pieces (part_of x l r) = record { name = x; target = (aim (part_of x l r)).target } ∷ []
+    pieces (join_of parts) = pieces_in parts
+
+    pub pieces_in : TargetTrees → List Piece
+    pieces_in no_parts = []
+    pieces_in (and_parts t rest) = pieces t ++ pieces_in rest
+
+  abbrev pub piece_rules : TargetTree → List Broken
+  piece_rules (join_of parts) = meeting look.entries (pieces_in parts) [] (pieces_in parts)
+  piece_rules t = []
+
+  abbrev pub with_piece_rules : TargetTree → Aim
+  with_piece_rules t = let a = aim t in record a { broken = a.broken ++ piece_rules t }
+
 -- the target of an assignment in a process
 abbrev pub goal : Look → TargetTree → Goal
 goal look (index_of x i) = index_goal look of_registers x (read look i)
-goal look t = fixed (aim look of_registers t)
+goal look t = fixed (with_piece_rules look of_registers t)
 
 -- the first signal of which a variable index chooses a bit
 abbrev mutual
@@ -156,19 +220,7 @@ abbrev pub pick_rule : Look → Target → List Broken
 pick_rule look t = picked_rule look (first_pick t)
 
 abbrev pub wire_aim : Look → TargetTree → Aim
-wire_aim look t = let a = aim look of_wires t in record a { broken = a.broken ++ pick_rule look a.target }
-
--- the first name in a target
-abbrev mutual
-  pub first_name : TargetTree → Text
-  first_name (whole x) = x
-  first_name (index_of x i) = x
-  first_name (part_of x l r) = x
-  first_name (join_of parts) = first_name_in parts
-
-  pub first_name_in : TargetTrees → Text
-  first_name_in no_parts = []
-  first_name_in (and_parts t rest) = first_name t
+wire_aim look t = let a = with_piece_rules look of_wires t in record a { broken = a.broken ++ pick_rule look a.target }
 
 -- what an expression reads as where a target is wanted: a terminal or a connection
 abbrev mutual

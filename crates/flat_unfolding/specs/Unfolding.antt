@@ -1,5 +1,6 @@
 -- The unfolding of a source from its top: the flat design, or the first broken rule.
 use Rattle.std.specs.Prelude.{◌≡◌, Result, Ok, Err, ℕ, zero, suc, true, cond, ◌==◌, List, [], ◌∷◌, ◌++◌, length, find, Option, Some, None, bytes_eq, codes}
+use Rattle.std.specs.List.{list_any}
 use Rattle.cdc_base.specs.declared.fault.Place.{Place}
 use Rattle.cdc_base.specs.declared.signal.ResetPin.{ResetPin}
 use Rattle.cdc_base.specs.Words.{is_in}
@@ -14,13 +15,13 @@ use Rattle.flat_form.specs.View.{flat_of}
 use Rattle.cdc_base.specs.declared.fault.Stop.{Stop}
 use Rattle.cdc_base.specs.declared.fault.Stop.TheVariants.{Refused, Memory}
 use Rattle.flat_unfolding.specs.Outcome.{Text, Outcome, good, bad, then_, each, refused, refused_if, by_number, judged}
-use Rattle.flat_unfolding.specs.Names.{Direction, inward, direction_at, Meaning, a_signal, an_instance, is_declared, meaning_in, Entry, width_of, printed_part}
+use Rattle.flat_unfolding.specs.Names.{Direction, inward, direction_at, Meaning, a_signal, no_value, is_declared, meaning_in, Entry, width_of, printed_part}
 use Rattle.flat_unfolding.specs.Parameters.{Overrides, parameters}
 use Rattle.flat_unfolding.specs.Declarations.{header_of, header_decls, declarations}
 use Rattle.flat_unfolding.specs.Wires.{assign_item, gate_item}
 use Rattle.flat_unfolding.specs.Processes.{always_item}
 use Rattle.flat_unfolding.specs.Starts.{declared_start, initial_item}
-use Rattle.flat_unfolding.specs.Instances.{override_rules, overrides_of, connection_rules, links_of, connected}
+use Rattle.flat_unfolding.specs.Instances.{override_rules, overrides_of, connection_rules, links_of, connected, leaning_of, is_short}
 use Rattle.flat_unfolding.specs.Drivers.{driven_once}
 use Rattle.flat_unfolding.specs.Signals.{flat_design}
 use Rattle.flat_unfolding.specs.Design.{Design, no_design, Stage, look_of, with_design, change_entry}
@@ -38,19 +39,20 @@ abbrev pub declared_value : Stage → Place → DeclTree → Outcome Stage
 declared_value s p d = value_item s p d.name d.init d.kind
 
 -- the visit of a module: the printed names of the instances from the top to it, each with its dot; the modules that are being visited;
--- the overrides; and what is done to its ports once they are declared
+-- the overrides; and what is done to its ports once they are declared. It gives the design and the module's names
 abbrev pub Visit : Type 0
-Visit = (prefix : Text) → (visiting : List Text) → ModuleTree → Overrides → (Stage → Stage) → Design → Outcome Design
+Visit = (prefix : Text) → (visiting : List Text) → ModuleTree → Overrides → (Stage → Stage) → Design → Outcome Stage
 
 module _ (modules : List ModuleTree) (visiting : List Text) (prefix : Text) (visit : Visit) where
-  -- E302, E303, E304, then the rules of its overrides and connections; then its module is visited
+  -- E302, E303, E304, then the rules of its overrides and connections; then its module is visited, and E306 of what is too short for it
   abbrev pub instance_of : Stage → Place → ModuleTree → ConnsTree → Text → ConnsTree → Outcome Stage
   instance_of s p m params x ports = let look = look_of s in
       then_ (refused_if (is_in visiting m.name) 303 (Some p) m.name) (λ u.
       then_ (refused_if (is_declared s.names x) 304 (Some p) x) (λ u.
       then_ (judged by_number p (override_rules look m params ++ connection_rules look m ports) (tt {0})) (λ u.
-      then_ (visit (prefix ++ printed_part x ++ codes ".") (m.name ∷ visiting) m (overrides_of look m params) (connected (links_of look m ports)) s.design) (λ d.
-      good (record { names = s.names ++ ((x, an_instance) ∷ []); design = d })))))
+      then_ (visit (prefix ++ printed_part x ++ codes ".") (m.name ∷ visiting) m (overrides_of look m params) (connected (links_of look m ports)) s.design) (λ t.
+      then_ (refused_if (list_any (is_short t) (leaning_of look m params ports)) 306 (Some p) m.name) (λ u.
+      good (record { names = s.names ++ ((x, no_value) ∷ []); design = t.design }))))))
 
   abbrev pub instance_item : Stage → Place → Option ModuleTree → (child : Text) → ConnsTree → Text → ConnsTree → Outcome Stage
   instance_item s p None child params x ports = refused 302 (Some p) child
@@ -81,7 +83,7 @@ visit modules (suc n) prefix visiting m overrides ports d =
     then_ (parameters overrides m (record { names = []; design = d })) (λ s.
     then_ (declarations prefix m s) (λ t.
     then_ (header_values m (ports t)) (λ u.
-    then_ (each (item modules visiting prefix (visit modules n)) u m.items) (λ v. good v.design))))
+    each (item modules visiting prefix (visit modules n)) u m.items)))
 
 -- the ports of the top: its inputs come from outside, and one of one bit with the name of a reset resolves to it; its outputs in the header's order
 abbrev pub top_input : List ResetPin → Entry → Entry
@@ -119,7 +121,7 @@ finished d = checked (flat_design d)
 
 abbrev pub from_top : List ModuleTree → List ResetPin → (top : Text) → Option ModuleTree → Outcome Flat
 from_top modules resets top None = refused 301 None top
-from_top modules resets top (Some m) = then_ (visit modules (length modules) [] (m.name ∷ []) m [] (top_ports resets (header_of m)) no_design) finished
+from_top modules resets top (Some m) = then_ (visit modules (length modules) [] (m.name ∷ []) m [] (top_ports resets (header_of m)) no_design) (λ s. finished s.design)
 
 -- modules of one name, then the top, then its visit, then the drivers
 abbrev pub unfolded : List ModuleTree → (top : Text) → List ResetPin → Outcome Flat

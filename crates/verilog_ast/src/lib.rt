@@ -3,7 +3,7 @@
 
 pub mod depths;
 
-use cdc_base::{List, Name, Place};
+use cdc_base::{List, Name, NumberSize, Place};
 pub use depths::depth;
 
 #[derive(Drop)]
@@ -179,13 +179,13 @@ pub enum Target {
     Join(List<Target>),
 }
 
-/// An expression. `plain` marks a decimal number without size and base. `Paren` is a pair of parentheses.
+/// An expression. `size` tells how a number's size is written. `Paren` is a pair of parentheses.
 #[derive(Drop)]
 pub enum Expr {
     Number {
         value: u64,
         width: u8,
-        plain: bool,
+        size: NumberSize,
     },
     Ident(Name),
     At {

@@ -15,7 +15,8 @@ marks =
     (codes "^", mark.Caret) ∷ (codes "~&", mark.TildeAmpersand) ∷ (codes "~|", mark.TildeBar) ∷ (codes "~^", mark.TildeCaret) ∷
     (codes "^~", mark.CaretTilde) ∷ (codes "<<", mark.ShiftLeft) ∷ (codes ">>", mark.ShiftRight) ∷ (codes "<", mark.Less) ∷
     (codes ">", mark.Greater) ∷ (codes ">=", mark.GreaterEqual) ∷ (codes "==", mark.EqualEqual) ∷ (codes "!=", mark.BangEqual) ∷
-    (codes "&&", mark.AmpersandAmpersand) ∷ (codes "||", mark.BarBar) ∷ []
+    (codes "&&", mark.AmpersandAmpersand) ∷ (codes "||", mark.BarBar) ∷ (codes "<<<", mark.LessLessLess) ∷ (codes "&&&", mark.AmpersandAmpersandAmpersand) ∷
+    (codes "+:", mark.PlusColon) ∷ (codes "-:", mark.MinusColon) ∷ []
 
 abbrev pub directives : List (List ℕ)
 directives = codes "timescale" ∷ codes "default_nettype" ∷ codes "celldefine" ∷ codes "endcelldefine" ∷ codes "resetall" ∷ []

@@ -45,9 +45,13 @@ pub enum MarkKind {
     BangEqual,
     AmpersandAmpersand,
     BarBar,
+    LessLessLess,
+    AmpersandAmpersandAmpersand,
+    PlusColon,
+    MinusColon,
 }
 
-const MARKS: [(&str, MarkKind); 38] = [
+const MARKS: [(&str, MarkKind); 42] = [
     ("(", MarkKind::ParenOpen),
     (")", MarkKind::ParenClose),
     ("[", MarkKind::BracketOpen),
@@ -86,6 +90,10 @@ const MARKS: [(&str, MarkKind); 38] = [
     ("!=", MarkKind::BangEqual),
     ("&&", MarkKind::AmpersandAmpersand),
     ("||", MarkKind::BarBar),
+    ("<<<", MarkKind::LessLessLess),
+    ("&&&", MarkKind::AmpersandAmpersandAmpersand),
+    ("+:", MarkKind::PlusColon),
+    ("-:", MarkKind::MinusColon),
 ];
 
 const DIRECTIVES: [&str; 5] = [

@@ -1,5 +1,6 @@
 -- Expressions and targets without their pointers, and how deep they are.
-use Rattle.std.specs.Prelude.{ℕ, suc, max, Bool, List, [], ◌∷◌}
+use Rattle.std.specs.Prelude.{ℕ, suc, max, List, [], ◌∷◌}
+use Rattle.cdc_base.specs.declared.size.NumberSize.{NumberSize}
 use Rattle.verilog_ast.specs.declared.UnaryOp.{UnaryOp}
 use Rattle.verilog_ast.specs.declared.BinaryOp.{BinaryOp}
 use Rattle.verilog_ast.specs.declared.Expr.{Expr}
@@ -11,7 +12,7 @@ use Rattle.verilog_ast.specs.declared.Target.TheFolds.{fold-Target}
 
 mutual
   pub data ExprTree : Type 0 where
-    number : ℕ → ℕ → Bool → ExprTree
+    number : ℕ → ℕ → NumberSize → ExprTree
     name : List ℕ → ExprTree
     index : List ℕ → ExprTree → ExprTree
     part : List ℕ → ExprTree → ExprTree → ExprTree
@@ -31,7 +32,7 @@ trees_of [] = no_trees
 trees_of (a ∷ bs) = and_trees a (trees_of bs)
 
 abbrev pub expr_tree_step : Expr-F ExprTree → ExprTree
-expr_tree_step (Expr-F.Number value width plain) = number value width plain
+expr_tree_step (Expr-F.Number value width size) = number value width size
 expr_tree_step (Expr-F.Ident n) = name n
 expr_tree_step (Expr-F.At n i) = index n i.value
 expr_tree_step (Expr-F.Part n left right) = part n left.value right.value
@@ -49,7 +50,7 @@ tree_of = fold-Expr ExprTree expr_tree_step
 -- how many levels an expression has below its first
 abbrev mutual
   pub height : ExprTree → ℕ
-  height (number value width plain) = 0
+  height (number value width size) = 0
   height (name n) = 0
   height (index n i) = suc (height i)
   height (part n left right) = suc (max (height left) (height right))

@@ -1,6 +1,7 @@
 -- What stands next among tokens: marks, words, names and numbers, each with its spot in the text.
-use Rattle.std.specs.Prelude.{ℕ, Bool, List, Option, Some, None, if◌then◌else◌}
+use Rattle.std.specs.Prelude.{ℕ, List, Option, Some, None, if◌then◌else◌}
 use Rattle.cdc_base.specs.declared.fault.Place.{Place}
+use Rattle.cdc_base.specs.declared.size.NumberSize.{NumberSize}
 use Rattle.cdc_base.specs.declared.words.Keyword.{Keyword}
 use Rattle.cdc_base.specs.contracts.words.KeywordPartialEq.TheImpl as words
 use Rattle.verilog_lex.specs.declared.marks.MarkKind.{MarkKind}
@@ -40,11 +41,11 @@ ident n = token_at (Ident n.name) n.spot
 pub record Numeral : Type 0 where
   pub value : ℕ
   pub width : ℕ
-  pub plain : Bool
+  pub size : NumberSize
   pub spot : Spot
 
 abbrev pub numeral : Numeral → Token
-numeral n = token_at (Number n.value n.width n.plain) n.spot
+numeral n = token_at (Number n.value n.width n.size) n.spot
 
 -- the closing end
 abbrev pub closing : Spot → Token
@@ -72,7 +73,7 @@ abbrev pub ident_in : Token → Option Named
 ident_in t = ident_of t.kind (spot_of t)
 
 abbrev pub numeral_of : TokenKind → Spot → Option Numeral
-numeral_of (Number v w p) s = Some (record { value = v; width = w; plain = p; spot = s })
+numeral_of (Number v w z) s = Some (record { value = v; width = w; size = z; spot = s })
 numeral_of k s = None
 
 abbrev pub numeral_in : Token → Option Numeral

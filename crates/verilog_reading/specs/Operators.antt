@@ -5,7 +5,7 @@ use Rattle.verilog_ast.specs.declared.UnaryOp.TheVariants as u
 use Rattle.verilog_ast.specs.declared.BinaryOp.{BinaryOp}
 use Rattle.verilog_ast.specs.declared.BinaryOp.TheVariants as b
 use Rattle.verilog_lex.specs.declared.marks.MarkKind.{MarkKind}
-use Rattle.verilog_lex.specs.declared.marks.MarkKind.TheVariants.{Plus, Minus, Star, Slash, Percent, Bang, Tilde, Ampersand, Bar, Caret, TildeAmpersand, TildeBar, TildeCaret, CaretTilde, ShiftLeft, ShiftRight, Less, LessEqual, Greater, GreaterEqual, EqualEqual, BangEqual, AmpersandAmpersand, BarBar}
+use Rattle.verilog_lex.specs.declared.marks.MarkKind.TheVariants.{Plus, Minus, Star, Slash, Percent, Bang, Tilde, Ampersand, Bar, Caret, TildeAmpersand, TildeBar, TildeCaret, CaretTilde, ShiftLeft, ShiftRight, Less, LessEqual, Greater, GreaterEqual, EqualEqual, BangEqual, AmpersandAmpersand, BarBar, LessLessLess}
 use Rattle.verilog_lex.specs.declared.token.Token.{Token}
 use Rattle.verilog_lex.specs.declared.token.TokenKind.{TokenKind}
 use Rattle.verilog_lex.specs.declared.token.TokenKind.TheVariants.{Mark}
@@ -32,6 +32,7 @@ binary_of Percent = Some b.Mod
 binary_of Plus = Some b.Add
 binary_of Minus = Some b.Sub
 binary_of ShiftLeft = Some b.Shl
+binary_of LessLessLess = Some b.Shl
 binary_of ShiftRight = Some b.Shr
 binary_of Less = Some b.Lt
 binary_of LessEqual = Some b.Le

@@ -87,7 +87,7 @@ in_braces r _ ts = then_read (r.expr ts) (behind_first r)
 
 abbrev pub unary_at : Option Readers → List Token → Outcome ExprTree
 unary_at down =
-    next numeral_in (λ n. done (number n.value n.width n.plain)) (next ident_in (in_name down)
+    next numeral_in (λ n. done (number n.value n.width n.size)) (next ident_in (in_name down)
     (enter down prefix_in in_unary (enter down (mark_in ParenOpen) in_paren (enter down (mark_in BraceOpen) in_braces refuse))))
 
 -- a level is left below a tree that stands to the left

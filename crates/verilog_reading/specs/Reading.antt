@@ -10,7 +10,7 @@ mutual
   -- `primary = number | id | id "[" expr "]" | id range | "(" expr ")" | "{" expr { , expr } "}" | "{" expr "{" expr { , expr } "}" "}"`,
   -- or a unary operator before a unary expression
   pub data IsUnary : List Token → ExprTree → Type 0 where
-    is_number : (n : Numeral) → IsUnary (numeral n ∷ []) (number n.value n.width n.plain)
+    is_number : (n : Numeral) → IsUnary (numeral n ∷ []) (number n.value n.width n.size)
     is_name : (n : Named) → IsUnary (ident n ∷ []) (name n.name)
     is_index : (n : Named) (p q : Spot) {u : List Token} {i : ExprTree} → IsExpr u i
         → IsUnary (ident n ∷ (mark BracketOpen p ∷ (u ++ mark BracketClose q ∷ []))) (index n.name i)
