@@ -37,11 +37,11 @@ both f a b = None
 -- a decimal run alone
 abbrev pub is_plain : NumberSize → Bool
 is_plain z.Plain = true
-is_plain size = false
+is_plain spelt = false
 
 -- the own size of a counted expression, and nothing of any other: no concatenation, replication, select or sized number is counted
 abbrev pub counted_size : Names → ExprTree → Option ℕ
-counted_size names (number v w size) = cond (is_plain size) (Some w) None
+counted_size names (number v w spelt) = cond (is_plain spelt) (Some w) None
 counted_size names (name x) = option_map (λ (p : Param). p.width) (counted_param names x)
 counted_size names (index x i) = None
 counted_size names (part x l r) = None
@@ -95,7 +95,7 @@ module _ (names : Names) where
 
   -- the value of a counted expression as a whole number; of a choice the chosen branch alone is judged. None breaks E307
   abbrev pub whole : ExprTree → Option ℕ
-  whole (number v w size) = within 32 v
+  whole (number v w spelt) = within 32 v
   whole (name x) = option_and_then (λ (p : Param). within p.width p.value) (counted_param names x)
   whole (index x i) = None
   whole (part x l r) = None

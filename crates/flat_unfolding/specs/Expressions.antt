@@ -220,7 +220,7 @@ module _ (look : Look) where
 
   abbrev mutual
     pub read : ExprTree → Term
-    read (number v w size) = constant (Number w v)
+    read (number v w spelt) = constant (Number w v)
     read (name x) = name_term x
     read (index x i) = index_term x (read i)
     read (part x l r) = part_term x (read l) (read r)

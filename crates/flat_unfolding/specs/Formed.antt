@@ -12,7 +12,7 @@ AreSome (and_trees a rest) = Unit {0}
 
 abbrev mutual
   pub IsFormed : ExprTree → Type 0
-  IsFormed (number v w size) = (1 ≤ w) × (w ≤ 64) × (v < 2 ^ w) × (is_plain size ≡ true → (w ≡ 32) × (v < 2 ^ 31))
+  IsFormed (number v w spelt) = (1 ≤ w) × (w ≤ 64) × (v < 2 ^ w) × (is_plain spelt ≡ true → (w ≡ 32) × (v < 2 ^ 31))
   IsFormed (name x) = Unit {0}
   IsFormed (index x i) = IsFormed i
   IsFormed (part x l r) = IsFormed l × IsFormed r

@@ -28,7 +28,7 @@ abbrev mutual
 
 abbrev mutual
   pub names_in : ExprTree → List Text
-  names_in (number v w size) = []
+  names_in (number v w spelt) = []
   names_in (name x) = x ∷ []
   names_in (index x i) = x ∷ names_in i
   names_in (part x l r) = x ∷ names_in l ++ names_in r

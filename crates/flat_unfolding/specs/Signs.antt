@@ -38,7 +38,7 @@ binary_signed b.Shr m n = m
 binary_signed op m n = false
 
 abbrev pub is_signed : Names → ExprTree → Bool
-is_signed names (number v w size) = is_plain size
+is_signed names (number v w spelt) = is_plain spelt
 is_signed names (name x) = meant_signed (meaning_in names x)
 is_signed names (index x i) = false
 is_signed names (part x l r) = false
@@ -78,7 +78,7 @@ binary_leans op m n = false
 
 -- what is counted with the size 32 is a number, which leans on no size
 abbrev pub leans : Names → ExprTree → Bool
-leans names (number v w size) = false
+leans names (number v w spelt) = false
 leans names (name x) = false
 leans names (index x i) = false
 leans names (part x l r) = false
@@ -92,6 +92,6 @@ leans names (paren a) = leans names a
 -- a number without a size, or what is counted with the size 32
 abbrev pub is_unsized : Names → ExprTree → Bool
 is_unsized names (number v w z.Sized) = false
-is_unsized names (number v w size) = true
+is_unsized names (number v w spelt) = true
 is_unsized names (paren a) = is_unsized names a
 is_unsized names e = counts_whole names e

@@ -33,7 +33,7 @@ greatest [] = 0
 greatest (n ∷ ns) = max n (greatest ns)
 
 abbrev pub expr_step : Expr-F ℕ → ℕ
-expr_step (Expr-F.Number value width size) = 1
+expr_step (Expr-F.Number value width spelt) = 1
 expr_step (Expr-F.Ident name) = 1
 expr_step (Expr-F.At name index) = index.value + 1
 expr_step (Expr-F.Part name left right) = max left.value right.value + 1

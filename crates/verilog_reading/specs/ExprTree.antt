@@ -32,7 +32,7 @@ trees_of [] = no_trees
 trees_of (a ∷ bs) = and_trees a (trees_of bs)
 
 abbrev pub expr_tree_step : Expr-F ExprTree → ExprTree
-expr_tree_step (Expr-F.Number value width size) = number value width size
+expr_tree_step (Expr-F.Number value width spelt) = number value width spelt
 expr_tree_step (Expr-F.Ident n) = name n
 expr_tree_step (Expr-F.At n i) = index n i.value
 expr_tree_step (Expr-F.Part n left right) = part n left.value right.value
@@ -50,7 +50,7 @@ tree_of = fold-Expr ExprTree expr_tree_step
 -- how many levels an expression has below its first
 abbrev mutual
   pub height : ExprTree → ℕ
-  height (number value width size) = 0
+  height (number value width spelt) = 0
   height (name n) = 0
   height (index n i) = suc (height i)
   height (part n left right) = suc (max (height left) (height right))
