@@ -3,6 +3,7 @@ use Prim.Native.String.{String}
 use Rattle.std.proofs.Common.{ℕ, suc, Bool, true, false, List, [], ◌∷◌, Option, Some, None}
 use Rattle.std.specs.Prelude.{codes}
 use Rattle.cdc_base.specs.declared.fault.Place.{Place}
+use Rattle.cdc_base.specs.declared.size.NumberSize.TheVariants.{Plain, Unsized, Sized}
 use Rattle.cdc_base.specs.declared.signal.Signal.{Signal}
 use Rattle.cdc_base.specs.declared.signal.SigKind.{SigKind}
 use Rattle.verilog_ast.specs.declared.DeclKind.{DeclKind}
@@ -24,10 +25,13 @@ abbrev pub v : String → ExprTree
 v x = name (codes x)
 
 abbrev pub plain : ℕ → ExprTree
-plain n = number n 32 true
+plain n = number n 32 Plain
 
 abbrev pub sized : (width n : ℕ) → ExprTree
-sized w n = number n w false
+sized w n = number n w Sized
+
+abbrev pub unsized : ℕ → ExprTree
+unsized n = number n 32 Unsized
 
 abbrev pub bit : String → ExprTree → ExprTree
 bit x i = index (codes x) i
