@@ -13,7 +13,7 @@ use Rattle.flat_unfolding.specs.Names.{Range, Meaning, a_signal, a_memory, Names
 use Rattle.flat_unfolding.specs.Targets.{is_input}
 use Rattle.flat_unfolding.specs.Memories.{words_of, word_names}
 use Rattle.flat_unfolding.specs.Parameters.{bounds_read, range_read}
-use Rattle.flat_unfolding.specs.Declarations.{if_open, add_signal, add_memory, direction_of, is_inner, is_reg_kind, is_plain_port, may_be_again, declaration_order, Site, again, range_rule, array_read, declaration_rules, entry, taken_names, add_declared, declared_again, declaration, header_of, item_decls, header_decls, sites, header_twice, has_direction, directed, declarations}
+use Rattle.flat_unfolding.specs.Declarations.{if_open, add_signal, add_memory, direction_of, is_inner, is_reg_kind, is_plain_port, declaration_order, Site, again, range_rule, array_read, declaration_rules, entry, taken_names, add_declared, declared_again, declaration, header_of, item_decls, header_decls, sites, header_twice, has_direction, directed, declarations}
 use Rattle.flat_unfolding.specs.Instances.{first_direction, port_direction}
 use Rattle.flat_unfolding.specs.Design.{Design, Stage, look_of, with_design, change_entry}
 use Rattle.flat_unfolding.proofs.Steps.{good_is, good_then, judged_is, not_broken, none_of_both, each_keeps, some_is}

@@ -96,8 +96,7 @@ constants = refl
 -- ---- assignments, gates and drivers
 
 -- wire w; assign {w, w} = 2'b10; assigns the bit twice
-twice_at_once : h (wire None "w" ∷ assign (to_pair (to "w") (to "w")) (sized 2 2) ∷ []) ≡ refused_at 309 2 "w"
-unfolding keyword_of is_left_out
+twice_at_once : h (wire None "w" ∷ assign (to_pair (to "w") (to "w")) (sized 2 2) ∷ []) ≡ refused_at 313 3 "w"
 twice_at_once = refl
 
 -- wire w; assign q = w;
