@@ -432,6 +432,25 @@ open_input : top_m (inverter ∷ a_module "m" [] (port k.Output (down_to_zero 1)
 unfolding keyword_of is_left_out digits
 open_input = refl
 
+-- module c(input c, d, output q); reg r; always @(posedge c) r <= d; assign q = r; endmodule, and in m: c u(, d, q); an event reads it
+open_clock : top_m (a_module "c" [] (input "c" ∷ input "d" ∷ output "q" ∷ []) (reg None "r" ∷ at_clock "c" (later (to "r") (v "d")) ∷ assign (to "q") (v "r") ∷ [])
+    ∷ a_module "m" [] (input "d" ∷ output "q" ∷ []) (instance (codes "c") (ordered []) (codes "u") (ordered (None ∷ Some (v "d") ∷ Some (v "q") ∷ [])) ∷ []) ∷ []) ≡ refused_at 310 1 "u.c"
+unfolding keyword_of is_left_out
+open_clock = refl
+
+-- module c(input a, output b); assign b = 1'b0; endmodule, and in m: c u(, q); nothing reads it
+open_unread : top_m (a_module "c" [] (input "a" ∷ output "b" ∷ []) (assign (to "b") (sized 1 0) ∷ [])
+    ∷ a_module "m" [] (output "q" ∷ []) (instance (codes "c") (ordered []) (codes "u") (ordered (None ∷ Some (v "q") ∷ [])) ∷ []) ∷ [])
+    ≡ good (record {
+      signals = one_bit "q" 1 Wire ∷ one_bit "u.a" 1 Wire ∷ one_bit "u.b" 1 Wire ∷ [];
+      assigns = (f.Whole 0, f.Read 2 0 1) ∷ (f.Whole 2, f.Number 1 0) ∷ [];
+      combs = [];
+      clocked = [];
+      outputs = 0 ∷ [];
+    })
+unfolding keyword_of is_left_out
+open_unread = refl
+
 -- module m(input d, e, output [1:0] q); n u(.., q); endmodule
 abbrev inverted : ExprTree → Outcome Flat
 inverted e = top_m (inverter ∷ a_module "m" [] (input "d" ∷ input "e" ∷ port k.Output (down_to_zero 1) "q" ∷ []) (instance_of "n" "u" (e ∷ v "q" ∷ []) ∷ []) ∷ [])
