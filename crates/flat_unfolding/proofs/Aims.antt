@@ -1,5 +1,5 @@
 -- Targets that break no rule are well sized.
-use Rattle.std.proofs.Common.{◌≡◌, ℕ, ◌+◌, ◌^◌, ◌≤◌, Bool, true, false, cond, not, ◌&&◌, ◌==◌, nat_lt, List, [], ◌∷◌, ◌++◌, map, Option, Some, None, refl, sym, ap, ap₂, subst, ◌∙◌, arith, rules, ltb-true, ltb-false, eqb-true}
+use Rattle.std.proofs.Common.{◌≡◌, ℕ, ◌+◌, ◌^◌, ◌≤◌, Bool, true, false, cond, not, ◌&&◌, nat_lt, nat_le, List, [], ◌∷◌, ◌++◌, map, Option, Some, None, refl, sym, ap, ap₂, subst, ◌∙◌, arith, rules, ltb-true, ltb-false, leb-true}
 use Rattle.std.specs.Prelude.{◌≢◌, slice_get, is_none, flat_map, option_map}
 use Rattle.std.specs.Option.{option_map_or}
 use Rattle.verilog_reading.specs.ExprTree.{ExprTree, name, index, part, join, ExprTrees, no_trees, and_trees, TargetTree, whole, index_of, part_of, join_of, TargetTrees, no_parts, and_parts}
@@ -7,10 +7,10 @@ use Rattle.flat_meaning.specs.Flat.{size, Target, Whole, Part, Pick, Group, targ
 use Rattle.flat_meaning.specs.Law.{AreWords}
 use Rattle.flat_form.specs.View.{targets_of}
 use Rattle.flat_unfolding.specs.Outcome.{Text, Broken, breaks, breaks_if}
-use Rattle.flat_unfolding.specs.Names.{Range, Memory, Meaning, a_param, a_signal, a_memory, an_instance, Look, meaning, width_at, range_at, unknown}
+use Rattle.flat_unfolding.specs.Names.{Range, Memory, Meaning, a_param, a_signal, a_memory, no_value, Look, meaning, width_at, range_at, unknown}
 use Rattle.flat_unfolding.specs.Constants.{own_value, both}
 use Rattle.flat_unfolding.specs.Expressions.{Term, is_sound, as_bound, range_of, Select, bit_select, part_select, may_index, word_of, read}
-use Rattle.flat_unfolding.specs.Targets.{Aim, nowhere, behind, Use, of_wires, of_registers, takes, is_assignable, total, group_of, Goal, fixed, a_word, name_rules, meant_whole, select_aim, signal_aim, word_aim, memory_goal, after, meant_goal, index_goal, as_fixed, meant_range, part_aim, aim, aims, goal, first_pick, picked_rule, pick_rule, wire_aim, as_target, as_targets, driven_at, driven}
+use Rattle.flat_unfolding.specs.Targets.{Aim, nowhere, behind, Use, of_wires, of_registers, takes, is_assignable, total, group_of, Goal, fixed, a_word, name_rules, meant_whole, select_aim, signal_aim, word_aim, memory_goal, after, meant_goal, index_goal, as_fixed, meant_range, part_aim, aim, aims, piece_rules, with_piece_rules, goal, first_pick, picked_rule, pick_rule, wire_aim, as_target, as_targets, driven_at, driven}
 use Rattle.flat_unfolding.specs.Formed.{IsFormed, AreFormed, AreSome, IsTargetFormed, AreTargetsFormed, AreSomeParts}
 use Rattle.flat_unfolding.specs.Sized.{IsSized, IsTargetSized, AreTargetsSized}
 use Rattle.flat_unfolding.proofs.Steps.{not_broken, none_of_both, some_is}
@@ -38,7 +38,7 @@ module _ (look : Look) (words : AreWords (width_at look.entries)) (known : (x : 
     -- a goal: its words are registers
     abbrev pub IsGoalSized : Goal → Type 0
     IsGoalSized (fixed a) = IsAimSized a
-    IsGoalSized (a_word m i bs) = bs ≡ [] → (2 ^ size i ≡ m.words) × IsSized wid i × Stands look.entries (a_memory m) × (use_ ≡ of_registers)
+    IsGoalSized (a_word m i bs) = bs ≡ [] → (2 ^ size i ≤ m.words) × IsSized wid i × Stands look.entries (a_memory m) × (use_ ≡ of_registers)
 
     behind_sized : (bs : List Broken) (a : Aim) → (bs ≡ [] → IsAimSized a) → IsAimSized (behind bs a)
     behind_sized bs a h e = let p = none_of_both bs a.broken e in h p.0 p.1
@@ -64,7 +64,7 @@ module _ (look : Look) (words : AreWords (width_at look.entries)) (known : (x : 
       meant_whole_sized x (Some (a_param p)) h e = let k = h.is_assignable in absurd (search (rules, k))
       meant_whole_sized x (Some (a_signal s)) h e = ((allows s h.is_assignable, h.stands), refl)
       meant_whole_sized x (Some (a_memory m)) h e = absurd (search (rules, e))
-      meant_whole_sized x (Some an_instance) h e = absurd h.stands
+      meant_whole_sized x (Some no_value) h e = absurd h.stands
 
       select_sized : (x : Text) (s : ℕ) (o : Option Select) → may s ≡ true → ((q : Select) → o ≡ Some q → IsInside (wid s) q) → IsAimSized (select_aim look use_ x s o)
       select_sized x s None h i e = absurd (search (rules, e))
@@ -87,7 +87,7 @@ module _ (look : Look) (words : AreWords (width_at look.entries)) (known : (x : 
 
       module _ (own : (u : use_ ≡ of_registers) (s : ℕ) → reg_at look.entries s ≡ true → may s ≡ true) where
         memory_goal_sized : (x : Text) (m : Memory) (i : Term) → IsAllowed (Some (a_memory m)) → IsSized wid i.expr → IsGoalSized (memory_goal look use_ x m i)
-        memory_goal_sized x m i h k = go i.is_constant (2 ^ size i.expr == m.words) refl
+        memory_goal_sized x m i h k = go i.is_constant (nat_le (2 ^ size i.expr) m.words) refl
           where
             n : ℕ
             n = own_value i.expr
@@ -96,10 +96,10 @@ module _ (look : Look) (words : AreWords (width_at look.entries)) (known : (x : 
             word_sized true l e = let w = h.stands.1 n (ltb-true n m.words l) in ((own (is_registers use_ m h.is_assignable) (m.first + n) w.1, w.0), refl)
             word_sized false l e = absurd (search (rules, e))
 
-            go : (b c : Bool) → (2 ^ size i.expr == m.words) ≡ c
+            go : (b c : Bool) → nat_le (2 ^ size i.expr) m.words ≡ c
                 → IsGoalSized (cond b (fixed (word_aim look use_ x (word_of m n))) (cond c (a_word m i.expr []) (fixed (nowhere (breaks 315 x)))))
             go true c l = word_sized (nat_lt n m.words) refl
-            go false true l = λ e. (eqb-true (2 ^ size i.expr) m.words l, k, h.stands, is_registers use_ m h.is_assignable)
+            go false true l = λ e. (leb-true (2 ^ size i.expr) m.words l, k, h.stands, is_registers use_ m h.is_assignable)
             go false false l = λ e. absurd (search (rules, e))
 
         meant_goal_sized : (x : Text) (i : Term) (o : Option Meaning) → IsAllowed o → IsSized wid i.expr → IsGoalSized (meant_goal look use_ x i o)
@@ -107,7 +107,7 @@ module _ (look : Look) (words : AreWords (width_at look.entries)) (known : (x : 
         meant_goal_sized x i (Some (a_param p)) h k = let s = h.is_assignable in absurd (search (rules, s))
         meant_goal_sized x i (Some (a_signal s)) h k = signal_sized x s i (allows s h.is_assignable) k
         meant_goal_sized x i (Some (a_memory m)) h k = memory_goal_sized x m i h k
-        meant_goal_sized x i (Some an_instance) h k = absurd h.stands
+        meant_goal_sized x i (Some no_value) h k = absurd h.stands
 
         after_sized : (bs : List Broken) (g : Goal) → (bs ≡ [] → IsGoalSized g) → IsGoalSized (after look use_ bs g)
         after_sized bs (fixed a) h = behind_sized bs a h
@@ -133,7 +133,7 @@ module _ (look : Look) (words : AreWords (width_at look.entries)) (known : (x : 
         meant_range_sized x (Some q) (Some (a_signal n)) s h e = select_sized x n (part_select (range_at look.entries n) q) (allows n h.is_assignable)
             (λ c. part_inside (range_at look.entries n) (wid n) q c (spans_at look.entries n)) e
         meant_range_sized x r (Some (a_memory m)) s h e = absurd (search (rules, e))
-        meant_range_sized x r (Some an_instance) s h e = absurd h.stands
+        meant_range_sized x r (Some no_value) s h e = absurd h.stands
 
         -- bounds that break no rule make a range
         ranged : (l r : Term) → l.broken ≡ [] → r.broken ≡ [] → range_of l r ≢ None
@@ -202,16 +202,20 @@ module _ (look : Look) (words : AreWords (width_at look.entries)) (known : (x : 
           aims_sized no_parts h e = (tt, refl)
           aims_sized (and_parts t ts) h e = two_aims (aim look use_ t) (aims look use_ ts) (aim_sized t h.0) (aims_sized ts h.1) e
 
+        -- the rules of its parts change no target
+        pub ruled_sized : (t : TargetTree) → IsTargetFormed t → IsAimSized (with_piece_rules look use_ t)
+        ruled_sized t h e = aim_sized t h (none_of_both (aim look use_ t).broken (piece_rules look use_ t) e).0
+
   -- ---- the target of a process
 
   abbrev is_reg : ℕ → Bool
   is_reg = reg_at look.entries
 
   pub goal_sized : (t : TargetTree) → IsTargetFormed t → IsGoalSized of_registers is_reg (goal look t)
-  goal_sized (whole x) h = aim_sized of_registers is_reg (λ s e. e) (λ u s e. e) (whole x) h
+  goal_sized (whole x) h = ruled_sized of_registers is_reg (λ s e. e) (λ u s e. e) (whole x) h
   goal_sized (index_of x i) h = index_goal_sized of_registers is_reg (λ s e. e) (λ u s e. e) x (read look i) (sized look words known i h)
-  goal_sized (part_of x l r) h = aim_sized of_registers is_reg (λ s e. e) (λ u s e. e) (part_of x l r) h
-  goal_sized (join_of parts) h = aim_sized of_registers is_reg (λ s e. e) (λ u s e. e) (join_of parts) h
+  goal_sized (part_of x l r) h = ruled_sized of_registers is_reg (λ s e. e) (λ u s e. e) (part_of x l r) h
+  goal_sized (join_of parts) h = ruled_sized of_registers is_reg (λ s e. e) (λ u s e. e) (join_of parts) h
 
   -- ---- what `assign`, a gate or an output drives
 
@@ -229,9 +233,9 @@ module _ (look : Look) (words : AreWords (width_at look.entries)) (known : (x : 
 
     pub wire_sized : (t : TargetTree) → IsTargetFormed t → IsWireAim (wire_aim look t)
     wire_sized t h e =
-        let a = aim look of_wires t in
+        let a = with_piece_rules look of_wires t in
         let p = none_of_both a.broken (pick_rule look a.target) e in
-        ((aim_sized of_wires may allows (λ u. wires_differ u) t h p.0).0, none_picked (first_pick a.target) p.1)
+        ((ruled_sized of_wires may allows (λ u. wires_differ u) t h p.0).0, none_picked (first_pick a.target) p.1)
 
     mutual
       formed_target : (e : ExprTree) (t : TargetTree) → IsFormed e → as_target e ≡ Some t → IsTargetFormed t

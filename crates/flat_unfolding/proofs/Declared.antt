@@ -1,6 +1,7 @@
 -- Declarations of a module that break no rule: what they make of the signals, and of the names.
 use Rattle.std.proofs.Common.{◌≡◌, ℕ, zero, suc, ◌+◌, ◌<◌, ◌≤◌, max, min, Bool, true, false, cond, not, ◌&&◌, ◌==◌, nat_lt, List, [], ◌∷◌, ◌++◌, length, map, Option, Some, None, refl, sym, ap, subst, ◌∙◌, arith, rules}
 use Rattle.std.specs.Prelude.{All, option_and_then}
+use Rattle.std.proofs.lemmas.Bool.{and_parts}
 use Rattle.std.proofs.lemmas.List.Elements.{All-head, All-cons, All-nil, All-tail, All-push, All-append}
 use Rattle.cdc_base.specs.declared.fault.Place.{Place}
 use Rattle.cdc_base.specs.Words.{found_in}
@@ -10,12 +11,12 @@ use Rattle.verilog_ast.specs.declared.DeclKind.TheVariants as k
 use Rattle.verilog_reading.specs.SourceTree.{Bounds, ParamTree, DeclTree, ModuleTree}
 use Rattle.flat_meaning.specs.Flat.{Expr, size}
 use Rattle.flat_unfolding.specs.Outcome.{Text, good, each, refused_if, judged}
-use Rattle.flat_unfolding.specs.Names.{Range, span, width_of, Meaning, a_param, a_signal, a_memory, an_instance, Names, as_value, meaning_in, meaning, Entry, Look, width_at}
+use Rattle.flat_unfolding.specs.Names.{Range, span, width_of, Meaning, a_param, a_signal, a_memory, no_value, Names, as_value, meaning_in, meaning, Entry, Look, width_at}
 use Rattle.flat_unfolding.specs.Expressions.{read}
 use Rattle.flat_unfolding.specs.Targets.{is_input}
 use Rattle.flat_unfolding.specs.Memories.{is_depth, depth_of, words_of, word_names}
-use Rattle.flat_unfolding.specs.Parameters.{bounds_read, range_read, Override, Overrides, held, parameter_order, value_of, override_of, parameter}
-use Rattle.flat_unfolding.specs.Declarations.{direction_of, is_reg_kind, is_plain_output, declaration_order, Site, if_open, again, range_rule, array_read, declaration_rules, entry, added, numbered, add_signal, add_memory, declared_again, add_declared, declaration, header_of, sites, header_twice, has_direction, directed, declarations}
+use Rattle.flat_unfolding.specs.Parameters.{bounds_read, range_read, Override, Overrides, held, parameter_order, value_of, sign_rule, override_of, parameter}
+use Rattle.flat_unfolding.specs.Declarations.{direction_of, is_reg_kind, is_plain_port, may_be_again, declaration_order, Site, if_open, again, range_rule, array_read, declaration_rules, entry, added, taken_names, add_signal, add_memory, declared_again, add_declared, declaration, header_of, sites, header_twice, has_direction, directed, declarations}
 use Rattle.flat_unfolding.specs.Design.{Design, Stage, look_of, with_design, change_entry}
 use Rattle.flat_unfolding.specs.Formed.{IsFormed}
 use Rattle.flat_unfolding.proofs.Steps.{good_is, good_then, judged_is, none_of_both, each_keeps, some_is}
@@ -40,7 +41,7 @@ abbrev pub IsFresh : ℕ → Meaning → Type 0
 IsFresh n (a_param p) = Unit {0}
 IsFresh n (a_signal s) = n ≤ s
 IsFresh n (a_memory m) = Unit {0}
-IsFresh n an_instance = Unit {0}
+IsFresh n no_value = Unit {0}
 
 abbrev pub AreFresh : ℕ → Names → Type 0
 AreFresh n names = All (λ (p : Text × Meaning). IsFresh n p.1) names
@@ -53,7 +54,7 @@ found_meant names x m = go (found_in names x)
     go (Some (a_param p)) e = e
     go (Some (a_signal s)) e = e
     go (Some (a_memory q)) e = e
-    go (Some an_instance) e = absurd (search (rules, e))
+    go (Some no_value) e = absurd (search (rules, e))
 
 pub meant_fresh : (n : ℕ) (names : Names) (x : Text) (s : ℕ) → AreFresh n names → meaning_in names x ≡ Some (a_signal s) → n ≤ s
 meant_fresh n names x s h e = found_is (IsFresh n) names x (a_signal s) h (found_meant names x (a_signal s) e)
@@ -73,9 +74,9 @@ declared_stage d s h k = record { names = k.names; design = subst IsDesign (sym 
 
 -- ---- parameters
 
-held_sized : (r : Option Range) (e : Expr) (counted : Bool) → IsWide (size e) → width_of r ≤ 64 → IsParamSized (held r e counted)
-held_sized None e counted h l = (h.0, h.1, number-lt _ (size e), l)
-held_sized (Some r) e counted h l = (width_some (Some r), l, number-lt _ (span r), l)
+held_sized : (r : Option Range) (e : Expr) (counted signed : Bool) → IsWide (size e) → width_of r ≤ 64 → IsParamSized (held r e counted signed)
+held_sized None e counted signed h l = (h.0, h.1, number-lt _ (size e), l)
+held_sized (Some r) e counted signed h l = (width_some (Some r), l, number-lt _ (span r), l)
 
 abbrev pub AreWide : Overrides → Type 0
 AreWide overrides = All (λ (q : Text × Override). IsWide (size q.1.value)) overrides
@@ -84,16 +85,16 @@ pub parameter_declares : (d : Design) (overrides : Overrides) → AreWide overri
 parameter_declares d overrides o s q t f e h =
     let look = look_of s in let r = range_read look q.1.name q.1.range in let v = value_of look q.1 (override_of overrides q.1) in
     let j = judged_is parameter_order q.0 _ _ t e in
-    let a = none_of_both _ v.broken j.0 in
+    let a = none_of_both _ v.broken (none_of_both _ (sign_rule q.1.range v) j.0).0 in
     let b = none_of_both _ r.broken a.0 in
     let w = wide (override_of overrides q.1) (λ x k. given x q.1.local k) a.1 in
-    let p = held_sized r.range v.value v.is_counted w (range_narrow look q.1.name q.1.range b.1) in
+    let p = held_sized r.range v.value v.is_counted v.is_signed w (range_narrow look q.1.name q.1.range b.1) in
     subst (IsDeclaring d) j.1 record {
       same = h.same;
       grows = h.grows;
       entries = h.entries;
-      names = All-push (λ (p : Text × Meaning). IsNamed s.design.entries p.1) s.names (q.1.name, a_param (held r.range v.value v.is_counted)) h.names p;
-      fresh = All-push (λ (p : Text × Meaning). IsFresh (length d.entries) p.1) s.names (q.1.name, a_param (held r.range v.value v.is_counted)) h.fresh tt;
+      names = All-push (λ (p : Text × Meaning). IsNamed s.design.entries p.1) s.names (q.1.name, a_param (held r.range v.value v.is_counted v.is_signed)) h.names p;
+      fresh = All-push (λ (p : Text × Meaning). IsFresh (length d.entries) p.1) s.names (q.1.name, a_param (held r.range v.value v.is_counted v.is_signed)) h.fresh tt;
       plain = h.plain;
     }
   where
@@ -108,33 +109,45 @@ parameter_declares d overrides o s q t f e h =
         let words = words_are s.design.entries h.entries in
         size_wide (width_at s.design.entries) words v.expr (sized (look_of s) words (λ x. stands s.design.entries s.names x h.names) q.1.value f (none_of_both v.broken _ e).0)
 
--- ---- an output that is declared again
+-- ---- a port that is declared again
 
-open_again : (es : List Entry) (o : Option Meaning) (n : ℕ) → if_open es o ≡ Some n → (o ≡ Some (a_signal n)) × (open_at es n ≡ true)
-open_again es None n e = absurd (search (rules, e))
-open_again es (Some (a_param p)) n e = absurd (search (rules, e))
-open_again es (Some (a_memory p)) n e = absurd (search (rules, e))
-open_again es (Some an_instance) n e = absurd (search (rules, e))
-open_again es (Some (a_signal s)) n e = go (open_at es s) refl e
+-- what may be declared again is open, and an input then becomes no register
+abbrev pub again_at : DeclKind → List Entry → ℕ → Bool
+again_at kind es s = told (may_be_again kind) false es s
+
+pub again_is_open : (kind : DeclKind) (es : List Entry) (s : ℕ) → again_at kind es s ≡ true → open_at es s ≡ true
+again_is_open kind [] s h = absurd (search (rules, h))
+again_is_open kind (e ∷ es) zero h = (and_parts e.is_open (not (is_reg_kind kind && is_input e.direction)) h).0
+again_is_open kind (e ∷ es) (suc s) h = again_is_open kind es s h
+
+pub no_register : (kind : DeclKind) (e : Entry) → may_be_again kind e ≡ true → is_input e.direction ≡ true → is_reg_kind kind ≡ false
+no_register kind e h i = go (is_reg_kind kind) (is_input e.direction) (and_parts e.is_open (not (is_reg_kind kind && is_input e.direction)) h).1 i
   where
-    go : (b : Bool) → open_at es s ≡ b → cond b (Some s) None ≡ Some n → (Some (a_signal s) ≡ Some (a_signal n)) × (open_at es n ≡ true)
-    go false k e = absurd (search (rules, e))
-    go true k e = let i = some_is s n e in (ap (λ m. Some (a_signal m)) i, subst (λ m. open_at es m ≡ true) i k)
+    go : (a b : Bool) → not (a && b) ≡ true → b ≡ true → a ≡ false
+    go false b h i = refl
+    go true true h i = absurd (search (rules, h))
+    go true false h i = absurd (search (rules, i))
 
-pub again_open : (s : Stage) (x : DeclTree) (n : ℕ) → again (look_of s) x ≡ Some n → (meaning (look_of s) x.name ≡ Some (a_signal n)) × (open_at s.design.entries n ≡ true)
+open_again : (kind : DeclKind) (es : List Entry) (o : Option Meaning) (n : ℕ) → if_open kind es o ≡ Some n → (o ≡ Some (a_signal n)) × (again_at kind es n ≡ true)
+open_again kind es None n e = absurd (search (rules, e))
+open_again kind es (Some (a_param p)) n e = absurd (search (rules, e))
+open_again kind es (Some (a_memory p)) n e = absurd (search (rules, e))
+open_again kind es (Some no_value) n e = absurd (search (rules, e))
+open_again kind es (Some (a_signal s)) n e = go (again_at kind es s) refl e
+  where
+    go : (b : Bool) → again_at kind es s ≡ b → cond b (Some s) None ≡ Some n → (Some (a_signal s) ≡ Some (a_signal n)) × (again_at kind es n ≡ true)
+    go false k e = absurd (search (rules, e))
+    go true k e = let i = some_is s n e in (ap (λ m. Some (a_signal m)) i, subst (λ m. again_at kind es m ≡ true) i k)
+
+pub again_open : (s : Stage) (x : DeclTree) (n : ℕ) → again (look_of s) x ≡ Some n → (meaning (look_of s) x.name ≡ Some (a_signal n)) × (again_at x.kind s.design.entries n ≡ true)
 again_open s x n = go _
   where
-    go : (b : Bool) → cond b (if_open s.design.entries (meaning (look_of s) x.name)) None ≡ Some n → (meaning (look_of s) x.name ≡ Some (a_signal n)) × (open_at s.design.entries n ≡ true)
-    go true e = open_again s.design.entries (meaning (look_of s) x.name) n e
+    go : (b : Bool) → cond b (if_open x.kind s.design.entries (meaning (look_of s) x.name)) None ≡ Some n → (meaning (look_of s) x.name ≡ Some (a_signal n)) × (again_at x.kind s.design.entries n ≡ true)
+    go true e = open_again x.kind s.design.entries (meaning (look_of s) x.name) n e
     go false e = absurd (search (rules, e))
 
-entry_again : (kind : DeclKind) (e : Entry) → e.is_open ≡ true → IsEntry e → IsEntry (declared_again kind e)
-entry_again kind e o h = record {
-  narrow = h.narrow;
-  input = λ i. absurd (let k = h.is_open o in search (rules, i, k));
-  top = h.top;
-  is_open = λ i. absurd (search (rules, i));
-}
+entry_again : (kind : DeclKind) (e : Entry) → may_be_again kind e ≡ true → IsEntry e → IsEntry (declared_again kind e)
+entry_again kind e o h = record { narrow = h.narrow; input = no_register kind e o; top = h.top }
 
 named_again : (kind : DeclKind) (n : ℕ) (es : List Entry) → open_at es n ≡ true → (m : Meaning) → IsNamed es m → IsNamed (change_entry (declared_again kind) n es) m
 named_again kind n es o (a_param p) h = h
@@ -146,9 +159,9 @@ named_again kind n es o (a_memory m) h = (
       let a = same_other (declared_again kind) n es (m.first + i) (λ e. absurd (let x : open_at es n ≡ false = ap (open_at es) (sym e) ∙ w.2 in search (rules, o, x))) in
       (subst (λ x. 1 ≤ x) (sym a.width) w.0, a.reg ∙ w.1, a.is_open ∙ w.2),
 )
-named_again kind n es o an_instance h = tt
+named_again kind n es o no_value h = tt
 
-again_declares : (d : Design) (s : Stage) (kind : DeclKind) (n : ℕ) → length d.entries ≤ n → open_at s.design.entries n ≡ true → IsDeclaring d s
+again_declares : (d : Design) (s : Stage) (kind : DeclKind) (n : ℕ) → length d.entries ≤ n → again_at kind s.design.entries n ≡ true → IsDeclaring d s
     → IsDeclaring d (with_design s (record s.design { entries = change_entry (declared_again kind) n s.design.entries }))
 again_declares d s kind n l o h =
     let es = s.design.entries in let f = declared_again kind in
@@ -158,8 +171,8 @@ again_declares d s kind n l o h =
           let b = is_declared_at d.entries i k in let a = h.grows i k in
           let c = same_other f n es i (λ e. absurd (omega (arith, b, l, e))) in
           record { width = c.width ∙ a.width; reg = c.reg ∙ a.reg; is_open = c.is_open ∙ a.is_open; top = c.top ∙ a.top };
-      entries = change_all (λ (e : Entry). e.is_open) f (entry_again kind) n es o h.entries;
-      names = all_on (λ (p : Text × Meaning). IsNamed es p.1) (λ (p : Text × Meaning). IsNamed (change_entry f n es) p.1) s.names (λ p. named_again kind n es o p.1) h.names;
+      entries = change_all (may_be_again kind) f (entry_again kind) n es o h.entries;
+      names = all_on (λ (p : Text × Meaning). IsNamed es p.1) (λ (p : Text × Meaning). IsNamed (change_entry f n es) p.1) s.names (λ p. named_again kind n es (again_is_open kind es n o) p.1) h.names;
       fresh = h.fresh;
       plain = λ i k. told_same (λ (e : Entry). e.is_top_input) false f (λ e. refl) n es i ∙ h.plain i k;
     }
@@ -188,13 +201,10 @@ length_of_map : {A B : Type 0} (f : A → B) (xs : List A) → length (map f xs)
 length_of_map f [] = refl
 length_of_map f (x ∷ xs) = ap suc (length_of_map f xs)
 
-numbered_named : (gs : List Entry) (n : ℕ) (xs : List Text) → n + length xs ≤ length gs → AreNamed gs (numbered n xs)
-numbered_named gs n [] h = All-nil (λ (p : Text × Meaning). IsNamed gs p.1)
-numbered_named gs n (x ∷ xs) h = All-cons (λ (p : Text × Meaning). IsNamed gs p.1) (x, a_signal n) (numbered (n + 1) xs) (has_bits gs n (let l : n < length gs = omega (arith, h) in l)) (numbered_named gs (n + 1) xs (let k : n + 1 + length xs ≤ length gs = omega (arith, h) in k))
-
-numbered_fresh : (b n : ℕ) (xs : List Text) → b ≤ n → AreFresh b (numbered n xs)
-numbered_fresh b n [] h = All-nil (λ (p : Text × Meaning). IsFresh b p.1)
-numbered_fresh b n (x ∷ xs) h = All-cons (λ (p : Text × Meaning). IsFresh b p.1) (x, a_signal n) (numbered (n + 1) xs) h (numbered_fresh b (n + 1) xs (let k : b ≤ n + 1 = omega (arith, h) in k))
+-- names that are taken keep what holds of no value
+taken_keep : (P : Meaning → Type 0) → P no_value → (xs : List Text) → All (λ (p : Text × Meaning). P p.1) (taken_names xs)
+taken_keep P h [] = All-nil (λ (p : Text × Meaning). P p.1)
+taken_keep P h (x ∷ xs) = All-cons (λ (p : Text × Meaning). P p.1) (x, no_value) (taken_names xs) h (taken_keep P h xs)
 
 -- ---- the entries that a declaration adds
 
@@ -205,19 +215,12 @@ input_plain k.OutputReg e = absurd (search (rules, e))
 input_plain k.Wire e = refl
 input_plain k.Reg e = absurd (search (rules, e))
 
-output_outward : (kind : DeclKind) (b : Bool) → (is_plain_output kind && b) ≡ true → is_input (direction_of kind) ≡ false
-output_outward k.Input b e = absurd (search (rules, e))
-output_outward k.Output b e = refl
-output_outward k.OutputReg b e = refl
-output_outward k.Wire b e = refl
-output_outward k.Reg b e = refl
-
-entry_is : (at : Site) (kind : DeclKind) (r : Option Range) (b : Bool) (x : Text) → width_of r ≤ 64 → (b ≡ true → is_input (direction_of kind) ≡ false) → IsEntry (entry at kind r b x)
-entry_is at kind r b x l h = record { narrow = l; input = input_plain kind; top = λ e. absurd (search (rules, e)); is_open = h }
+entry_is : (at : Site) (kind : DeclKind) (r : Option Range) (b : Bool) (x : Text) → width_of r ≤ 64 → IsEntry (entry at kind r b x)
+entry_is at kind r b x l = record { narrow = l; input = input_plain kind; top = λ e. absurd (search (rules, e)) }
 
 entries_are : (at : Site) (kind : DeclKind) (r : Option Range) (xs : List Text) → width_of r ≤ 64 → All IsEntry (map (entry at kind r false) xs)
 entries_are at kind r [] l = All-nil IsEntry
-entries_are at kind r (x ∷ xs) l = All-cons IsEntry (entry at kind r false x) (map (entry at kind r false) xs) (entry_is at kind r false x l (λ e. absurd (search (rules, e)))) (entries_are at kind r xs l)
+entries_are at kind r (x ∷ xs) l = All-cons IsEntry (entry at kind r false x) (map (entry at kind r false) xs) (entry_is at kind r false x l) (entries_are at kind r xs l)
 
 told_of_map : {A B : Type 0} (g : Entry → A) (d a : A) (f : B → Entry) → ((x : B) → g (f x) ≡ a) → (xs : List B) (i : ℕ) → i < length xs → told g d (map f xs) i ≡ a
 told_of_map g d a f h [] i l = absurd (omega (arith, l))
@@ -266,23 +269,26 @@ module _ (d : Design) (s : Stage) (h : IsDeclaring d s) (at : Site) (x : DeclTre
 
   signal_declares : (t : Stage) → add_signal s at x r ≡ good t → IsDeclaring d t
   signal_declares t e =
-      let f = entry at x.kind r (is_plain_output x.kind && not at.in_header) x.name in
-      added_declares d s (f ∷ []) (numbered (length es) (x.name ∷ [])) t e
-      (All-cons IsEntry f [] (entry_is at x.kind r (is_plain_output x.kind && not at.in_header) x.name l (output_outward x.kind (not at.in_header))) (All-nil IsEntry))
-      (λ i. none_of_map (λ (e : Entry). e.is_top_input) false (entry at x.kind r (is_plain_output x.kind && not at.in_header)) (λ y. refl) (x.name ∷ []) i)
-      (numbered_named (es ++ f ∷ []) (length es) (x.name ∷ []) (let n = length_of_both es (f ∷ []) in let k : length es + 1 ≤ length (es ++ f ∷ []) = omega arith in k))
-      (numbered_fresh (length d.entries) (length es) (x.name ∷ []) base) h
+      let is_open = is_plain_port x.kind && not at.in_header in
+      let f = entry at x.kind r is_open x.name in
+      let m : Meaning = a_signal (length es) in
+      let n = length_of_both es (f ∷ []) in
+      added_declares d s (f ∷ []) ((x.name, m) ∷ []) t e
+      (All-cons IsEntry f [] (entry_is at x.kind r is_open x.name l) (All-nil IsEntry))
+      (λ i. none_of_map (λ (e : Entry). e.is_top_input) false (entry at x.kind r is_open) (λ y. refl) (x.name ∷ []) i)
+      (All-cons (λ (p : Text × Meaning). IsNamed (es ++ f ∷ []) p.1) (x.name, m) [] (has_bits (es ++ f ∷ []) (length es) (let k : length es < length (es ++ f ∷ []) = omega arith in k)) (All-nil (λ (p : Text × Meaning). IsNamed (es ++ f ∷ []) p.1)))
+      (All-cons (λ (p : Text × Meaning). IsFresh (length d.entries) p.1) (x.name, m) [] base (All-nil (λ (p : Text × Meaning). IsFresh (length d.entries) p.1))) h
 
   memory_declares : (n : ℕ) → is_reg_kind x.kind ≡ true → 1 ≤ n → (t : Stage) → add_memory s at x r n ≡ good t → IsDeclaring d t
   memory_declares n reg some t e =
       let f = entry at x.kind r false in let xs = word_names x.name 0 n in let gs = es ++ map f xs in
       let m : Meaning = a_memory (record { first = length es; words = n }) in
       let many = length_of_both es (map f xs) in let many_names = length_of_map f xs in let many_words = length_of_names x.name 0 n in
-      added_declares d s (map f xs) (numbered (length es) xs ++ ((x.name, m) ∷ [])) t e
+      added_declares d s (map f xs) (taken_names xs ++ ((x.name, m) ∷ [])) t e
       (entries_are at x.kind r xs l)
       (λ i. none_of_map (λ (e : Entry). e.is_top_input) false f (λ y. refl) xs i)
-      (All-append (λ (p : Text × Meaning). IsNamed gs p.1) (numbered (length es) xs) ((x.name, m) ∷ [])
-      (numbered_named gs (length es) xs (let a : length es + length xs ≤ length gs = omega arith in a))
+      (All-append (λ (p : Text × Meaning). IsNamed gs p.1) (taken_names xs) ((x.name, m) ∷ [])
+      (taken_keep (IsNamed gs) tt xs)
       (All-cons (λ (p : Text × Meaning). IsNamed gs p.1) (x.name, m) [] (
         some,
         λ i k.
@@ -293,10 +299,10 @@ module _ (d : Design) (s : Stage) (h : IsDeclaring d s) (at : Site) (x : DeclTre
             ),
       )
       (All-nil (λ (p : Text × Meaning). IsNamed gs p.1))))
-      (All-append (λ (p : Text × Meaning). IsFresh (length d.entries) p.1) (numbered (length es) xs) ((x.name, m) ∷ []) (numbered_fresh (length d.entries) (length es) xs base)
+      (All-append (λ (p : Text × Meaning). IsFresh (length d.entries) p.1) (taken_names xs) ((x.name, m) ∷ []) (taken_keep (IsFresh (length d.entries)) tt xs)
       (All-cons (λ (p : Text × Meaning). IsFresh (length d.entries) p.1) (x.name, m) [] tt (All-nil (λ (p : Text × Meaning). IsFresh (length d.entries) p.1)))) h
 
-  adds_declare : (o n : Option ℕ) → ((i : ℕ) → o ≡ Some i → (length d.entries ≤ i) × (open_at es i ≡ true)) → ((i : ℕ) → n ≡ Some i → (is_reg_kind x.kind ≡ true) × (1 ≤ i))
+  adds_declare : (o n : Option ℕ) → ((i : ℕ) → o ≡ Some i → (length d.entries ≤ i) × (again_at x.kind es i ≡ true)) → ((i : ℕ) → n ≡ Some i → (is_reg_kind x.kind ≡ true) × (1 ≤ i))
       → (t : Stage) → add_declared s at x r o n ≡ good t → IsDeclaring d t
   adds_declare (Some i) n a w t e = let b = a i refl in subst (IsDeclaring d) (good_is _ t e) (again_declares d s x.kind i b.0 b.1 h)
   adds_declare None (Some n) a w t e = let b = w n refl in memory_declares n b.0 b.1 t e

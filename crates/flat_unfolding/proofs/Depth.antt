@@ -1,15 +1,16 @@
 -- The bound on the depth of visits is never met.
 use Rattle.std.proofs.Common.{◌≡◌, ℕ, zero, suc, ◌+◌, ◌<◌, Bool, true, false, List, [], ◌∷◌, ◌++◌, length, map, Option, Some, None, refl, ap, ◌∙◌, arith}
 use Rattle.std.specs.Prelude.{codes}
+use Rattle.std.specs.List.{list_any}
 use Rattle.cdc_base.specs.declared.fault.Place.{Place}
 use Rattle.cdc_base.specs.Words.{is_in}
 use Rattle.verilog_reading.specs.SourceTree.{ConnsTree, BodyTree, instance, ModuleTree}
 use Rattle.flat_unfolding.specs.Outcome.{Text, Outcome, good, bad, then_, each, refused_if, by_number, judged}
-use Rattle.flat_unfolding.specs.Names.{is_declared, printed_part, an_instance}
+use Rattle.flat_unfolding.specs.Names.{is_declared, printed_part, no_value}
 use Rattle.flat_unfolding.specs.Design.{Design, Stage, look_of}
 use Rattle.flat_unfolding.specs.Parameters.{Overrides, parameters}
 use Rattle.flat_unfolding.specs.Declarations.{declarations}
-use Rattle.flat_unfolding.specs.Instances.{override_rules, overrides_of, connection_rules, links_of, connected}
+use Rattle.flat_unfolding.specs.Instances.{override_rules, overrides_of, connection_rules, links_of, connected, leaning_of, is_short}
 use Rattle.flat_unfolding.specs.Unfolding.{module_named, Visit, instance_of, instance_item, item_of, item, header_values, visit}
 use Rattle.flat_unfolding.specs.Laws.{DepthLaw}
 use Rattle.flat_unfolding.proofs.Names.{AllIn, AreDistinct, no_more_than, found_is_in}
@@ -55,7 +56,8 @@ module _ (modules : List ModuleTree) where
         refused_same (is_in visiting m.name) 303 (Some p) m.name _ _ (λ new a.
         then_same (refused_if (is_declared s.names x) 304 (Some p) x) _ _ (λ b.
         then_same (judged by_number p (override_rules look m params ++ connection_rules look m ports) (tt {0})) _ _ (λ c.
-        ap (λ o. then_ o (λ (d : Design). good (record { names = s.names ++ ((x, an_instance) ∷ []); design = d })))
+        ap (λ o. then_ o (λ (t : Stage). then_ (refused_if (list_any (is_short t) (leaning_of look m params ports)) 306 (Some p) m.name)
+        (λ (u : Unit {0}). good (record { names = s.names ++ ((x, no_value) ∷ []); design = t.design }))))
         (same (prefix ++ printed_part x ++ codes ".") m ((new, are_open.0), (known, are_open.1)) (overrides_of look m params) (connected (links_of look m ports)) s.design))))
 
     same_if : (s : Stage) (p : Place) (o : Option ModuleTree) → ((m : ModuleTree) → o ≡ Some m → is_in names m.name ≡ true) → (child : Text) (params : ConnsTree) (x : Text) (ports : ConnsTree)
@@ -75,10 +77,10 @@ module _ (modules : List ModuleTree) where
       then_same (parameters overrides m (record { names = []; design = d })) _ _ (λ s.
       then_same (declarations prefix m s) _ _ (λ t.
       then_same (header_values m (ports t)) _ _ (λ u.
-      ap (λ q. then_ q (λ (x : Stage). good x.design)) (each_same (item modules visiting prefix (visit modules (suc n))) (item modules visiting prefix (visit modules n))
+      each_same (item modules visiting prefix (visit modules (suc n))) (item modules visiting prefix (visit modules n))
       (λ a i. same_item visiting o prefix (visit modules (suc n)) (visit modules n)
       (λ inner k p. same_visit n inner (k.name ∷ visiting) k p (let j : length modules < n + length (k.name ∷ visiting) = omega (arith, l) in j)) a i.place i.body)
-      u m.items))))
+      u m.items)))
 
 pub depth_law : DepthLaw
 depth_law modules top m e ports d zero = let h : length modules + 0 ≡ length modules = omega arith in ap (λ n. visit modules n [] (m.name ∷ []) m [] ports d) h

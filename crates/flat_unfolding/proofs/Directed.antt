@@ -1,5 +1,5 @@
--- A port that its module's header or its items first declare as an input is no register.
-use Rattle.std.proofs.Common.{◌≡◌, ℕ, ◌+◌, ◌≤◌, Bool, true, false, cond, not, ◌&&◌, nat_lt, List, [], ◌∷◌, ◌++◌, length, map, Option, Some, None, refl, sym, ap, ap₂, subst, ◌∙◌, arith, rules, bytes_eq}
+-- A port that its module's header or its items first declare as an input is no register, however it is declared again.
+use Rattle.std.proofs.Common.{◌≡◌, ℕ, zero, suc, ◌+◌, ◌≤◌, Bool, true, false, cond, not, ◌&&◌, nat_lt, List, [], ◌∷◌, ◌++◌, length, map, Option, Some, None, refl, sym, ap, ap₂, subst, ◌∙◌, arith, rules, bytes_eq}
 use Rattle.std.specs.Prelude.{is_some, is_none, option_and_then}
 use Rattle.std.proofs.lemmas.List.{append_assoc, append-nil}
 use Rattle.std.proofs.lemmas.Slice.Eq.{bytes_eq-Decides}
@@ -9,16 +9,17 @@ use Rattle.verilog_ast.specs.declared.DeclKind.{DeclKind}
 use Rattle.verilog_ast.specs.declared.DeclKind.TheVariants as k
 use Rattle.verilog_reading.specs.SourceTree.{Bounds, DeclTree, ModuleTree}
 use Rattle.flat_unfolding.specs.Outcome.{Text, good, each, breaks_if, refused_if, judged}
-use Rattle.flat_unfolding.specs.Names.{Range, Meaning, a_signal, a_memory, Names, is_declared, as_value, meaning_in, meaning, Direction, inward, Entry, Look, width_at}
+use Rattle.flat_unfolding.specs.Names.{Range, Meaning, a_signal, a_memory, Names, is_declared, as_value, meaning_in, meaning, Direction, inner, inward, Entry, Look, width_at, direction_at}
+use Rattle.flat_unfolding.specs.Targets.{is_input}
 use Rattle.flat_unfolding.specs.Memories.{words_of, word_names}
 use Rattle.flat_unfolding.specs.Parameters.{bounds_read, range_read}
-use Rattle.flat_unfolding.specs.Declarations.{if_open, add_signal, add_memory, direction_of, is_inner, is_reg_kind, is_plain_output, declaration_order, Site, again, range_rule, array_read, declaration_rules, entry, numbered, add_declared, declared_again, declaration, header_of, item_decls, header_decls, sites, header_twice, has_direction, directed, declarations}
+use Rattle.flat_unfolding.specs.Declarations.{if_open, add_signal, add_memory, direction_of, is_inner, is_reg_kind, is_plain_port, declaration_order, Site, again, range_rule, array_read, declaration_rules, entry, taken_names, add_declared, declared_again, declaration, header_of, item_decls, header_decls, sites, header_twice, has_direction, directed, declarations}
 use Rattle.flat_unfolding.specs.Instances.{first_direction, port_direction}
 use Rattle.flat_unfolding.specs.Design.{Design, Stage, look_of, with_design, change_entry}
 use Rattle.flat_unfolding.proofs.Steps.{good_is, good_then, judged_is, not_broken, none_of_both, each_keeps, some_is}
-use Rattle.flat_unfolding.proofs.Known.{reg_at, open_at, AreNamed, StandsIf, stands}
-use Rattle.flat_unfolding.proofs.Grown.{told_before, told_behind, is_declared_at, same_other}
-use Rattle.flat_unfolding.proofs.Declared.{found_meant, IsDeclaring, declaration_declares, again_open}
+use Rattle.flat_unfolding.proofs.Known.{reg_at, AreNamed, StandsIf, stands}
+use Rattle.flat_unfolding.proofs.Grown.{told_same, told_before, told_behind, is_declared_at}
+use Rattle.flat_unfolding.proofs.Declared.{again_at, no_register, found_meant, IsDeclaring, declaration_declares, again_open}
 
 -- ---- the first direction of a name
 
@@ -60,16 +61,27 @@ found_behind (p ∷ xs) ys x e = go (bytes_eq p.0 x) e (found_behind xs ys x)
 
 -- ---- what is known of inputs while a module's names are declared
 
+abbrev IsInputAt : List Entry → ℕ → Type 0
+IsInputAt es n = (reg_at es n ≡ false) × (direction_at es n ≡ inward)
+
 record KnowsInputs (ds : List DeclTree) (s : Stage) : Type 0 where
-  pub inputs : (x : Text) (n : ℕ) → meaning_in s.names x ≡ Some (a_signal n) → first_direction x ds ≡ Some inward → (reg_at s.design.entries n ≡ false) × (open_at s.design.entries n ≡ false)
+  pub inputs : (x : Text) (n : ℕ) → meaning_in s.names x ≡ Some (a_signal n) → first_direction x ds ≡ Some inward → IsInputAt s.design.entries n
   pub others : (x : Text) → found_in s.names x ≡ None → first_direction x ds ≡ None
 
-input_kind : (kind : DeclKind) → direction_of kind ≡ inward → (is_reg_kind kind ≡ false) × ((b : Bool) → (is_plain_output kind && b) ≡ false)
-input_kind k.Input e = (refl, λ b. refl)
+input_kind : (kind : DeclKind) → direction_of kind ≡ inward → is_reg_kind kind ≡ false
+input_kind k.Input e = refl
 input_kind k.Output e = absurd (search (rules, e))
 input_kind k.OutputReg e = absurd (search (rules, e))
 input_kind k.Wire e = absurd (search (rules, e))
 input_kind k.Reg e = absurd (search (rules, e))
+
+-- an input that is declared again becomes no register
+reg_again : (kind : DeclKind) (n : ℕ) (es : List Entry) → again_at kind es n ≡ true → (s : ℕ) → IsInputAt es s → reg_at (change_entry (declared_again kind) n es) s ≡ false
+reg_again kind n [] o s h = h.0
+reg_again kind zero (e ∷ es) o zero h = no_register kind e o (ap is_input h.1)
+reg_again kind zero (e ∷ es) o (suc s) h = h.0
+reg_again kind (suc n) (e ∷ es) o zero h = h.0
+reg_again kind (suc n) (e ∷ es) o (suc s) h = reg_again kind n es o s h
 
 -- the direction that one declaration gives
 one_direction : (x : Text) (d : DeclTree) (r : Direction) → first_direction x (d ∷ []) ≡ Some r → (bytes_eq d.name x ≡ true) × (is_inner (direction_of d.kind) ≡ false) × (direction_of d.kind ≡ r)
@@ -111,20 +123,19 @@ module _ (ds : List DeclTree) (s : Stage) (h : KnowsInputs ds s) (named : AreNam
           let k : found_in s.names x ≡ None = subst (λ y. found_in s.names y ≡ None) i (new o.1) in
           let l = found_meant s.names x (a_signal n) m in absurd (search (rules, sym k ∙ l))
 
-  again_knows : (kind : DeclKind) (n : ℕ) → is_inner (direction_of d.kind) ≡ true → open_at s.design.entries n ≡ true
+  again_knows : (kind : DeclKind) (n : ℕ) → is_inner (direction_of d.kind) ≡ true → again_at kind s.design.entries n ≡ true
       → KnowsInputs more (with_design s (record s.design { entries = change_entry (declared_again kind) n s.design.entries }))
   again_knows kind n i o = record {
     inputs = λ x m e f.
         let a = h.inputs x m e (before (λ j. absurd (search (rules, i, j))) x m e f) in
-        let b = same_other (declared_again kind) n s.design.entries m (λ j. absurd (let c : open_at s.design.entries n ≡ false = ap (open_at s.design.entries) (sym j) ∙ a.1 in search (rules, o, c))) in
-        (b.reg ∙ a.0, b.is_open ∙ a.1);
+        (reg_again kind n s.design.entries o m a, told_same (λ (e : Entry). e.direction) inner (declared_again kind) (λ e. refl) n s.design.entries m ∙ a.1);
     others = λ x e. no_direction x ds d (h.others x e) ∙ none_inner x d i;
   }
 
   -- ---- further names and signals
 
   further_knows : (fs : List Entry) (names : Names) → (is_inner (direction_of d.kind) ≡ false → found_in s.names d.name ≡ None)
-      → ((x : Text) (n : ℕ) → found_in names x ≡ Some (a_signal n) → first_direction x (d ∷ []) ≡ Some inward → (reg_at (s.design.entries ++ fs) n ≡ false) × (open_at (s.design.entries ++ fs) n ≡ false))
+      → ((x : Text) (n : ℕ) → found_in names x ≡ Some (a_signal n) → first_direction x (d ∷ []) ≡ Some inward → IsInputAt (s.design.entries ++ fs) n)
       → ((x : Text) → found_in names x ≡ None → first_direction x (d ∷ []) ≡ None)
       → KnowsInputs more (record { names = s.names ++ names; design = record s.design { entries = s.design.entries ++ fs } })
   further_knows fs names new fresh rest = record {
@@ -132,15 +143,15 @@ module _ (ds : List DeclTree) (s : Stage) (h : KnowsInputs ds s) (named : AreNam
     others = λ x e. beyond x (found_in s.names x) refl e;
   }
     where
-      old : (x : Text) (n : ℕ) → meaning_in s.names x ≡ Some (a_signal n) → first_direction x more ≡ Some inward → (reg_at (s.design.entries ++ fs) n ≡ false) × (open_at (s.design.entries ++ fs) n ≡ false)
+      old : (x : Text) (n : ℕ) → meaning_in s.names x ≡ Some (a_signal n) → first_direction x more ≡ Some inward → IsInputAt (s.design.entries ++ fs) n
       old x n m e =
           let a = h.inputs x n m (before new x n m e) in
           let w : 1 ≤ width_at s.design.entries n = subst (StandsIf s.design.entries) m (stands s.design.entries s.names x named) in
           let l = is_declared_at s.design.entries n w in
-          (told_before (λ (e : Entry). e.is_reg) false s.design.entries fs n l ∙ a.0, told_before (λ (e : Entry). e.is_open) false s.design.entries fs n l ∙ a.1)
+          (told_before (λ (e : Entry). e.is_reg) false s.design.entries fs n l ∙ a.0, told_before (λ (e : Entry). e.direction) inner s.design.entries fs n l ∙ a.1)
 
       go : (x : Text) (n : ℕ) (o : Option Meaning) → found_in s.names x ≡ o → found_in (s.names ++ names) x ≡ Some (a_signal n) → first_direction x more ≡ Some inward
-          → (reg_at (s.design.entries ++ fs) n ≡ false) × (open_at (s.design.entries ++ fs) n ≡ false)
+          → IsInputAt (s.design.entries ++ fs) n
       go x n (Some q) f m e =
           let i : Some q ≡ Some (a_signal n) = sym (found_front s.names names x q f) ∙ m in
           old x n (ap (option_and_then as_value) (f ∙ i)) e
@@ -152,19 +163,18 @@ module _ (ds : List DeclTree) (s : Stage) (h : KnowsInputs ds s) (named : AreNam
 
   signal_knows : (at : Site) (r : Option Range) → found_in s.names d.name ≡ None → (t : Stage) → add_signal s at d r ≡ good t → KnowsInputs more t
   signal_knows at r new t e =
-      let es = s.design.entries in let is_open = is_plain_output d.kind && not at.in_header in
-      let fs = entry at d.kind r is_open d.name ∷ [] in
+      let es = s.design.entries in let fs = entry at d.kind r (is_plain_port d.kind && not at.in_header) d.name ∷ [] in
       let g = good_then (refused_if (nat_lt 65536 (length es + 1)) 601 None []) _ t e in
-      subst (KnowsInputs more) (good_is _ t g.2) (further_knows fs (numbered (length es) (d.name ∷ [])) (λ i. new)
-      (λ x n f o. fresh x n (bytes_eq d.name x) f (input_kind d.kind (one_direction x d inward o).2)) (λ x f. none_other x d (rest x (bytes_eq d.name x) f)))
+      subst (KnowsInputs more) (good_is _ t g.2) (further_knows fs ((d.name, a_signal (length es)) ∷ []) (λ i. new)
+      (λ x n f o. fresh x n (bytes_eq d.name x) f (one_direction x d inward o).2) (λ x f. none_other x d (rest x (bytes_eq d.name x) f)))
     where
-      fresh : (x : Text) (n : ℕ) (b : Bool) → cond b (Some (a_signal (length s.design.entries))) None ≡ Some (a_signal n) → (is_reg_kind d.kind ≡ false) × ((b : Bool) → (is_plain_output d.kind && b) ≡ false)
-          → (reg_at (s.design.entries ++ entry at d.kind r (is_plain_output d.kind && not at.in_header) d.name ∷ []) n ≡ false) × (open_at (s.design.entries ++ entry at d.kind r (is_plain_output d.kind && not at.in_header) d.name ∷ []) n ≡ false)
+      fresh : (x : Text) (n : ℕ) (b : Bool) → cond b (Some (a_signal (length s.design.entries))) None ≡ Some (a_signal n) → direction_of d.kind ≡ inward
+          → IsInputAt (s.design.entries ++ entry at d.kind r (is_plain_port d.kind && not at.in_header) d.name ∷ []) n
       fresh x n false f k = absurd (search (rules, f))
       fresh x n true f k =
-          let es = s.design.entries in let fs = entry at d.kind r (is_plain_output d.kind && not at.in_header) d.name ∷ [] in
+          let es = s.design.entries in let fs = entry at d.kind r (is_plain_port d.kind && not at.in_header) d.name ∷ [] in
           let i : length es + 0 ≡ n = (let z : length es + 0 ≡ length es = omega arith in z) ∙ same_signal (length es) n f in
-          (ap (reg_at (es ++ fs)) (sym i) ∙ told_behind (λ (e : Entry). e.is_reg) false es fs 0 ∙ k.0, ap (open_at (es ++ fs)) (sym i) ∙ told_behind (λ (e : Entry). e.is_open) false es fs 0 ∙ k.1 (not at.in_header))
+          (ap (reg_at (es ++ fs)) (sym i) ∙ told_behind (λ (e : Entry). e.is_reg) false es fs 0 ∙ input_kind d.kind k, ap (direction_at (es ++ fs)) (sym i) ∙ told_behind (λ (e : Entry). e.direction) inner es fs 0 ∙ k)
         where
           same_signal : (a b : ℕ) → Some (a_signal a) ≡ Some (a_signal b) → a ≡ b
           same_signal a b e = search (rules, e)
@@ -177,7 +187,7 @@ module _ (ds : List DeclTree) (s : Stage) (h : KnowsInputs ds s) (named : AreNam
   memory_knows at r n i t e =
       let es = s.design.entries in let xs = word_names d.name 0 n in
       let g = good_then (refused_if (nat_lt 65536 (length es + length (map (entry at d.kind r false) xs))) 601 None []) _ t e in
-      subst (KnowsInputs more) (good_is _ t g.2) (further_knows (map (entry at d.kind r false) xs) (numbered (length es) xs ++ ((d.name, a_memory (record { first = length es; words = n })) ∷ []))
+      subst (KnowsInputs more) (good_is _ t g.2) (further_knows (map (entry at d.kind r false) xs) (taken_names xs ++ ((d.name, a_memory (record { first = length es; words = n })) ∷ []))
       (λ j. absurd (search (rules, i, j))) (λ x m f o. absurd (let z = none_inner x d i in search (rules, sym z ∙ o))) (λ x f. none_inner x d i))
 
 words_inner : (kind : DeclKind) (r : Option Range) (n : ℕ) → words_of kind r ≡ Some n → is_inner (direction_of kind) ≡ true
@@ -194,7 +204,7 @@ count_inner look x (Some b) n e = words_inner x.kind (bounds_read look b).range 
 again_inner : (s : Stage) (x : DeclTree) (n : ℕ) → again (look_of s) x ≡ Some n → is_inner (direction_of x.kind) ≡ true
 again_inner s x n = go (is_inner (direction_of x.kind)) (is_none x.array)
   where
-    go : (a b : Bool) → cond (a && b) (if_open s.design.entries (meaning (look_of s) x.name)) None ≡ Some n → a ≡ true
+    go : (a b : Bool) → cond (a && b) (if_open x.kind s.design.entries (meaning (look_of s) x.name)) None ≡ Some n → a ≡ true
     go true b e = refl
     go false b e = absurd (search (rules, e))
 
@@ -214,7 +224,7 @@ declaration_knows d ds s q t e i h =
     undeclared None e = refl
     undeclared (Some m) e = absurd (search (rules, e))
 
-    go : (o n : Option ℕ) → ((m : ℕ) → o ≡ Some m → is_inner (direction_of q.1.kind) ≡ true) → ((m : ℕ) → o ≡ Some m → open_at s.design.entries m ≡ true)
+    go : (o n : Option ℕ) → ((m : ℕ) → o ≡ Some m → is_inner (direction_of q.1.kind) ≡ true) → ((m : ℕ) → o ≡ Some m → again_at q.1.kind s.design.entries m ≡ true)
         → ((m : ℕ) → n ≡ Some m → is_inner (direction_of q.1.kind) ≡ true) → (is_none o && is_declared s.names q.1.name) ≡ false
         → add_declared s q.0 q.1 (range_read (look_of s) q.1.name q.1.range).range o n ≡ good t → KnowsInputs (ds ++ q.1 ∷ []) t
     go (Some m) n a b c f e = subst (KnowsInputs (ds ++ q.1 ∷ [])) (good_is _ t e) (again_knows ds s h i.names q.1 q.1.kind m (a m refl) (b m refl))

@@ -1,5 +1,5 @@
 -- Worked examples, by computation: small sources with their flat designs or their refusals.
-use Rattle.std.proofs.Common.{◌≡◌, true, false, [], ◌∷◌, Some, None, refl}
+use Rattle.std.proofs.Common.{◌≡◌, ℕ, true, false, List, [], ◌∷◌, Some, None, refl}
 use Rattle.std.specs.Prelude.{codes}
 use Rattle.std.specs.Fmt.{digits}
 use Rattle.cdc_base.specs.Words.{keyword_of, is_left_out}
@@ -10,12 +10,13 @@ use Rattle.verilog_ast.specs.declared.DeclKind.TheVariants as k
 use Rattle.verilog_ast.specs.declared.GateKind.TheVariants as g
 use Rattle.verilog_ast.specs.declared.Event.TheVariants as event
 use Rattle.verilog_ast.specs.declared.EdgeKind.TheVariants as edge
-use Rattle.verilog_reading.specs.ExprTree.{unary, binary, repeat, and_trees, no_trees, paren}
+use Rattle.verilog_reading.specs.ExprTree.{ExprTree, part, unary, binary, choice, repeat, and_trees, no_trees, paren}
 use Rattle.verilog_reading.specs.StmtTree.{when, either, switch, and_arms, no_arms}
-use Rattle.verilog_reading.specs.SourceTree.{ModuleTree, assign, decl, gate, instance, initial, always, ordered}
+use Rattle.verilog_reading.specs.SourceTree.{BodyTree, ModuleTree, assign, decl, gate, instance, initial, always, ordered}
 use Rattle.flat_meaning.specs.Flat as f
-use Rattle.flat_unfolding.specs.Outcome.{good, refused}
-use Rattle.flat_unfolding.proofs.Sources.{v, plain, sized, bit, to, to_bit, to_pair, blocking, later, rows, range, down_to_zero, wire, wire_with, reg, reg_with, memory, parameter_of, parameter, localparam, of_wires, on, at_clock, at_clock_or, instance_of, port, input, output, a_module, top_m, h, h_reset, refused_at, one_bit, ranged, starts_as}
+use Rattle.flat_meaning.specs.Design.{Flat}
+use Rattle.flat_unfolding.specs.Outcome.{Outcome, good, refused}
+use Rattle.flat_unfolding.proofs.Sources.{v, plain, sized, unsized, bit, pair, to, to_bit, to_pair, blocking, later, rows, range, down_to_zero, wire, wire_with, reg, reg_with, memory, parameter_of, parameter, localparam, of_wires, on, at_clock, at_clock_or, instance_of, port_item, port, input, output, a_module, an_old_module, top_m, h, h_reset, refused_at, one_bit, ranged, starts_as}
 
 -- ---- modules, names, places
 
@@ -93,12 +94,117 @@ constants : top_m (a_module "m" [] (port k.Output (down_to_zero 3) "q" ∷ []) (
 unfolding keyword_of is_left_out
 constants = refl
 
+-- assign o = {3, d}; and assign o = {'h3, d}; a part has a size of its own
+plain_part : h (assign (to "o") (pair (plain 3) (v "d")) ∷ []) ≡ refused_at 308 2 ""
+plain_part = refl
+
+unsized_part : h (assign (to "o") (pair (unsized 3) (v "d")) ∷ []) ≡ refused_at 308 2 ""
+unsized_part = refl
+
+-- assign o = {2{15 + 2}}; is counted with the size 32
+whole_part : h (assign (to "o") (repeat (plain 2) (and_trees (binary b.Add (plain 15) (plain 2)) no_trees)) ∷ []) ≡ refused_at 308 2 ""
+whole_part = refl
+
+-- module m(input d, output [32:0] q); assign q = {d + 1, d}; endmodule
+-- the sum has 32 bits, so the concatenation has 33
+sum_as_part : top_m (a_module "m" [] (input "d" ∷ port k.Output (down_to_zero 32) "q" ∷ []) (assign (to "q") (pair (binary b.Add (v "d") (plain 1)) (v "d")) ∷ []) ∷ [])
+    ≡ good (record {
+      signals = one_bit "d" 1 Input ∷ ranged "q" 1 32 Wire ∷ [];
+      assigns = (f.Whole 1, f.Join (f.expr (f.Binary f.plus (f.Read 0 0 1) (f.Number 32 1)) (f.expr (f.Read 0 0 1) f.no_exprs))) ∷ [];
+      combs = [];
+      clocked = [];
+      outputs = 1 ∷ [];
+    })
+unfolding keyword_of is_left_out
+sum_as_part = refl
+
+-- ---- signed expressions
+
+-- assign q = 1 << d < 5; compares two signed operands, of which one isn't counted
+signed_comparison : h (assign (to "q") (binary b.Lt (binary b.Shl (plain 1) (v "d")) (plain 5)) ∷ []) ≡ refused_at 307 2 ""
+signed_comparison = refl
+
+-- with parameter W = 5: assign q = W >= (d ? 1 : 2); a counted parameter of 32 bits is signed
+signed_parameter : h (parameter None "W" (plain 5) ∷ assign (to "q") (binary b.Ge (v "W") (choice (v "d") (plain 1) (plain 2))) ∷ []) ≡ refused_at 307 3 ""
+signed_parameter = refl
+
+-- module m(input d, output q); parameter W = 5; parameter P = W > 4; assign q = P < (d ? 1 : 2); endmodule
+-- one of one bit isn't
+unsigned_parameter : top_m (a_module "m" [] (input "d" ∷ output "q" ∷ []) (
+    parameter None "W" (plain 5)
+    ∷ parameter None "P" (binary b.Gt (v "W") (plain 4))
+    ∷ assign (to "q") (binary b.Lt (v "P") (choice (v "d") (plain 1) (plain 2)))
+    ∷ []) ∷ [])
+    ≡ good (record {
+      signals = one_bit "d" 1 Input ∷ one_bit "q" 1 Wire ∷ [];
+      assigns = (f.Whole 1, f.Binary f.is_less (f.Number 1 1) (f.Choose (f.Read 0 0 1) (f.Number 32 1) (f.Number 32 2))) ∷ [];
+      combs = [];
+      clocked = [];
+      outputs = 1 ∷ [];
+    })
+unfolding keyword_of is_left_out
+unsigned_parameter = refl
+
+-- parameter P = 1 << 5'd31; is signed, and its value has the sign's bit
+negative_parameter : h (parameter None "P" (binary b.Shl (plain 1) (sized 5 31)) ∷ []) ≡ refused_at 307 2 ""
+negative_parameter = refl
+
+-- ---- declarations
+
+-- module m(a, q); input a; wire a; output q; assign q = a; endmodule
+-- an input of the old style may be declared again, and stands at its first declaration
+input_again : top_m (an_old_module "m" ("a" ∷ "q" ∷ []) (port_item k.Input None "a" ∷ wire None "a" ∷ port_item k.Output None "q" ∷ assign (to "q") (v "a") ∷ []) ∷ [])
+    ≡ good (record {
+      signals = one_bit "a" 2 Input ∷ one_bit "q" 4 Wire ∷ [];
+      assigns = (f.Whole 1, f.Read 0 0 1) ∷ [];
+      combs = [];
+      clocked = [];
+      outputs = 1 ∷ [];
+    })
+unfolding keyword_of is_left_out
+input_again = refl
+
+-- input a; reg a;
+input_as_register : top_m (an_old_module "m" ("a" ∷ []) (port_item k.Input None "a" ∷ reg None "a" ∷ []) ∷ []) ≡ refused_at 304 3 "a"
+input_as_register = refl
+
+-- input a; wire a; wire a;
+input_thrice : top_m (an_old_module "m" ("a" ∷ []) (port_item k.Input None "a" ∷ wire None "a" ∷ wire None "a" ∷ []) ∷ []) ≡ refused_at 304 4 "a"
+input_thrice = refl
+
+-- input a; wire [1:0] a;
+input_of_other_range : top_m (an_old_module "m" ("a" ∷ []) (port_item k.Input None "a" ∷ wire (down_to_zero 1) "a" ∷ []) ∷ []) ≡ refused_at 306 3 "a"
+input_of_other_range = refl
+
 -- ---- assignments, gates and drivers
 
 -- wire w; assign {w, w} = 2'b10; assigns the bit twice
-twice_at_once : h (wire None "w" ∷ assign (to_pair (to "w") (to "w")) (sized 2 2) ∷ []) ≡ refused_at 309 2 "w"
-unfolding keyword_of is_left_out
+twice_at_once : h (wire None "w" ∷ assign (to_pair (to "w") (to "w")) (sized 2 2) ∷ []) ≡ refused_at 313 3 "w"
 twice_at_once = refl
+
+-- reg [1:0] r; always @(posedge ca) {r, r} <= 2'b10;
+twice_in_process : h (reg (down_to_zero 1) "r" ∷ at_clock "ca" (later (to_pair (to "r") (to "r")) (sized 2 2)) ∷ []) ≡ refused_at 313 3 "r"
+twice_in_process = refl
+
+-- reg i; reg [1:0] r; always @(posedge ca) {i, r[i]} = v; the index reads what is assigned, which is told before the blocking assignment
+index_of_itself : h (reg None "i" ∷ reg (down_to_zero 1) "r" ∷ at_clock "ca" (blocking (to_pair (to "i") (to_bit "r" (v "i"))) (v "v")) ∷ []) ≡ refused_at 313 4 "r"
+index_of_itself = refl
+
+-- reg [1:0] r; always @(posedge ca) {r[d], r[e]} <= v; may assign a bit twice
+indices_meet : h (reg (down_to_zero 1) "r" ∷ at_clock "ca" (later (to_pair (to_bit "r" (v "d")) (to_bit "r" (v "e"))) (v "v")) ∷ []) ≡ refused_at 313 3 "r"
+indices_meet = refl
+
+-- module m(input d, output [1:0] q); assign {q[1], q[0]} = d; endmodule
+parts_apart : top_m (a_module "m" [] (input "d" ∷ port k.Output (down_to_zero 1) "q" ∷ []) (assign (to_pair (to_bit "q" (plain 1)) (to_bit "q" (plain 0))) (v "d") ∷ []) ∷ [])
+    ≡ good (record {
+      signals = one_bit "d" 1 Input ∷ ranged "q" 1 1 Wire ∷ [];
+      assigns = (f.Group (f.target (f.Part 1 1 1) (f.target (f.Part 1 0 1) f.no_targets)), f.Read 0 0 1) ∷ [];
+      combs = [];
+      clocked = [];
+      outputs = 1 ∷ [];
+    })
+unfolding keyword_of is_left_out
+parts_apart = refl
 
 -- wire w; assign q = w;
 undriven : h (wire None "w" ∷ assign (to "q") (v "w") ∷ []) ≡ refused_at 310 2 "w"
@@ -220,6 +326,26 @@ wide_index : h (memory (down_to_zero 1) "M" (range (plain 0) (plain 3)) ∷ at_c
 unfolding keyword_of is_left_out digits
 wide_index = refl
 
+-- reg M [0:2]; assign q = M[v[1:0]]; has four values for three words
+index_beyond_words : h (memory None "M" (range (plain 0) (plain 2)) ∷ assign (to "q") (bit "M" (part (codes "v") (plain 1) (plain 0))) ∷ []) ≡ refused_at 315 3 "M"
+unfolding keyword_of is_left_out digits
+index_beyond_words = refl
+
+-- reg M [0:1]; assign q = \M[0] ; the printed name of a word denotes nothing
+word_by_name : h (memory None "M" (range (plain 0) (plain 1)) ∷ assign (to "q") (v "M[0]") ∷ []) ≡ refused_at 305 3 "M[0]"
+unfolding keyword_of is_left_out digits
+word_by_name = refl
+
+-- reg M [0:1]; always @(posedge ca) \M[0] <= d;
+word_assigned_by_name : h (memory None "M" (range (plain 0) (plain 1)) ∷ at_clock "ca" (later (to "M[0]") (v "d")) ∷ []) ≡ refused_at 305 3 "M[0]"
+unfolding keyword_of is_left_out digits
+word_assigned_by_name = refl
+
+-- reg M [0:1]; wire \M[1] ; and it is taken
+word_declared : h (memory None "M" (range (plain 0) (plain 1)) ∷ wire None "M[1]" ∷ []) ≡ refused_at 304 3 "M[1]"
+unfolding keyword_of is_left_out digits
+word_declared = refl
+
 -- reg M [0:1]; always @(posedge ca) M[d] <= e; assign q = M[e];
 read_and_write : top_m (a_module "m" [] (input "c" ∷ input "d" ∷ output "q" ∷ []) (
     memory None "M" (range (plain 0) (plain 1))
@@ -240,6 +366,31 @@ read_and_write : top_m (a_module "m" [] (input "c" ∷ input "d" ∷ output "q" 
     })
 unfolding keyword_of is_left_out digits
 read_and_write = refl
+
+-- `i == n`, and the write of the word that is the signal s
+abbrev is_at : ℕ → f.Expr
+is_at n = f.Binary f.is_equal (f.Read 2 0 2) (f.Number 2 n)
+
+abbrev write : (n s : ℕ) → f.Stmt
+write n s = f.If (is_at n) (f.Set false (f.Whole s) (f.Read 1 0 1)) f.Null
+
+-- module m(input c, d, input [1:0] i, output q); reg M [0:4]; always @(posedge c) M[i] <= d; assign q = M[i]; endmodule
+-- the index reaches four of five words
+read_and_write_front : top_m (a_module "m" [] (input "c" ∷ input "d" ∷ port k.Input (down_to_zero 1) "i" ∷ output "q" ∷ []) (
+    memory None "M" (range (plain 0) (plain 4))
+    ∷ at_clock "c" (later (to_bit "M" (v "i")) (v "d"))
+    ∷ assign (to "q") (bit "M" (v "i"))
+    ∷ []) ∷ [])
+    ≡ good (record {
+      signals = one_bit "c" 1 Input ∷ one_bit "d" 1 Input ∷ ranged "i" 1 1 Input ∷ one_bit "q" 1 Wire
+          ∷ one_bit "\\M[0] " 2 Register ∷ one_bit "\\M[1] " 2 Register ∷ one_bit "\\M[2] " 2 Register ∷ one_bit "\\M[3] " 2 Register ∷ one_bit "\\M[4] " 2 Wire ∷ [];
+      assigns = (f.Whole 3, f.Choose (is_at 0) (f.Read 4 0 1) (f.Choose (is_at 1) (f.Read 5 0 1) (f.Choose (is_at 2) (f.Read 6 0 1) (f.Read 7 0 1)))) ∷ [];
+      combs = [];
+      clocked = (0, f.Block (f.stmt (write 0 4) (f.stmt (write 1 5) (f.stmt (write 2 6) (f.stmt (write 3 7) f.no_stmts))))) ∷ [];
+      outputs = 3 ∷ [];
+    })
+unfolding keyword_of is_left_out digits
+read_and_write_front = refl
 
 -- with the reset e: if (!e) {M[d], x} <= 0; has a variable index in the target of its first branch
 reset_at_variable_index : h_reset (memory None "M" (range (plain 0) (plain 1)) ∷ reg None "x"
@@ -275,3 +426,78 @@ output_in_brackets = refl
 entry_too_many : top_m (inverter ∷ a_module "m" [] (input "d" ∷ output "q" ∷ [])
     (instance (codes "n") (ordered (Some (plain 1) ∷ None ∷ [])) (codes "u") (ordered (Some (v "d") ∷ Some (v "q") ∷ [])) ∷ []) ∷ []) ≡ refused_at 306 2 "n"
 entry_too_many = refl
+
+-- n u(, q); an input without an expression has no driver
+open_input : top_m (inverter ∷ a_module "m" [] (port k.Output (down_to_zero 1) "q" ∷ []) (instance (codes "n") (ordered []) (codes "u") (ordered (None ∷ Some (v "q") ∷ [])) ∷ []) ∷ []) ≡ refused_at 310 1 "u.a[0]"
+unfolding keyword_of is_left_out digits
+open_input = refl
+
+-- module c(input c, d, output q); reg r; always @(posedge c) r <= d; assign q = r; endmodule, and in m: c u(, d, q); an event reads it
+open_clock : top_m (a_module "c" [] (input "c" ∷ input "d" ∷ output "q" ∷ []) (reg None "r" ∷ at_clock "c" (later (to "r") (v "d")) ∷ assign (to "q") (v "r") ∷ [])
+    ∷ a_module "m" [] (input "d" ∷ output "q" ∷ []) (instance (codes "c") (ordered []) (codes "u") (ordered (None ∷ Some (v "d") ∷ Some (v "q") ∷ [])) ∷ []) ∷ []) ≡ refused_at 310 1 "u.c"
+unfolding keyword_of is_left_out
+open_clock = refl
+
+-- module c(input a, output b); assign b = 1'b0; endmodule, and in m: c u(, q); nothing reads it
+open_unread : top_m (a_module "c" [] (input "a" ∷ output "b" ∷ []) (assign (to "b") (sized 1 0) ∷ [])
+    ∷ a_module "m" [] (output "q" ∷ []) (instance (codes "c") (ordered []) (codes "u") (ordered (None ∷ Some (v "q") ∷ [])) ∷ []) ∷ [])
+    ≡ good (record {
+      signals = one_bit "q" 1 Wire ∷ one_bit "u.a" 1 Wire ∷ one_bit "u.b" 1 Wire ∷ [];
+      assigns = (f.Whole 0, f.Read 2 0 1) ∷ (f.Whole 2, f.Number 1 0) ∷ [];
+      combs = [];
+      clocked = [];
+      outputs = 0 ∷ [];
+    })
+unfolding keyword_of is_left_out
+open_unread = refl
+
+-- module m(input d, e, output [1:0] q); n u(.., q); endmodule
+abbrev inverted : ExprTree → Outcome Flat
+inverted e = top_m (inverter ∷ a_module "m" [] (input "d" ∷ input "e" ∷ port k.Output (down_to_zero 1) "q" ∷ []) (instance_of "n" "u" (e ∷ v "q" ∷ []) ∷ []) ∷ [])
+
+-- n u(d + e, q); leans on the two bits of the input
+leaning_input : inverted (binary b.Add (v "d") (v "e")) ≡ refused_at 306 2 "n"
+unfolding keyword_of is_left_out
+leaning_input = refl
+
+-- n u(d & e, q); doesn't
+narrow_input : inverted (binary b.And (v "d") (v "e"))
+    ≡ good (record {
+      signals = one_bit "d" 1 Input ∷ one_bit "e" 1 Input ∷ ranged "q" 1 1 Wire ∷ ranged "u.a" 1 1 Wire ∷ ranged "u.b" 1 1 Wire ∷ [];
+      assigns = (f.Whole 3, f.Binary f.bitwise_and (f.Read 0 0 1) (f.Read 1 0 1)) ∷ (f.Whole 2, f.Read 4 0 2) ∷ (f.Whole 4, f.Unary f.complement (f.Read 3 0 2)) ∷ [];
+      combs = [];
+      clocked = [];
+      outputs = 2 ∷ [];
+    })
+unfolding keyword_of is_left_out
+narrow_input = refl
+
+-- module n #(parameter [7:0] P = 0) (output b); assign b = P[4]; endmodule
+abbrev fifth_bit : List BodyTree → ModuleTree
+fifth_bit more = a_module "n" (parameter_of false (down_to_zero 7) "P" (plain 0) ∷ []) (output "b" ∷ []) (assign (to "b") (bit "P" (plain 4)) ∷ more)
+
+-- module m(output q); n #(..) u(q); endmodule
+abbrev with_value : List BodyTree → ExprTree → Outcome Flat
+with_value more e = top_m (fifth_bit more ∷ a_module "m" [] (output "q" ∷ []) (instance (codes "n") (ordered (Some e ∷ [])) (codes "u") (ordered (Some (v "q") ∷ [])) ∷ []) ∷ [])
+
+-- n #(15 + 2) u(q); is whole
+whole_override : with_value [] (binary b.Add (plain 15) (plain 2))
+    ≡ good (record {
+      signals = one_bit "q" 1 Wire ∷ one_bit "u.b" 1 Wire ∷ [];
+      assigns = (f.Whole 0, f.Read 1 0 1) ∷ (f.Whole 1, f.Number 1 1) ∷ [];
+      combs = [];
+      clocked = [];
+      outputs = 0 ∷ [];
+    })
+unfolding keyword_of is_left_out
+whole_override = refl
+
+-- n #(4'd15 + 4'd2) u(q); has 4 bits, and leans on the 8 of the parameter
+leaning_override : with_value [] (binary b.Add (sized 4 15) (sized 4 2)) ≡ refused_at 306 2 "n"
+unfolding keyword_of is_left_out
+leaning_override = refl
+
+-- what the module itself breaks is told before
+fault_inside : with_value (assign (to "b") (v "Z") ∷ []) (binary b.Add (sized 4 15) (sized 4 2)) ≡ refused_at 305 3 "Z"
+unfolding keyword_of is_left_out
+fault_inside = refl

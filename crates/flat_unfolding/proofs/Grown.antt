@@ -6,7 +6,7 @@ use Rattle.std.proofs.lemmas.Nat.{pow_pos}
 use Rattle.std.proofs.lemmas.List.Elements.{All-head, All-cons, All-nil, All-tail}
 use Rattle.flat_meaning.specs.Flat.{Expr, Number, Read, At, Unary, Binary, Choose, Gate, Join, Repeat, Exprs, no_exprs, expr, size, Target, Whole, Part, Pick, Group, Targets, no_targets, target, target_size, target_sizes, Stmt, Null, Set, If, Case, Block, Items, no_items, default_item, item, Stmts, no_stmts, stmt}
 use Rattle.flat_unfolding.specs.Outcome.{Text}
-use Rattle.flat_unfolding.specs.Names.{Range, span, width_of, Meaning, a_param, a_signal, a_memory, an_instance, Names, Entry, width_at}
+use Rattle.flat_unfolding.specs.Names.{Range, span, width_of, Meaning, a_param, a_signal, a_memory, no_value, Names, Entry, width_at}
 use Rattle.flat_unfolding.specs.Design.{change_entry}
 use Rattle.flat_unfolding.specs.Sized.{IsSized, AreSized, AreLabelsSized, IsTargetSized, AreTargetsSized, IsStmtSized, AreItemsSized, AreStmtsSized}
 use Rattle.flat_unfolding.proofs.Known.{reg_at, open_at, top_at, IsNamed, AreNamed}
@@ -182,7 +182,7 @@ named_on es fs g (a_memory m) h = (
       let w = h.1 n l in let a = g (m.first + n) w.0 in
       (subst (λ x. 1 ≤ x) (sym a.width) w.0, a.reg ∙ w.1, a.is_open ∙ w.2),
 )
-named_on es fs g an_instance h = tt
+named_on es fs g no_value h = tt
 
 pub all_on : {A : Type 0} (P Q : A → Type 0) (xs : List A) → ((x : A) → P x → Q x) → All P xs → All Q xs
 all_on P Q [] h k = All-nil Q

@@ -5,7 +5,7 @@ use Rattle.std.specs.Option.{option_map_or}
 use Rattle.std.proofs.lemmas.List.Elements.{All-head, All-tail}
 use Rattle.cdc_base.specs.Words.{found_in}
 use Rattle.flat_unfolding.specs.Outcome.{Text}
-use Rattle.flat_unfolding.specs.Names.{width_of, Param, Meaning, a_param, a_signal, a_memory, an_instance, Names, as_value, meaning_in, Entry, width_at}
+use Rattle.flat_unfolding.specs.Names.{width_of, Param, Meaning, a_param, a_signal, a_memory, no_value, Names, as_value, meaning_in, Entry, width_at}
 use Rattle.flat_unfolding.proofs.Steps.{some_is}
 
 -- what stays of a signal that is declared
@@ -30,18 +30,18 @@ abbrev pub Stands : List Entry → Meaning → Type 0
 Stands es (a_param p) = IsParamSized p
 Stands es (a_signal s) = 1 ≤ width_at es s
 Stands es (a_memory m) = (1 ≤ m.words) × ((n : ℕ) → n < m.words → IsWordAt es (m.first + n))
-Stands es an_instance = ⊥
+Stands es no_value = ⊥
 
 abbrev pub StandsIf : List Entry → Option Meaning → Type 0
 StandsIf es None = Unit {0}
 StandsIf es (Some m) = Stands es m
 
--- an instance's name stands for no value
+-- the name of an instance, and the printed name of a memory's word, stand for no value
 abbrev pub IsNamed : List Entry → Meaning → Type 0
 IsNamed es (a_param p) = Stands es (a_param p)
 IsNamed es (a_signal s) = Stands es (a_signal s)
 IsNamed es (a_memory m) = Stands es (a_memory m)
-IsNamed es an_instance = Unit {0}
+IsNamed es no_value = Unit {0}
 
 abbrev pub AreNamed : List Entry → Names → Type 0
 AreNamed es names = All (λ (p : Text × Meaning). IsNamed es p.1) names
@@ -62,4 +62,4 @@ stands es names x h = go (found_in names x) refl
     go (Some (a_param p)) e = found_is (IsNamed es) names x (a_param p) h e
     go (Some (a_signal s)) e = found_is (IsNamed es) names x (a_signal s) h e
     go (Some (a_memory m)) e = found_is (IsNamed es) names x (a_memory m) h e
-    go (Some an_instance) e = tt
+    go (Some no_value) e = tt

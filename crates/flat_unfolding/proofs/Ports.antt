@@ -8,13 +8,14 @@ use Rattle.verilog_reading.specs.ExprTree.{ExprTree}
 use Rattle.verilog_reading.specs.SourceTree.{ConnTree, ConnsTree, ordered, named, ModuleTree}
 use Rattle.flat_meaning.specs.Flat.{Expr, size, Target, Whole}
 use Rattle.flat_unfolding.specs.Outcome.{Text}
-use Rattle.flat_unfolding.specs.Names.{width_of, Meaning, a_param, a_signal, a_memory, an_instance, Names, meaning_in, Direction, inner, inward, outward, Entry, width_at, direction_at}
+use Rattle.flat_unfolding.specs.Names.{width_of, Meaning, a_param, a_signal, a_memory, no_value, Names, meaning_in, Direction, inner, inward, outward, Entry, width_at, direction_at}
 use Rattle.flat_unfolding.specs.Constants.{is_counted}
+use Rattle.flat_unfolding.specs.Signs.{is_signed}
 use Rattle.flat_unfolding.specs.Expressions.{as_constant, read}
 use Rattle.flat_unfolding.specs.Targets.{is_input, first_pick}
 use Rattle.flat_unfolding.specs.Parameters.{Override, overridable}
 use Rattle.flat_unfolding.specs.Declarations.{header_of}
-use Rattle.flat_unfolding.specs.Instances.{Joint, if_among, ordered_joints, named_joint, joints, joint_rules, override_rules, override, overrides_of, port_direction, Link, into, out_of, linked_at, linked_to, linked, open_inputs, connection_rules, links_of, into_port, out_of_port, connect_one, connect_all, connected}
+use Rattle.flat_unfolding.specs.Instances.{Joint, if_among, ordered_joints, named_joint, joints, joint_rules, override_rules, override, overrides_of, port_direction, Link, into, out_of, linked_at, linked_to, linked, connection_rules, links_of, into_port, out_of_port, connect_one, connect_all, connected}
 use Rattle.flat_unfolding.specs.Design.{Design, no_design, assigned, Stage, look_of, with_design, change_entry}
 use Rattle.flat_unfolding.specs.Unfolding.{top_input, directed_port, top_port, top_ports}
 use Rattle.flat_unfolding.specs.Formed.{IsFormed, IsFormedIf, AreConnsFormed}
@@ -95,9 +96,8 @@ module _ (s : Stage) (h : IsStage s) (m : ModuleTree) where
   pub links_fine : (given : ConnsTree) → AreConnsFormed given → connection_rules (look_of s) m given ≡ [] → All (IsLink m s.design.entries) (links_of (look_of s) m given)
   links_fine given f e =
       let js = joints (header_of m) given in
-      let p = none_of_both _ (open_inputs m js (header_of m)) e in
-      let q = none_of_both (joint_rules m.name (header_of m) given) (flat_map (λ (j : Joint). (linked (look_of s) m j).broken) js) p.0 in
-      links_are js (joints_formed (header_of m) given f) q.1
+      let p = none_of_both (joint_rules m.name (header_of m) given) (flat_map (λ (j : Joint). (linked (look_of s) m j).broken) js) e in
+      links_are js (joints_formed (header_of m) given f) p.1
 
   -- ---- overrides
 
@@ -111,7 +111,7 @@ module _ (s : Stage) (h : IsStage s) (m : ModuleTree) where
       (overrides_are js (All-tail (λ (j : Joint). IsFormed j.value) j js f) p.1)
     where
       go : (o : Option Text) → IsWide (size (read (look_of s) j.value).expr) → (q : Text × Override)
-          → option_map (λ (x : Text). (x, record { value = (read (look_of s) j.value).expr; is_counted = is_counted (look_of s).names j.value })) o ≡ Some q → IsWide (size q.1.value)
+          → option_map (λ (x : Text). (x, record { value = (read (look_of s) j.value).expr; is_counted = is_counted (look_of s).names j.value; is_signed = is_signed (look_of s).names j.value })) o ≡ Some q → IsWide (size q.1.value)
       go None w q e = absurd (search (rules, e))
       go (Some x) w q e = subst (λ (y : Text × Override). IsWide (size y.1.value)) (some_is _ q e) w
 
@@ -152,7 +152,7 @@ module _ (m : ModuleTree) (start : Design) (own : Names) (fresh : AreFresh (leng
   reset_entries r n [] h = h
   reset_entries r zero (e ∷ es) h =
       let i = All-head IsEntry e es h in
-      All-cons IsEntry (record e { reset = r }) es (record { narrow = i.narrow; input = i.input; top = i.top; is_open = i.is_open }) (All-tail IsEntry e es h)
+      All-cons IsEntry (record e { reset = r }) es (record { narrow = i.narrow; input = i.input; top = i.top }) (All-tail IsEntry e es h)
   reset_entries r (suc n) (e ∷ es) h = All-cons IsEntry e (change_entry (λ (a : Entry). record a { reset = r }) n es) (All-head IsEntry e es h) (reset_entries r n es (All-tail IsEntry e es h))
 
   further : (d : Design) (t : Target) (e : Expr) → IsLinking d → IsAssignIn d.entries (t, e) → IsLinking (assigned d t e)
@@ -174,7 +174,7 @@ module _ (m : ModuleTree) (start : Design) (own : Names) (fresh : AreFresh (leng
   into_links d x e r None j i k h = h
   into_links d x e r (Some (a_param p)) j i k h = h
   into_links d x e r (Some (a_memory p)) j i k h = h
-  into_links d x e r (Some an_instance) j i k h = h
+  into_links d x e r (Some no_value) j i k h = h
   into_links d x e r (Some (a_signal n)) j i k h =
       let es = d.entries in let fs = change_entry (λ (a : Entry). record a { reset = r }) n es in
       let g = reset_grows r n es in
@@ -194,7 +194,7 @@ module _ (m : ModuleTree) (start : Design) (own : Names) (fresh : AreFresh (leng
   out_links d t None i k h = h
   out_links d t (Some (a_param p)) i k h = h
   out_links d t (Some (a_memory p)) i k h = h
-  out_links d t (Some an_instance) i k h = h
+  out_links d t (Some no_value) i k h = h
   out_links d t (Some (a_signal n)) i k h = further d t _ h (k.0, k.1, (i, (let l : 0 + width_at d.entries n ≤ width_at d.entries n = omega arith in l)))
 
   one_links : (d : Design) (l : Link) → IsLink m start.entries l → IsLinking d → IsLinking (connect_one own d l)
@@ -243,13 +243,13 @@ module _ (resets : List ResetPin) (own : Names) where
           told_same (λ (e : Entry). e.is_open) false (top_input resets) (λ e. refl) n es (m.first + i) ∙ w.2,
         ),
   )
-  top_named n es an_instance h = tt
+  top_named n es no_value h = tt
 
   inward_tops : (d : Design) (s : ℕ) → direction_at d.entries s ≡ inward → IsTopping d → IsTopping (record d { entries = change_entry (top_input resets) s d.entries })
   inward_tops d s e h =
       let es = d.entries in let fs = change_entry (top_input resets) s es in
       record {
-        entries = change_all is_inward (top_input resets) (λ x i k. record { narrow = k.narrow; input = k.input; top = λ j. i; is_open = k.is_open }) s es (input_at es s e) h.entries;
+        entries = change_all is_inward (top_input resets) (λ x i k. record { narrow = k.narrow; input = k.input; top = λ j. i }) s es (input_at es s e) h.entries;
         names = all_on (λ (p : Text × Meaning). IsNamed es p.1) (λ (p : Text × Meaning). IsNamed fs p.1) own (λ p. top_named s es p.1) h.names;
         outputs = all_on (λ n. 1 ≤ width_at es n) (λ n. 1 ≤ width_at fs n) d.outputs (λ n k. subst (λ w. 1 ≤ w) (sym (told_same (λ (e : Entry). width_of e.range) 0 (top_input resets) (λ e. refl) s es n)) k) h.outputs;
         no_assigns = h.no_assigns;
@@ -276,7 +276,7 @@ module _ (resets : List ResetPin) (own : Names) where
   port_tops d None i h = h
   port_tops d (Some (a_param p)) i h = h
   port_tops d (Some (a_memory p)) i h = h
-  port_tops d (Some an_instance) i h = h
+  port_tops d (Some no_value) i h = h
   port_tops d (Some (a_signal s)) i h = side_tops d s (direction_at d.entries s) refl i h
 
 pub tops : (resets : List ResetPin) (xs : List Text) (s : Stage) → IsTopping resets s.names s.design → IsTopping resets (top_ports resets xs s).names (top_ports resets xs s).design

@@ -1,8 +1,9 @@
 -- Words for small sources: each item stands on a line of its own, from line 2 on, and the header on line 1.
 use Prim.Native.String.{String}
-use Rattle.std.proofs.Common.{ℕ, suc, Bool, true, false, List, [], ◌∷◌, Option, Some, None}
+use Rattle.std.proofs.Common.{ℕ, suc, Bool, true, false, List, [], ◌∷◌, map, Option, Some, None}
 use Rattle.std.specs.Prelude.{codes}
 use Rattle.cdc_base.specs.declared.fault.Place.{Place}
+use Rattle.cdc_base.specs.declared.size.NumberSize.TheVariants.{Plain, Unsized, Sized}
 use Rattle.cdc_base.specs.declared.signal.Signal.{Signal}
 use Rattle.cdc_base.specs.declared.signal.SigKind.{SigKind}
 use Rattle.verilog_ast.specs.declared.DeclKind.{DeclKind}
@@ -24,10 +25,13 @@ abbrev pub v : String → ExprTree
 v x = name (codes x)
 
 abbrev pub plain : ℕ → ExprTree
-plain n = number n 32 true
+plain n = number n 32 Plain
 
 abbrev pub sized : (width n : ℕ) → ExprTree
-sized w n = number n w false
+sized w n = number n w Sized
+
+abbrev pub unsized : ℕ → ExprTree
+unsized n = number n 32 Unsized
 
 abbrev pub bit : String → ExprTree → ExprTree
 bit x i = index (codes x) i
@@ -109,6 +113,10 @@ instance_of child x es = instance (codes child) (ordered []) (codes x) (ordered 
     given [] = []
     given (e ∷ rest) = Some e ∷ given rest
 
+-- `input a;` and the like, as a module with a list of names has them
+abbrev pub port_item : DeclKind → Option Bounds → String → BodyTree
+port_item kind r x = decl (declared kind r x None)
+
 -- ---- modules
 
 abbrev pub place : (line column : ℕ) → Place
@@ -129,6 +137,10 @@ output x = port k.Output None x
 
 abbrev pub a_module : String → List ParamTree → List PortTree → List BodyTree → ModuleTree
 a_module x ps ports bodies = record { place = place 1 1; name = codes x; ansi = true; params = ps; ports = ports; items = in_lines 2 bodies }
+
+-- the header has names alone
+abbrev pub an_old_module : String → List String → List BodyTree → ModuleTree
+an_old_module x ports bodies = record { place = place 1 1; name = codes x; ansi = false; params = []; ports = map (λ y. record { name = codes y; decl = None }) ports; items = in_lines 2 bodies }
 
 abbrev pub top_m : List ModuleTree → Outcome Flat
 top_m modules = unfolded modules (codes "m") []

@@ -18,7 +18,7 @@ use Rattle.flat_meaning.specs.Flat.{Expr, Gate, Unary, complement, size, largest
 use Rattle.flat_meaning.specs.Fits.{is_gate}
 use Rattle.flat_meaning.specs.Law.{AreWords}
 use Rattle.flat_unfolding.specs.Outcome.{Text, Broken, good, Order, by_number, judged}
-use Rattle.flat_unfolding.specs.Names.{width_of, Meaning, a_param, a_signal, a_memory, an_instance, meaning, Entry, width_at}
+use Rattle.flat_unfolding.specs.Names.{width_of, Meaning, a_param, a_signal, a_memory, no_value, meaning, Entry, width_at}
 use Rattle.flat_unfolding.specs.Expressions.{Term, is_sound, joined, read}
 use Rattle.flat_unfolding.specs.Targets.{is_input, of_wires, takes, first_pick, wire_aim, driven}
 use Rattle.flat_unfolding.specs.Statements.{of_wires as wires, clocked, neither, done, done_all}
@@ -41,12 +41,11 @@ use Rattle.flat_unfolding.proofs.Grown.{expr_agrees, target_agrees, stmt_agrees,
 
 -- ---- what is known of a design
 
--- an input is no register, a top input is an input, and what may be declared again is none
+-- an input is no register, and a top input is an input
 pub record IsEntry (e : Entry) : Type 0 where
   pub narrow : width_of e.range ≤ 64
   pub input : is_input e.direction ≡ true → e.is_reg ≡ false
   pub top : e.is_top_input ≡ true → is_input e.direction ≡ true
-  pub is_open : e.is_open ≡ true → is_input e.direction ≡ false
 
 pub words_of : (es : List Entry) → All IsEntry es → AreWords (width_at es)
 words_of [] h s = let l : 0 ≤ 64 = omega arith in l
@@ -315,7 +314,7 @@ module _ (s : Stage) (h : IsStage s) where
       go (Some (a_signal n)) m e w = eqb-true (width_at es n) 1 (not_true (width_at es n == 1) w)
       go (Some (a_param q)) m e w = absurd (search (rules, e))
       go (Some (a_memory q)) m e w = absurd (search (rules, e))
-      go (Some an_instance) m e w = absurd (search (rules, e))
+      go (Some no_value) m e w = absurd (search (rules, e))
 
   clocked_next : (p : Place) (edges : List Edge) (body : StmtTree) (t : Stage) → IsStmtFormed body → clocked_process s p edges body ≡ good t → IsNext s t
   clocked_next p edges body t f = judged_next by_number p _ s _ t (λ b.
@@ -365,7 +364,7 @@ module _ (s : Stage) (h : IsStage s) where
   start_next p x (Some (a_signal n)) v t e = starts_next p _ t e
   start_next p x (Some (a_param q)) v t e = judged_next by_number p v.broken s s t (λ b. stays s h) e
   start_next p x (Some (a_memory q)) v t e = judged_next by_number p v.broken s s t (λ b. stays s h) e
-  start_next p x (Some an_instance) v t e = judged_next by_number p v.broken s s t (λ b. stays s h) e
+  start_next p x (Some no_value) v t e = judged_next by_number p v.broken s s t (λ b. stays s h) e
   start_next p x None v t e = judged_next by_number p v.broken s s t (λ b. stays s h) e
 
   pub value_next : (p : Place) (x : Text) (o : Option ExprTree) (kind : DeclKind) (t : Stage) → IsFormedIf o → value_item s p x o kind ≡ good t → IsNext s t

@@ -32,18 +32,18 @@ module _ (look : Look) (words : AreWords (width_at look.entries)) (known : (x : 
 
   -- ---- words of memories
 
-  writes_sized : (m : Memory) (i v : Expr) → Stands look.entries (a_memory m) → 2 ^ size i ≡ m.words → IsSized wid i → IsSized wid v → (n more : ℕ) → n + more ≤ m.words
+  writes_sized : (m : Memory) (i v : Expr) → Stands look.entries (a_memory m) → 2 ^ size i ≤ m.words → IsSized wid i → IsSized wid v → (n more : ℕ) → n + more ≤ 2 ^ size i
       → AreStmtsSized wid is_reg (writes_from m i v n more)
   writes_sized m i v h k s t n zero l = tt
   writes_sized m i v h k s t n (suc more) l =
       let w = size_wide wid words i s in let a : n < m.words = omega arith in let o = h.1 n a in
-      (((refl, s, (w.0, w.1, (let b : n < 2 ^ size i = omega arith in b))), ((o.1, o.0), t), tt), writes_sized m i v h k s t (suc n) more (let c : suc n + more ≤ m.words = omega arith in c))
+      (((refl, s, (w.0, w.1, (let b : n < 2 ^ size i = omega arith in b))), ((o.1, o.0), t), tt), writes_sized m i v h k s t (suc n) more (let c : suc n + more ≤ 2 ^ size i = omega arith in c))
 
   word_set_sized : (blocking : Bool) (g : Goal) (v : Expr) → IsGoalSized look words known of_registers is_reg g → goal_broken g ≡ [] → (blocking && is_word g) ≡ false → IsSized wid v
       → IsDone (word_set blocking g v)
   word_set_sized blocking (fixed a) v h e b s = ((h e).0, s)
   word_set_sized true (a_word m i bs) v h e b s = absurd (search (rules, b))
-  word_set_sized false (a_word m i bs) v h e b s = let g = h e in writes_sized m i v g.2 g.0 g.1 s 0 m.words (let l : 0 + m.words ≤ m.words = omega arith in l)
+  word_set_sized false (a_word m i bs) v h e b s = let g = h e in writes_sized m i v g.2 g.0 g.1 s 0 (2 ^ size i) (let l : 0 + 2 ^ size i ≤ 2 ^ size i = omega arith in l)
 
   set_sized : (blocking : Bool) (t : TargetTree) (g : Goal) (v : Term) → IsGoalSized look words known of_registers is_reg g → IsTermSized look words v → (set_done look kind blocking t g v).broken ≡ []
       → IsDone (set_done look kind blocking t g v).stmt

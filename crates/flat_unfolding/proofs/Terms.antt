@@ -1,5 +1,5 @@
 -- Expressions that break no rule are well sized.
-use Rattle.std.proofs.Common.{◌≡◌, ℕ, zero, suc, ◌+◌, ◌-◌, ◌*◌, ◌^◌, ◌/◌, ◌<◌, ◌≤◌, max, Bool, true, false, cond, not, ◌&&◌, ◌==◌, nat_lt, List, [], ◌∷◌, ◌++◌, Option, Some, None, refl, ap, ap₂, arith, rules, ltb-true, ltb-false, eqb-true}
+use Rattle.std.proofs.Common.{◌≡◌, ℕ, zero, suc, ◌+◌, ◌-◌, ◌*◌, ◌^◌, ◌/◌, ◌<◌, ◌≤◌, max, Bool, true, false, cond, not, ◌&&◌, ◌==◌, nat_lt, nat_le, List, [], ◌∷◌, ◌++◌, Option, Some, None, refl, ap, ap₂, arith, rules, ltb-true, ltb-false, leb-true}
 use Rattle.std.specs.Prelude.{option_and_then}
 use Rattle.std.proofs.lemmas.Nat.{pow_pos}
 use Rattle.std.proofs.Math.Nat.{mod-lt}
@@ -14,10 +14,11 @@ use Rattle.flat_meaning.specs.Flat.{Expr, Number, Read, At, Unary, Binary, Choos
 use Rattle.flat_meaning.specs.Fits.{has_cell}
 use Rattle.flat_meaning.specs.Law.{AreWords}
 use Rattle.flat_form.specs.View.{binary_of}
-use Rattle.flat_unfolding.specs.Outcome.{Text, breaks, breaks_if}
-use Rattle.flat_unfolding.specs.Names.{Range, width_of, Param, Memory, Meaning, a_param, a_signal, a_memory, an_instance, Names, Look, meaning, width_at, range_at, reset_at, level, bits_read, whole_of, unknown}
+use Rattle.flat_unfolding.specs.Outcome.{Text, Broken, breaks, breaks_if}
+use Rattle.flat_unfolding.specs.Names.{Range, width_of, Param, Memory, Meaning, a_param, a_signal, a_memory, no_value, Names, Look, meaning, width_at, range_at, reset_at, level, bits_read, whole_of, unknown}
 use Rattle.flat_unfolding.specs.Constants.{own_value, counted_size, within, whole, whole_unary, whole_binary, size_in}
-use Rattle.flat_unfolding.specs.Expressions.{Term, is_empty, is_sound, all_broken, all_sound, joined, spoilt, no_expr, as_bound, as_count, range_of, Select, bit_select, part_select, may_index, word_of, unary_term, is_whole_only, binary_term, choice_term, join_term, repeat_term, meant_term, param_bits, signal_bits, word_bits, param_index, signal_index, words_from, memory_index, is_param, meant_index, index_term, meant_part, part_term, whole_number, judged_whole, read, read_all}
+use Rattle.flat_unfolding.specs.Signs.{compares_signed, is_unsized}
+use Rattle.flat_unfolding.specs.Expressions.{Term, is_empty, is_sound, all_broken, all_sound, joined, spoilt, no_expr, also, as_bound, as_count, range_of, Select, bit_select, part_select, may_index, word_of, unary_term, is_whole_only, binary_term, choice_term, join_term, repeat_term, meant_term, param_bits, signal_bits, word_bits, param_index, signal_index, words_from, memory_index, is_param, meant_index, index_term, meant_part, part_term, whole_number, judged_whole, read, read_parts}
 use Rattle.flat_unfolding.specs.Formed.{IsFormed, AreFormed, AreSome}
 use Rattle.flat_unfolding.specs.Sized.{IsSized, AreSized}
 use Rattle.flat_unfolding.proofs.Steps.{not_broken, none_of_both, some_is}
@@ -159,7 +160,7 @@ module _ (look : Look) (words : AreWords (width_at look.entries)) where
   meant_sized x (Some (a_param p)) h e = (h.0, h.1, h.2)
   meant_sized x (Some (a_signal s)) h e = whole_sized s h
   meant_sized x (Some (a_memory m)) h e = no_expr_sized
-  meant_sized x (Some an_instance) h e = no_expr_sized
+  meant_sized x (Some no_value) h e = no_expr_sized
 
   -- ---- an index
 
@@ -203,19 +204,19 @@ module _ (look : Look) (words : AreWords (width_at look.entries)) where
         go true e = signal_sized x s (bit_select r (own_value i.expr)) (λ q. bit_inside r (wid s) (own_value i.expr) q (spans_at look.entries s)) e
         go false e = (index_inside r (wid s) (size i.expr) (spans_at look.entries s) (negated (may_index r (size i.expr)) (not_broken (not (may_index r (size i.expr))) 315 x e)), sized)
 
-    words_sized : (m : Memory) → Stands look.entries (a_memory m) → 2 ^ size i.expr ≡ m.words → (n more : ℕ) → n + more < m.words → IsSized wid (words_from look m i.expr n more)
+    words_sized : (m : Memory) → Stands look.entries (a_memory m) → 2 ^ size i.expr ≤ m.words → (n more : ℕ) → n + more < 2 ^ size i.expr → IsSized wid (words_from look m i.expr n more)
     words_sized m h k n zero l = whole_sized (m.first + n) (h.1 n (let a : n < m.words = omega arith in a)).0
     words_sized m h k n (suc more) l =
         let w = size_wide wid words i.expr sized in
-        ((refl, sized, (w.0, w.1, (let a : n < 2 ^ size i.expr = omega arith in a))), whole_sized (m.first + n) (h.1 n (let b : n < m.words = omega arith in b)).0, words_sized m h k (suc n) more (let c : suc n + more < m.words = omega arith in c))
+        ((refl, sized, (w.0, w.1, (let a : n < 2 ^ size i.expr = omega arith in a))), whole_sized (m.first + n) (h.1 n (let b : n < m.words = omega arith in b)).0, words_sized m h k (suc n) more (let c : suc n + more < 2 ^ size i.expr = omega arith in c))
 
     memory_sized : (m : Memory) → Stands look.entries (a_memory m) → IsTermSized (memory_index look x m i)
-    memory_sized m h = go i.is_constant (2 ^ size i.expr == m.words) refl
+    memory_sized m h = go i.is_constant (nat_le (2 ^ size i.expr) m.words) refl
       where
-        go : (b c : Bool) → (2 ^ size i.expr == m.words) ≡ c
-            → IsTermSized (cond b (word_bits look x (word_of m (own_value i.expr))) (cond c (spoilt (words_from look m i.expr 0 (m.words - 1)) false []) (spoilt i.expr false (breaks 315 x))))
+        go : (b c : Bool) → nat_le (2 ^ size i.expr) m.words ≡ c
+            → IsTermSized (cond b (word_bits look x (word_of m (own_value i.expr))) (cond c (spoilt (words_from look m i.expr 0 (2 ^ size i.expr - 1)) false []) (spoilt i.expr false (breaks 315 x))))
         go true c k e = word_sized x m (own_value i.expr) h e
-        go false true k e = let some = h.0 in words_sized m h (eqb-true (2 ^ size i.expr) m.words k) 0 (m.words - 1) (let l : 0 + (m.words - 1) < m.words = omega arith in l)
+        go false true k e = let some = pow_pos (size i.expr) in words_sized m h (leb-true (2 ^ size i.expr) m.words k) 0 (2 ^ size i.expr - 1) (let l : 0 + (2 ^ size i.expr - 1) < 2 ^ size i.expr = omega arith in l)
         go false false k e = sized
 
     meant_index_sized : (o : Option Meaning) → StandsIf look.entries o → IsTermSized (meant_index look x i o)
@@ -223,7 +224,7 @@ module _ (look : Look) (words : AreWords (width_at look.entries)) where
     meant_index_sized (Some (a_param p)) h e = param_sized p h e
     meant_index_sized (Some (a_signal s)) h e = chosen_sized s e
     meant_index_sized (Some (a_memory m)) h e = memory_sized m h e
-    meant_index_sized (Some an_instance) h e = sized
+    meant_index_sized (Some no_value) h e = sized
 
   index_sized : (x : Text) (i : Term) → StandsIf look.entries (meaning look x) → IsTermSized i → IsTermSized (index_term look x i)
   index_sized x i h k e = go (is_sound i) refl e
@@ -244,8 +245,8 @@ module _ (look : Look) (words : AreWords (width_at look.entries)) where
   meant_part_sized x (Some q) (Some (a_signal s)) h e = signal_sized x s (part_select (range_at look.entries s) q) (λ c. part_inside (range_at look.entries s) (wid s) q c (spans_at look.entries s)) e
   meant_part_sized x None (Some (a_memory m)) h e = no_expr_sized
   meant_part_sized x (Some q) (Some (a_memory m)) h e = no_expr_sized
-  meant_part_sized x None (Some an_instance) h e = no_expr_sized
-  meant_part_sized x (Some q) (Some an_instance) h e = no_expr_sized
+  meant_part_sized x None (Some no_value) h e = no_expr_sized
+  meant_part_sized x (Some q) (Some no_value) h e = no_expr_sized
 
   part_sized : (x : Text) (l r : Term) → StandsIf look.entries (meaning look x) → IsTermSized (part_term look x l r)
   part_sized x l r h e =
@@ -320,28 +321,33 @@ module _ (look : Look) (words : AreWords (width_at look.entries)) where
       let l = not_both (is_sound c) (all_sound ts) wide (not_broken (is_sound c && all_sound ts && wide) 308 [] p.1) (sound_is c q.0) (all_sound_are ts q.1) in
       (counted_some t q.0, some_bits ts s k, ltb-false 64 (n * sizes (joined ts)) l, k)
 
+  also_sized : (t : Term) (bs : List Broken) → IsTermSized t → IsTermSized (also t bs)
+  also_sized t bs h e = h (none_of_both t.broken bs e).0
+
   -- ---- expressions
 
   module _ (known : (x : Text) → StandsIf look.entries (meaning look x)) where
-    some_read : (es : ExprTrees) → AreSome es → IsSome (read_all look es)
+    some_read : (es : ExprTrees) → AreSome es → IsSome (read_parts look es)
     some_read no_trees h = absurd h
     some_read (and_trees a es) h = tt
 
     mutual
       pub sized : (e : ExprTree) → IsFormed e → IsTermSized (read look e)
-      sized (number v w plain) h e = (h.0, h.1, h.2)
+      sized (number v w spelt) h e = (h.0, h.1, h.2)
       sized (name x) h e = meant_sized x (meaning look x) (known x) e
       sized (index x i) h e = index_sized x (read look i) (known x) (sized i h) e
       sized (part x l r) h e = part_sized x (read look l) (read look r) (known x) e
       sized (unary op a) h e = judged_sized (counted_size look.names (unary op a)) (whole look.names (unary op a)) (unary_term op (read look a)) (whole_unary_small look.names op a) (sized a h) e
-      sized (binary op a b) h e = judged_sized (counted_size look.names (binary op a b)) (whole look.names (binary op a b)) (binary_term op (read look a) (read look b)) (whole_binary_small look.names op a b)
-          (operated_sized op (read look a) (read look b) (sized a h.0) (sized b h.1)) e
+      sized (binary op a b) h e = judged_sized (counted_size look.names (binary op a b)) (whole look.names (binary op a b)) (also (binary_term op (read look a) (read look b)) (breaks_if (compares_signed look.names op a b) 307 [])) (whole_binary_small look.names op a b)
+          (also_sized (binary_term op (read look a) (read look b)) (breaks_if (compares_signed look.names op a b) 307 []) (operated_sized op (read look a) (read look b) (sized a h.0) (sized b h.1))) e
       sized (choice c a b) h e = judged_sized (counted_size look.names (choice c a b)) (whole look.names (choice c a b)) (choice_term (read look c) (read look a) (read look b)) (whole_choice_small look.names c a b)
           (choice_sized (read look c) (read look a) (read look b) (sized c h.0) (sized a h.1) (sized b h.2)) e
-      sized (join parts) h e = join_sized (read_all look parts) (some_read parts h.0) (all_sized parts h.1) e
-      sized (repeat count parts) h e = repeat_sized (read look count) (read_all look parts) (some_read parts h.1) (all_sized parts h.2) e
+      sized (join parts) h e = join_sized (read_parts look parts) (some_read parts h.0) (all_sized parts h.1) e
+      sized (repeat count parts) h e = repeat_sized (read look count) (read_parts look parts) (some_read parts h.1) (all_sized parts h.2) e
       sized (paren a) h e = sized a h e
 
-      pub all_sized : (es : ExprTrees) → AreFormed es → IsListSized (read_all look es)
+      pub all_sized : (es : ExprTrees) → AreFormed es → IsListSized (read_parts look es)
       all_sized no_trees h e = tt
-      all_sized (and_trees a es) h e = let p = none_of_both (read look a).broken (all_broken (read_all look es)) e in (sized a h.0 p.0, all_sized es h.1 p.1)
+      all_sized (and_trees a es) h e =
+          let own = breaks_if (is_unsized look.names a) 308 [] in
+          let p = none_of_both ((read look a).broken ++ own) (all_broken (read_parts look es)) e in (also_sized (read look a) own (sized a h.0) p.0, all_sized es h.1 p.1)

@@ -1,7 +1,7 @@
 -- What visits make of a design that is well sized, and the flat design that comes of it.
 use Rattle.std.proofs.Common.{◌≡◌, ℕ, zero, suc, ◌≤◌, Bool, true, false, cond, List, [], ◌∷◌, ◌++◌, length, map, Option, Some, None, refl, subst, rules, find, bytes_eq}
 use Rattle.std.specs.Prelude.{All, codes, flat_map, filter_map}
-use Rattle.std.specs.List.{cons_option}
+use Rattle.std.specs.List.{cons_option, list_any}
 use Rattle.std.proofs.lemmas.List.Elements.{All-head, All-cons, All-nil, All-tail, All-push, All-append}
 use Rattle.cdc_base.specs.declared.fault.Place.{Place}
 use Rattle.cdc_base.specs.declared.signal.Signal.{Signal}
@@ -11,10 +11,10 @@ use Rattle.verilog_reading.specs.SourceTree.{ParamTree, DeclTree, PortTree, Conn
 use Rattle.flat_meaning.specs.Flat.{Expr, size, Target, Stmt}
 use Rattle.flat_meaning.specs.Design.{Flat, size_in}
 use Rattle.flat_unfolding.specs.Outcome.{Text, Outcome, good, each, refused_if, by_number, judged}
-use Rattle.flat_unfolding.specs.Names.{an_instance, Meaning, is_declared, Entry, width_at, printed_part}
+use Rattle.flat_unfolding.specs.Names.{no_value, Meaning, is_declared, Entry, width_at, printed_part}
 use Rattle.flat_unfolding.specs.Parameters.{Override, Overrides, parameter, param_in, params_of, parameters}
 use Rattle.flat_unfolding.specs.Declarations.{header_of, header_decls, declarations}
-use Rattle.flat_unfolding.specs.Instances.{override_rules, overrides_of, connection_rules, links_of, connected}
+use Rattle.flat_unfolding.specs.Instances.{override_rules, overrides_of, connection_rules, links_of, connected, leaning_of, is_short}
 use Rattle.flat_unfolding.specs.Design.{Design, no_design, Stage, look_of}
 use Rattle.flat_unfolding.specs.Drivers.{driven_once}
 use Rattle.flat_unfolding.specs.Signals.{signal_of, signals_from, flat_design}
@@ -85,8 +85,8 @@ ports_formed (p ∷ ps) h = go p.decl (All-head IsPortFormed p ps h) (ports_form
 
 -- a visit keeps designs well sized, and only declares further signals
 abbrev KeepsSizes : Visit → Type 0
-KeepsSizes v = (prefix : Text) (visiting : List Text) (m : ModuleTree) (overrides : Overrides) (ports : Stage → Stage) (d e : Design) → v prefix visiting m overrides ports d ≡ good e
-    → IsModuleFormed m → AreWide overrides → OpensPorts m d ports → IsDesign d → IsDesign e × Grows d.entries e.entries
+KeepsSizes v = (prefix : Text) (visiting : List Text) (m : ModuleTree) (overrides : Overrides) (ports : Stage → Stage) (d : Design) (e : Stage) → v prefix visiting m overrides ports d ≡ good e
+    → IsModuleFormed m → AreWide overrides → OpensPorts m d ports → IsDesign d → IsDesign e.design × Grows d.entries e.design.entries
 
 module _ (modules : List ModuleTree) (formed : IsSourceFormed modules) where
   found_formed : (x : Text) (ms : List ModuleTree) → IsSourceFormed ms → (m : ModuleTree) → find (λ (m : ModuleTree). bytes_eq m.name x) ms ≡ Some m → IsModuleFormed m
@@ -109,10 +109,11 @@ module _ (modules : List ModuleTree) (formed : IsSourceFormed modules) where
         let d = good_then (v (prefix ++ printed_part x ++ codes ".") (m.name ∷ visiting) m (overrides_of look m params) (connected links) s.design) _ t c.2 in
         let k = keeps (prefix ++ printed_part x ++ codes ".") (m.name ∷ visiting) m (overrides_of look m params) (connected links) s.design d.0 d.1 f
         (overrides_fine s h m params g.0 j.0) (connected_opens m s.design links (links_fine s h m ports g.1 j.1)) h.design in
-        let es = d.0.entries in
-        subst (IsNext s) (good_is _ t d.2) record {
+        let l = good_then (refused_if (list_any (is_short d.0) (leaning_of look m params ports)) 306 (Some p) m.name) _ t d.2 in
+        let es = d.0.design.entries in
+        subst (IsNext s) (good_is _ t l.2) record {
           stage = record {
-            names = All-push (λ (q : Text × Meaning). IsNamed es q.1) s.names (x, an_instance) (names_on s.design.entries es s.names k.1 h.names) tt;
+            names = All-push (λ (q : Text × Meaning). IsNamed es q.1) s.names (x, no_value) (names_on s.design.entries es s.names k.1 h.names) tt;
             design = k.0;
           };
           grows = k.1;
@@ -138,7 +139,6 @@ module _ (modules : List ModuleTree) (formed : IsSourceFormed modules) where
       let a = good_then (parameters overrides m first) _ e q in
       let b = good_then (declarations prefix m a.0) _ e a.2 in
       let c = good_then (header_values m (ports b.0)) _ e b.2 in
-      let i = good_then (each (item modules visiting prefix (visit modules n)) c.0 m.items) (λ t. good t.design) e c.2 in
       let begun : IsDeclaring d first = record {
         same = refl;
         grows = grows_itself d.entries;
@@ -154,8 +154,8 @@ module _ (modules : List ModuleTree) (formed : IsSourceFormed modules) where
       let fc = each_all IsDeclFormed (IsBehind d) (λ s (x : DeclTree). declared_value s m.place x) (λ s x t w z y. next_behind d s t (value_next s y.stage m.place x.name x.init x.kind t w.2 z) y)
       (ports b.0) (header_decls m) c.0 (ports_formed m.ports f.ports) c.1 fo in
       let fi = each_all (λ (x : ItemTree). IsBodyFormed x.body) (IsBehind d) (item modules visiting prefix (visit modules n))
-      (λ s x t w z y. next_behind d s t (item_next visiting prefix (visit modules n) (visit_sizes n) s y.stage x.place x.body w t z) y) c.0 m.items i.0 f.items i.1 fc in
-      subst (λ (x : Design). IsDesign x × Grows d.entries x.entries) (good_is i.0.design e i.2) (fi.stage.design, fi.grows)
+      (λ s x t w z y. next_behind d s t (item_next visiting prefix (visit modules n) (visit_sizes n) s y.stage x.place x.body w t z) y) c.0 m.items e f.items c.2 fc in
+      (fi.stage.design, fi.grows)
     where
       none_beyond : (es : List Entry) (i : ℕ) → length es ≤ i → top_at es i ≡ false
       none_beyond es i l = told_none (λ (e : Entry). e.is_top_input) false es i l
@@ -172,9 +172,9 @@ reached modules formed top resets f e =
     go : (o : Option ModuleTree) → ((m : ModuleTree) → o ≡ Some m → IsModuleFormed m) → from_top modules resets top o ≡ good f → (d : Design) × IsDesign d × (finished d ≡ good f)
     go None k e = absurd (search (rules, e))
     go (Some m) k e =
-        let g = good_then (visit modules (length modules) [] (m.name ∷ []) m [] (top_ports resets (header_of m)) no_design) finished f e in
+        let g = good_then (visit modules (length modules) [] (m.name ∷ []) m [] (top_ports resets (header_of m)) no_design) (λ (s : Stage). finished s.design) f e in
         let v = visit_sizes modules formed (length modules) [] (m.name ∷ []) m [] (top_ports resets (header_of m)) no_design g.0 g.1 (k m refl) (All-nil (λ (q : Text × Override). IsWide (size q.1.value))) (top_opens m resets (header_of m)) no_design_is in
-        (g.0, v.0, g.2)
+        (g.0.design, v.0, g.2)
 
 -- ---- the flat design
 

@@ -1,6 +1,7 @@
 -- What visits keep: the limits of signals.
 use Rattle.std.proofs.Common.{◌≡◌, ℕ, zero, suc, ◌≤◌, false, not, ◌&&◌, List, [], ◌∷◌, ◌++◌, length, map, Option, Some, None, refl, sym, ap, subst, rules}
 use Rattle.std.specs.Prelude.{codes}
+use Rattle.std.specs.List.{list_any}
 use Rattle.cdc_base.specs.declared.fault.Place.{Place}
 use Rattle.cdc_base.specs.declared.signal.ResetPin.{ResetPin}
 use Rattle.cdc_base.specs.Words.{is_in}
@@ -24,8 +25,8 @@ use Rattle.flat_unfolding.specs.Starts.{start_of}
 use Rattle.flat_unfolding.specs.Wires.{assign_item, gate_item}
 use Rattle.flat_unfolding.specs.Processes.{always_item}
 use Rattle.flat_unfolding.specs.Parameters.{range_read, Overrides, parameter_order, parameter, params_of, parameters}
-use Rattle.flat_unfolding.specs.Declarations.{is_plain_output, declaration_order, Site, numbered, again, range_rule, array_read, declaration_rules, entry, declared_again, add_declared, declaration, header_of, header_decls, sites, header_twice, has_direction, directed, declarations}
-use Rattle.flat_unfolding.specs.Instances.{override_rules, overrides_of, Link, into, out_of, connection_rules, links_of, into_port, out_of_port, connect_one, connect_all, connected}
+use Rattle.flat_unfolding.specs.Declarations.{is_plain_port, declaration_order, Site, again, range_rule, array_read, declaration_rules, entry, declared_again, add_declared, declaration, header_of, header_decls, sites, header_twice, has_direction, directed, declarations}
+use Rattle.flat_unfolding.specs.Instances.{override_rules, overrides_of, Link, into, out_of, connection_rules, links_of, into_port, out_of_port, connect_one, connect_all, connected, leaning_of, is_short}
 use Rattle.flat_unfolding.specs.Drivers.{driven_once}
 use Rattle.flat_unfolding.specs.Signals.{signals_from, flat_design}
 use Rattle.flat_unfolding.specs.Unfolding.{module_named, value_item, declared_value, Visit, instance_of, instance_item, item_of, item, header_values, visit, top_input, directed_port, top_port, top_ports, modules_differ, finished, from_top}
@@ -44,7 +45,7 @@ from_top_tried : (modules : List ModuleTree) (resets : List ResetPin) (top : Tex
     → (u : Unit {0}) × (driven_once f ≡ good u)
 from_top_tried modules resets top None f e = absurd (search (rules, e))
 from_top_tried modules resets top (Some m) f e =
-    let g = good_then (visit modules (length modules) [] (m.name ∷ []) m [] (top_ports resets (header_of m)) no_design) finished f e in tried g.0 f g.2
+    let g = good_then (visit modules (length modules) [] (m.name ∷ []) m [] (top_ports resets (header_of m)) no_design) (λ (s : Stage). finished s.design) f e in tried g.0.design f g.2
 
 pub one_driver_law : OneDriverLaw
 one_driver_law modules top resets f e =
@@ -127,7 +128,7 @@ module _ (before : List Entry) where
   declared_keeps s at d r None (Some n) t e l h =
       added_sound s (map (entry at d.kind r false) (word_names d.name 0 n)) _ t e (narrow_entries (entry at d.kind r false) (width_of r) l (λ x. refl) (word_names d.name 0 n)) before h
   declared_keeps s at d r None None t e l h =
-      added_sound s (entry at d.kind r (is_plain_output d.kind && not at.in_header) d.name ∷ []) (numbered (length s.design.entries) (d.name ∷ [])) t e (narrow_entries (entry at d.kind r (is_plain_output d.kind && not at.in_header)) (width_of r) l (λ x. refl) (d.name ∷ [])) before h
+      added_sound s (entry at d.kind r (is_plain_port d.kind && not at.in_header) d.name ∷ []) ((d.name, a_signal (length s.design.entries)) ∷ []) t e (narrow_entries (entry at d.kind r (is_plain_port d.kind && not at.in_header)) (width_of r) l (λ x. refl) (d.name ∷ [])) before h
 
   declaration_keeps : (s : Stage) (q : Site × DeclTree) (t : Stage) → declaration s q ≡ good t → SoundStage s → SoundStage t
   declaration_keeps s q t e h =
@@ -153,7 +154,7 @@ module _ (before : List Entry) where
 -- the visit of a module keeps the limits, whatever keeps them is done to its ports
 abbrev Keeps : Visit → Type 0
 Keeps v = (before : List Entry) (prefix : Text) (visiting : List Text) (m : ModuleTree) (overrides : Overrides) (ports : Stage → Stage) → ((s : Stage) → SoundStage before s → SoundStage before (ports s))
-    → (d e : Design) → v prefix visiting m overrides ports d ≡ good e → Sound before d.entries → Sound before e.entries
+    → (d : Design) (e : Stage) → v prefix visiting m overrides ports d ≡ good e → Sound before d.entries → SoundStage before e
 
 module _ (modules : List ModuleTree) (visiting : List Text) (prefix : Text) (v : Visit) (keeps : Keeps v) (before : List Entry) where
   instance_keeps : (s : Stage) (p : Place) (m : ModuleTree) (params : ConnsTree) (x : Text) (ports : ConnsTree) (t : Stage)
@@ -165,7 +166,8 @@ module _ (modules : List ModuleTree) (visiting : List Text) (prefix : Text) (v :
       let c = good_then (judged by_number p (override_rules look m params ++ connection_rules look m ports) (tt {0})) _ t b.2 in
       let links = links_of look m ports in
       let d = good_then (v (prefix ++ printed_part x ++ codes ".") (m.name ∷ visiting) m (overrides_of look m params) (connected links) s.design) _ t c.2 in
-      good_keeps before _ t d.2 (keeps before _ _ m _ (connected links) (λ u k. all_keep before u.names u.design links k) s.design d.0 d.1 h)
+      let f = good_then (refused_if (list_any (is_short d.0) (leaning_of look m params ports)) 306 (Some p) m.name) _ t d.2 in
+      good_keeps before _ t f.2 (keeps before _ _ m _ (connected links) (λ u k. all_keep before u.names u.design links k) s.design d.0 d.1 h)
 
   item_keeps : (s : Stage) (p : Place) (body : BodyTree) (t : Stage) → item_of modules visiting prefix v s p body ≡ good t → SoundStage before s → SoundStage before t
   item_keeps s p (param q) t e h = good_keeps before s t e h
@@ -187,13 +189,11 @@ visit_keeps modules (suc n) before prefix visiting m overrides ports k d e q h =
     let a = good_then (parameters overrides m first) _ e q in
     let b = good_then (declarations prefix m a.0) _ e a.2 in
     let c = good_then (header_values m (ports b.0)) _ e b.2 in
-    let i = good_then (each (item modules visiting prefix (visit modules n)) c.0 m.items) (λ t. good t.design) e c.2 in
     let fa = each_keeps (SoundStage before) (parameter overrides) (parameter_keeps before overrides) first (params_of m) a.0 a.1 h in
     let fb = declarations_keep before prefix m a.0 b.0 b.1 fa in
     let fc = each_keeps (SoundStage before) (λ s (x : DeclTree). declared_value s m.place x) (λ s x t. value_keeps before s m.place x.name x.init x.kind t) (ports b.0) (header_decls m) c.0 c.1 (k b.0 fb) in
-    let fi = each_keeps (SoundStage before) (item modules visiting prefix (visit modules n)) (λ s x t. item_keeps modules visiting prefix (visit modules n) (visit_keeps modules n) before s x.place x.body t)
-    c.0 m.items i.0 i.1 fc in
-    subst (λ (x : Design). Sound before x.entries) (good_is i.0.design e i.2) fi
+    each_keeps (SoundStage before) (item modules visiting prefix (visit modules n)) (λ s x t. item_keeps modules visiting prefix (visit modules n) (visit_keeps modules n) before s x.place x.body t)
+    c.0 m.items e c.2 fc
 
 -- ---- the flat design
 
@@ -218,8 +218,8 @@ limited d f e h =
 top_limited : (modules : List ModuleTree) (resets : List ResetPin) (top : Text) (o : Option ModuleTree) (f : Flat) → from_top modules resets top o ≡ good f → IsLimited f
 top_limited modules resets top None f e = absurd (search (rules, e))
 top_limited modules resets top (Some m) f e =
-    let g = good_then (visit modules (length modules) [] (m.name ∷ []) m [] (top_ports resets (header_of m)) no_design) finished f e in
-    limited g.0 f g.2 ((visit_keeps modules (length modules) [] [] (m.name ∷ []) m [] (top_ports resets (header_of m)) (top_keeps [] resets (header_of m)) no_design g.0 g.1 (sound_itself [])).fine none_are_fine)
+    let g = good_then (visit modules (length modules) [] (m.name ∷ []) m [] (top_ports resets (header_of m)) no_design) (λ (s : Stage). finished s.design) f e in
+    limited g.0.design f g.2 ((visit_keeps modules (length modules) [] [] (m.name ∷ []) m [] (top_ports resets (header_of m)) (top_keeps [] resets (header_of m)) no_design g.0 g.1 (sound_itself [])).fine none_are_fine)
 
 pub limits_law : LimitsLaw
 limits_law modules top resets f e =

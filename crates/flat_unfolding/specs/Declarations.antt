@@ -8,6 +8,7 @@ use Rattle.verilog_ast.specs.declared.DeclKind.TheVariants as k
 use Rattle.verilog_reading.specs.SourceTree.{Bounds, DeclTree, PortTree, ItemTree, BodyTree, decl, ModuleTree}
 use Rattle.flat_unfolding.specs.Outcome.{Text, Broken, breaks, breaks_if, Outcome, good, then_, each, refused, refused_if, Order, as_listed, judged}
 use Rattle.flat_unfolding.specs.Names.{Range, Meaning, a_signal, a_memory, no_value, Names, is_declared, Direction, inner, inward, outward, Entry, Look, meaning, range_at, printed_part}
+use Rattle.flat_unfolding.specs.Targets.{is_input}
 use Rattle.flat_unfolding.specs.Memories.{words_of, word_names, taken}
 use Rattle.flat_unfolding.specs.Parameters.{range_read, bounds_read}
 use Rattle.flat_unfolding.specs.Design.{Stage, look_of, with_design, change_entry}
@@ -24,11 +25,6 @@ is_inner inner = true
 is_inner inward = false
 is_inner outward = false
 
-abbrev pub is_inward : Direction → Bool
-is_inward inward = true
-is_inward inner = false
-is_inward outward = false
-
 abbrev pub is_reg_kind : DeclKind → Bool
 is_reg_kind k.Reg = true
 is_reg_kind k.OutputReg = true
@@ -41,7 +37,7 @@ is_plain_port k.Output = true
 is_plain_port kind = false
 
 abbrev pub may_be_again : DeclKind → Entry → Bool
-may_be_again kind e = e.is_open && not (is_reg_kind kind && is_inward e.direction)
+may_be_again kind e = e.is_open && not (is_reg_kind kind && is_input e.direction)
 
 -- kinds that take no value
 abbrev pub is_bare : DeclKind → Bool
@@ -124,7 +120,6 @@ added s es names = then_ (refused_if (nat_lt 65536 (length s.design.entries + le
 -- the printed names of words are taken, and stand for nothing
 abbrev pub taken_names : List Text → Names
 taken_names words = map (λ x. (x, no_value)) words
-
 
 abbrev pub add_signal : Stage → Site → DeclTree → Option Range → Outcome Stage
 add_signal s at d r = added s (entry at d.kind r (is_plain_port d.kind && not at.in_header) d.name ∷ []) ((d.name, a_signal (length s.design.entries)) ∷ [])

@@ -8,7 +8,7 @@ use Rattle.verilog_reading.specs.ExprTree.{ExprTree, name, paren}
 use Rattle.verilog_reading.specs.SourceTree.{DeclTree, ConnTree, ConnsTree, ordered, named, ModuleTree}
 use Rattle.flat_meaning.specs.Flat.{Expr, size, Read, Target, Whole}
 use Rattle.flat_unfolding.specs.Outcome.{Text, Broken, breaks_if}
-use Rattle.flat_unfolding.specs.Names.{span, Param, Meaning, a_param, a_signal, Names, Direction, inward, Entry, Look, meaning, meaning_in, reset_at, width_at}
+use Rattle.flat_unfolding.specs.Names.{span, Meaning, a_param, a_signal, Names, Direction, inward, Entry, Look, meaning, meaning_in, reset_at, width_at}
 use Rattle.flat_unfolding.specs.Constants.{is_counted}
 use Rattle.flat_unfolding.specs.Signs.{is_signed, leans}
 use Rattle.flat_unfolding.specs.Expressions.{as_constant, read}

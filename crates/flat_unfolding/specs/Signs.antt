@@ -1,15 +1,13 @@
 -- Which expressions IEEE 1364-2005 takes as signed (5.5), and which have a value that hangs on the size at which they are evaluated (5.4).
-use Rattle.std.specs.Prelude.{ℕ, Bool, true, false, not, ◌&&◌, ◌||◌, ◌==◌, Option, Some, None}
+use Rattle.std.specs.Prelude.{Bool, true, false, not, ◌&&◌, ◌||◌, ◌==◌, Option, Some}
 use Rattle.std.specs.Option.{option_map_or}
-use Rattle.cdc_base.specs.declared.size.NumberSize.{NumberSize}
 use Rattle.cdc_base.specs.declared.size.NumberSize.TheVariants as z
 use Rattle.verilog_ast.specs.declared.UnaryOp.{UnaryOp}
 use Rattle.verilog_ast.specs.declared.UnaryOp.TheVariants as u
 use Rattle.verilog_ast.specs.declared.BinaryOp.{BinaryOp}
 use Rattle.verilog_ast.specs.declared.BinaryOp.TheVariants as b
 use Rattle.verilog_reading.specs.ExprTree.{ExprTree, number, name, index, part, unary, binary, choice, join, repeat, paren}
-use Rattle.flat_unfolding.specs.Outcome.{Text}
-use Rattle.flat_unfolding.specs.Names.{Param, Meaning, a_param, Names, meaning_in}
+use Rattle.flat_unfolding.specs.Names.{Meaning, a_param, Names, meaning_in}
 use Rattle.flat_unfolding.specs.Constants.{is_plain, counted_size, is_counted}
 
 -- counted with the size 32

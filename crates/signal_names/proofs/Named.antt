@@ -1,11 +1,11 @@
 -- What a module and all its instances declare has printed names that differ.
-use Rattle.std.proofs.Common.{◌≡◌, ◌≢◌, ℕ, ◌+◌, ◌≤◌, Bool, true, false, ◌||◌, nat_lt, List, [], ◌∷◌, ◌++◌, length, map, All, Some, None, refl, sym, ap, subst, ◌∙◌, arith, rules, is_some, if◌then◌else◌, bytes_eq, ltb-false}
+use Rattle.std.proofs.Common.{◌≡◌, ◌≢◌, ◌+◌, ◌≤◌, Bool, true, false, ◌||◌, nat_lt, List, [], ◌∷◌, ◌++◌, length, map, All, Some, None, refl, sym, ap, subst, ◌∙◌, arith, rules, is_some, if◌then◌else◌, bytes_eq, ltb-false}
 use Rattle.std.proofs.lemmas.List.Elements.{All-head, All-cons, All-nil, All-tail, All-append, All-weaker}
 use Rattle.std.proofs.lemmas.Slice.Eq.{bytes_eq-Decides}
 use Rattle.cdc_base.specs.Words.{found_in}
 use Rattle.flat_unfolding.specs.Outcome.{Text, good, refused_if}
-use Rattle.flat_unfolding.specs.Names.{Meaning, a_signal, Names, is_declared, Entry, printed_part}
-use Rattle.flat_unfolding.specs.Declarations.{added, numbered}
+use Rattle.flat_unfolding.specs.Names.{Meaning, no_value, Names, is_declared, Entry, printed_part}
+use Rattle.flat_unfolding.specs.Declarations.{added, taken_names}
 use Rattle.flat_unfolding.specs.Design.{Stage}
 use Rattle.flat_unfolding.proofs.Steps.{good_is, good_then, not_refused}
 use Rattle.signal_names.specs.Paths.{is_visible, path_text, IsPrinted}
@@ -65,12 +65,12 @@ one_declared x m = first_declared x m []
 rest_declared : (q : Text × Meaning) (rest : Names) (x : Text) → is_declared rest x ≡ true → is_declared (q ∷ rest) x ≡ true
 rest_declared q rest x h = newly_declared (q ∷ []) rest x h
 
-pub numbered_declared : (n : ℕ) (xs : List Text) → All (λ x. is_declared (numbered n xs) x ≡ true) xs
-numbered_declared n [] = All-nil (λ x. is_declared (numbered n []) x ≡ true)
-numbered_declared n (x ∷ xs) =
-    All-cons (λ z. is_declared (numbered n (x ∷ xs)) z ≡ true) x xs (first_declared x (a_signal n) (numbered (n + 1) xs))
-    (All-weaker (λ z. is_declared (numbered (n + 1) xs) z ≡ true) (λ z. is_declared (numbered n (x ∷ xs)) z ≡ true)
-    (λ z h. rest_declared (x, a_signal n) (numbered (n + 1) xs) z h) xs (numbered_declared (n + 1) xs))
+pub taken_declared : (xs : List Text) → All (λ x. is_declared (taken_names xs) x ≡ true) xs
+taken_declared [] = All-nil (λ x. is_declared (taken_names []) x ≡ true)
+taken_declared (x ∷ xs) =
+    All-cons (λ z. is_declared (taken_names (x ∷ xs)) z ≡ true) x xs (first_declared x no_value (taken_names xs))
+    (All-weaker (λ z. is_declared (taken_names xs) z ≡ true) (λ z. is_declared (taken_names (x ∷ xs)) z ≡ true)
+    (λ z h. rest_declared (x, no_value) (taken_names xs) z h) xs (taken_declared xs))
 
 -- ---- names below a module
 

@@ -1,6 +1,6 @@
 -- Declarations, items and visits keep printed names apart.
 use Rattle.std.proofs.Common.{◌≡◌, ℕ, zero, suc, Bool, true, false, not, ◌&&◌, ◌==◌, cond, List, [], ◌∷◌, ◌++◌, length, map, All, Option, Some, None, refl, sym, ap, subst, ◌∙◌, arith, rules, is_none, bytes_eq, codes, filter, flat_map, find}
-use Rattle.std.specs.List.{list_all}
+use Rattle.std.specs.List.{list_all, list_any}
 use Rattle.std.proofs.lemmas.List.Elements.{All-head, All-cons, All-nil, All-tail, All-append, All-map, All-weaker}
 use Rattle.cdc_base.specs.declared.fault.Place.{Place}
 use Rattle.cdc_base.specs.declared.signal.ResetPin.{ResetPin}
@@ -17,7 +17,7 @@ use Rattle.verilog_reading.specs.SourceTree.{Bounds, ParamTree, DeclTree, ConnsT
 use Rattle.flat_meaning.specs.Flat.{Expr, Target}
 use Rattle.flat_meaning.specs.Design.{Flat}
 use Rattle.flat_unfolding.specs.Outcome.{Text, Broken, Outcome, good, each, refused_if, Order, by_number, judged, breaks_if}
-use Rattle.flat_unfolding.specs.Names.{Range, Meaning, a_signal, a_memory, an_instance, meaning, Names, is_declared, meaning_in, Direction, inward, Entry, Look, direction_at, printed_part}
+use Rattle.flat_unfolding.specs.Names.{Range, Meaning, a_signal, a_memory, no_value, meaning, Names, is_declared, meaning_in, Direction, inward, Entry, Look, direction_at, printed_part}
 use Rattle.flat_unfolding.specs.Expressions.{Term, read}
 use Rattle.flat_unfolding.specs.Memories.{words_of, word_names, taken}
 use Rattle.flat_unfolding.specs.Design.{Design, no_design, Stage, look_of, with_design, change_entry}
@@ -25,8 +25,8 @@ use Rattle.flat_unfolding.specs.Starts.{start_of}
 use Rattle.flat_unfolding.specs.Wires.{assign_item, gate_item}
 use Rattle.flat_unfolding.specs.Processes.{always_item}
 use Rattle.flat_unfolding.specs.Parameters.{bounds_read, range_read, Overrides, parameter_order, parameter, params_of, parameters}
-use Rattle.flat_unfolding.specs.Declarations.{is_plain_output, declaration_order, Site, numbered, again, range_rule, array_read, count_rules, declaration_rules, entry, declared_again, add_declared, declaration, header_of, header_decls, item_decls, decl_in, sites, header_twice, has_direction, directed, declarations}
-use Rattle.flat_unfolding.specs.Instances.{override_rules, overrides_of, Link, into, out_of, connection_rules, links_of, into_port, out_of_port, connect_one, connect_all, connected}
+use Rattle.flat_unfolding.specs.Declarations.{is_plain_port, declaration_order, Site, taken_names, again, range_rule, array_read, count_rules, declaration_rules, entry, declared_again, add_declared, declaration, header_of, header_decls, item_decls, decl_in, sites, header_twice, has_direction, directed, declarations}
+use Rattle.flat_unfolding.specs.Instances.{override_rules, overrides_of, Link, into, out_of, connection_rules, links_of, into_port, out_of_port, connect_one, connect_all, connected, leaning_of, is_short}
 use Rattle.flat_unfolding.specs.Drivers.{driven_once}
 use Rattle.flat_unfolding.specs.Signals.{signals_from, flat_design}
 use Rattle.flat_unfolding.specs.Unfolding.{module_named, value_item, declared_value, Visit, instance_of, instance_item, item_of, item, header_values, visit, top_input, directed_port, top_port, top_ports, modules_differ, finished, from_top}
@@ -34,7 +34,7 @@ use Rattle.flat_unfolding.proofs.Steps.{some_is, good_is, good_then, judged_is, 
 use Rattle.signal_names.specs.Paths.{is_visible, prefix_text, path_text, IsPrinted}
 use Rattle.signal_names.specs.Laws.{IsNamedVisibly, IsModuleVisible, IsSourceVisible, AreDifferent, names_in, AreNames, NamesDiffer}
 use Rattle.signal_names.proofs.Cuts.{in_a_row}
-use Rattle.signal_names.proofs.Named.{still_declared, newly_declared, one_declared, numbered_declared, first_of, IsBelow, IsNew, printed_of, IsNamed, IsQuiet, quiet_named, added_named, adds_name, text_of, IsFresh, adds_signals}
+use Rattle.signal_names.proofs.Named.{still_declared, newly_declared, one_declared, taken_declared, first_of, IsBelow, IsNew, printed_of, IsNamed, IsQuiet, quiet_named, added_named, adds_name, text_of, IsFresh, adds_signals}
 use Rattle.signal_names.proofs.Words.{words_visible, words_differ}
 
 -- ---- steps that are quiet
@@ -136,19 +136,19 @@ not_both false b e f = absurd (search (rules, f))
 module _ (before : List Text) (s : Stage) (at : Site) (d : DeclTree) (v : is_visible d.name ≡ true) where
   signal_named : (r : Option Range) (t : Stage) → is_declared s.names d.name ≡ false → add_declared s at d r None None ≡ good t → IsNamed at.prefix before s → IsNamed at.prefix before t
   signal_named r t f e h =
-      let more = numbered (length s.design.entries) (d.name ∷ []) in
-      added_named at.prefix before s t (adds_signals at.prefix s (entry at d.kind r (is_plain_output d.kind && not at.in_header) d.name ∷ []) more (d.name ∷ []) t e refl (λ l. (
+      let sig = a_signal (length s.design.entries) in let more : Names = (d.name, sig) ∷ [] in
+      added_named at.prefix before s t (adds_signals at.prefix s (entry at d.kind r (is_plain_port d.kind && not at.in_header) d.name ∷ []) more (d.name ∷ []) t e refl (λ l. (
         all_fresh at.prefix s.names (s.names ++ more) (d.name ∷ [])
             (All-cons (λ x. is_visible x ≡ true) d.name [] v (All-nil (λ x. is_visible x ≡ true)))
             (All-cons (λ x. is_declared s.names x ≡ false) d.name [] f (All-nil (λ x. is_declared s.names x ≡ false)))
-            (All-weaker (λ x. is_declared more x ≡ true) (λ x. is_declared (s.names ++ more) x ≡ true) (λ x i. newly_declared s.names more x i) (d.name ∷ []) (numbered_declared (length s.design.entries) (d.name ∷ []))),
+            (All-weaker (λ x. is_declared more x ≡ true) (λ x. is_declared (s.names ++ more) x ≡ true) (λ x i. newly_declared s.names more x i) (d.name ∷ []) (All-cons (λ x. is_declared more x ≡ true) d.name [] (one_declared d.name sig) (All-nil (λ x. is_declared more x ≡ true)))),
         (tt, tt),
       ))) h
 
   memory_named : (r : Option Range) (n : ℕ) (t : Stage) → taken s.names (word_names d.name 0 n) ≡ [] → add_declared s at d r None (Some n) ≡ good t → IsNamed at.prefix before s → IsNamed at.prefix before t
   memory_named r n t f e h =
       let words = word_names d.name 0 n in
-      let first : Names = numbered (length s.design.entries) words in
+      let first = taken_names words in
       let last : Names = (d.name, a_memory (record { first = length s.design.entries; words = n })) ∷ [] in
       let c = count_of n d.name 0 (entry at d.kind r false) in
       added_named at.prefix before s t (adds_signals at.prefix s (map (entry at d.kind r false) words) (first ++ last) words t e (printed_words at d.kind r false words) (λ l. (
@@ -156,7 +156,7 @@ module _ (before : List Text) (s : Stage) (at : Site) (d : DeclTree) (v : is_vis
             (words_visible d.name 0 n v (omega (arith, c, l)))
             (taken_fresh s.names words f)
             (All-weaker (λ x. is_declared first x ≡ true) (λ x. is_declared (s.names ++ (first ++ last)) x ≡ true)
-            (λ x i. newly_declared s.names (first ++ last) x (still_declared first last x i)) words (numbered_declared (length s.design.entries) words)),
+            (λ x i. newly_declared s.names (first ++ last) x (still_declared first last x i)) words (taken_declared words)),
         words_differ d.name 0 n (omega (arith, c, l)),
       ))) h
 
@@ -263,8 +263,8 @@ pub record Grows (prefix : Text) (d e : Design) : Type 0 where
   pub differ : AreDifferent more
 
 abbrev KeepsNames : Visit → Type 0
-KeepsNames v = (prefix : Text) (visiting : List Text) (m : ModuleTree) (overrides : Overrides) (ports : Stage → Stage) (d e : Design) → IsModuleVisible m → ((s : Stage) → IsQuiet s (ports s))
-    → v prefix visiting m overrides ports d ≡ good e → Grows prefix d e
+KeepsNames v = (prefix : Text) (visiting : List Text) (m : ModuleTree) (overrides : Overrides) (ports : Stage → Stage) (d : Design) (e : Stage) → IsModuleVisible m → ((s : Stage) → IsQuiet s (ports s))
+    → v prefix visiting m overrides ports d ≡ good e → Grows prefix d e.design
 
 holds : (a b : Bool) → a ≡ true → b ≡ true → (a && b) ≡ true
 holds true b e f = f
@@ -313,14 +313,15 @@ module _ (modules : List ModuleTree) (visible : IsSourceVisible modules) where
         let f = not_refused (is_declared s.names x) 304 (Some p) x b.0 b.1 in
         let c = good_then (judged by_number p (override_rules look m params ++ connection_rules look m ports) (tt {0})) _ t b.2 in
         let d = good_then (v (prefix ++ printed_part x ++ codes ".") (m.name ∷ visiting) m (overrides_of look m params) (connected links) s.design) _ t c.2 in
+        let l = good_then (refused_if (list_any (is_short d.0) (leaning_of look m params ports)) 306 (Some p) m.name) _ t d.2 in
         let g = keeps _ _ m _ (connected links) s.design d.0 w (connected_quiet links) d.1 in
-        let names = s.names ++ ((x, an_instance) ∷ []) in
-        subst (IsNamed prefix before) (good_is _ t d.2) (added_named prefix before s (record { names = names; design = d.0 }) (record {
+        let names = s.names ++ ((x, no_value) ∷ []) in
+        subst (IsNamed prefix before) (good_is _ t l.2) (added_named prefix before s (record { names = names; design = d.0.design }) (record {
           more = g.more;
           printed = g.printed;
-          news = all_below prefix x s.names names u f (newly_declared s.names ((x, an_instance) ∷ []) x (one_declared x an_instance)) g.more g.names;
+          news = all_below prefix x s.names names u f (newly_declared s.names ((x, no_value) ∷ []) x (one_declared x no_value)) g.more g.names;
           differ = g.differ;
-          kept = λ y k. still_declared s.names ((x, an_instance) ∷ []) y k;
+          kept = λ y k. still_declared s.names ((x, no_value) ∷ []) y k;
         }) h)
 
     item_named : (s : Stage) (p : Place) (body : BodyTree) (t : Stage) → IsNamedVisibly body → item_of modules visiting prefix v s p body ≡ good t → IsNamed prefix before s → IsNamed prefix before t
@@ -344,20 +345,19 @@ module _ (modules : List ModuleTree) (visible : IsSourceVisible modules) where
       let a = good_then (parameters overrides m first) _ e k in
       let b = good_then (declarations prefix m a.0) _ e a.2 in
       let c = good_then (header_values m (ports b.0)) _ e b.2 in
-      let i = good_then (each (item modules visiting prefix (visit modules n)) c.0 m.items) (λ t. good t.design) e c.2 in
       let start : IsNamed prefix before first = record { mine = []; behind = nothing before; below = All-nil (IsBelow prefix []); differ = tt } in
       let fa = each_keeps (IsNamed prefix before) (parameter overrides) (parameter_named prefix before overrides) first (params_of m) a.0 a.1 start in
       let fb = declarations_named prefix before m w a.0 b.0 b.1 fa in
       let fp = quiet_named prefix before b.0 (ports b.0) (q b.0) fb in
       let fc = each_keeps (IsNamed prefix before) (λ s (x : DeclTree). declared_value s m.place x) (λ s x t r h. quiet_named prefix before s t (value_quiet s m.place x.name x.init x.kind t r) h) (ports b.0) (header_decls m) c.0 c.1 fp in
       let fi = all_steps (λ (x : ItemTree). IsNamedVisibly x.body) (IsNamed prefix before) (item modules visiting prefix (visit modules n))
-      (λ s x t r g h. item_named visiting prefix (visit modules n) (visit_named n) before s x.place x.body t r g h) c.0 m.items i.0 w.items i.1 fc in
-      subst (Grows prefix d) (good_is i.0.design e i.2) (record {
+      (λ s x t r g h. item_named visiting prefix (visit modules n) (visit_named n) before s x.place x.body t r g h) c.0 m.items e w.items c.2 fc in
+      record {
         more = fi.mine;
         printed = fi.behind;
-        names = All-weaker (IsBelow prefix i.0.names) (IsPrinted prefix) (λ x g. g.printed) fi.mine fi.below;
+        names = All-weaker (IsBelow prefix e.names) (IsPrinted prefix) (λ x g. g.printed) fi.mine fi.below;
         differ = fi.differ;
-      })
+      }
     where
       nothing : (ks : List Text) → ks ≡ ks ++ []
       nothing [] = refl
@@ -378,8 +378,8 @@ module _ (modules : List ModuleTree) (visible : IsSourceVisible modules) where
   top_named : (resets : List ResetPin) (top : Text) (o : Option ModuleTree) → ((m : ModuleTree) → o ≡ Some m → IsModuleVisible m) → (f : Flat) → from_top modules resets top o ≡ good f → AreNames (names_in f)
   top_named resets top None w f e = absurd (search (rules, e))
   top_named resets top (Some m) w f e =
-      let g = good_then (visit modules (length modules) [] (m.name ∷ []) m [] (top_ports resets (header_of m)) no_design) finished f e in
-      finished_named g.0 f g.2 (visit_named (length modules) [] (m.name ∷ []) m [] (top_ports resets (header_of m)) no_design g.0 (w m refl) (top_quiet resets (header_of m)) g.1)
+      let g = good_then (visit modules (length modules) [] (m.name ∷ []) m [] (top_ports resets (header_of m)) no_design) (λ (s : Stage). finished s.design) f e in
+      finished_named g.0.design f g.2 (visit_named (length modules) [] (m.name ∷ []) m [] (top_ports resets (header_of m)) no_design g.0 (w m refl) (top_quiet resets (header_of m)) g.1)
 
 pub names_differ : NamesDiffer
 names_differ modules visible top resets f e =

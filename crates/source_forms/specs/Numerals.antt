@@ -2,7 +2,7 @@
 use Rattle.std.specs.Prelude.{List, All, ⊤}
 use Rattle.verilog_lex.specs.declared.token.Token.{Token}
 use Rattle.verilog_lex.specs.declared.token.TokenKind.{TokenKind}
-use Rattle.verilog_lex.specs.declared.token.TokenKind.TheVariants.{Word, Ident, Number, Mark, End}
+use Rattle.verilog_lex.specs.declared.token.TokenKind.TheVariants.{Word, Ident, Number, Mask, Mark, End}
 use Rattle.verilog_reading.specs.ExprTree.{number}
 use Rattle.flat_unfolding.specs.Formed.{IsFormed}
 
@@ -10,7 +10,8 @@ use Rattle.flat_unfolding.specs.Formed.{IsFormed}
 abbrev pub IsNumeral : TokenKind → Type 0
 IsNumeral (Word w) = ⊤
 IsNumeral (Ident n) = ⊤
-IsNumeral (Number value width plain) = IsFormed (number value width plain)
+IsNumeral (Number value width size) = IsFormed (number value width size)
+IsNumeral (Mask value opened width) = ⊤
 IsNumeral (Mark s) = ⊤
 IsNumeral End = ⊤
 
