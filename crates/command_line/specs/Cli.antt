@@ -1,6 +1,6 @@
 -- The command line: one command with a subcommand for each request, as clap reads it.
 use Rattle.std.specs.Prelude.{◌≡◌, ℕ, Bool, true, false, List, [], ◌∷◌, Option, Some, None, codes}
-use Rattle.std.specs.Prelude.{unwrap_or, pos, ◌≤◌, ◌⊎◌, if◌then◌else◌}
+use Rattle.std.specs.Prelude.{cond, is_some, unwrap_or, pos, ◌≤◌, ◌⊎◌, if◌then◌else◌}
 use Rattle.std.specs.Str.Parse.{digits_value, IsNumeral, without_leading_plus}
 use Rattle.std.specs.Str.{bytes_eq}
 use Rattle.clap.specs.Words.{App, Row, Rule, Text, new_app, new_rule, with_rule, with_subcommand}
@@ -9,7 +9,9 @@ use Rattle.clap.specs.Simple.{on_top}
 use Rattle.clap.specs.declared.builder.action.ArgAction.TheVariants.{SetTrue}
 use Rattle.clap.specs.declared.builder.value_parser.ValueParser.TheVariants as vp
 use Rattle.command_line.specs.declared.Request.{Request}
-use Rattle.command_line.specs.declared.Request.TheVariants.{Audit, Replay, Selftest}
+use Rattle.command_line.specs.declared.Request.TheVariants.{Audit, Replay, Selftest, Show}
+use Rattle.command_line.specs.declared.Page.{Page}
+use Rattle.command_line.specs.declared.Page.TheVariants.{Help, Version}
 
 -- `--json`
 abbrev pub json_rule : Rule
@@ -43,9 +45,28 @@ cli = with_subcommand (with_subcommand (with_subcommand
     (on_top (λ s. record s { no_binary_name = true; subcommand_required = true; disable_help_subcommand = true })
     (new_app (codes "cdcaudit"))) audit_app.top) replay_app.top) selftest_app.top
 
--- the words have a reading: clap's reading of the command finds no fault in them
+-- the words for a page, which stand alone
+abbrev pub pages : List (Text × Page)
+pages = (codes "help", Help) ∷ (codes "--help", Help) ∷ (codes "-h", Help) ∷ (codes "version", Version) ∷ (codes "--version", Version) ∷ (codes "-V", Version) ∷ []
+
+abbrev pub page_in : List (Text × Page) → Text → Option Page
+page_in [] word = None
+page_in (p ∷ rest) word = if bytes_eq p.0 word then Some p.1 else page_in rest word
+
+abbrev pub page_named : Text → Option Page
+page_named word = page_in pages word
+
+abbrev pub page_of : List Text → Option Page
+page_of (word ∷ []) = page_named word
+page_of words = None
+
+-- clap's reading of the command finds no fault in the words
+abbrev pub HasReading : List Text → Type 0
+HasReading words = fault_of cli words ≡ []
+
+-- the words are one for a page, or have a reading
 abbrev pub IsAccepted : List Text → Type 0
-IsAccepted words = fault_of cli words ≡ []
+IsAccepted words = (is_some (page_of words) ≡ true) ⊎ HasReading words
 
 -- the first value of an argument, and the empty text where it has none
 abbrev pub text_of : Text → List Row → Text
@@ -66,10 +87,12 @@ IsReading found (Replay net con run) = (rows : List Row) × (found ≡ Some (cod
     × (net.now ≡ text_of (codes "NET") rows) × (con.now ≡ text_of (codes "CON") rows) × (run.now ≡ text_of (codes "RUN") rows)
 IsReading found (Selftest channels) = (rows : List Row) × (found ≡ Some (codes "selftest", rows))
     × IsCount rows channels
+IsReading found (Show page) = ⊥
 
--- the words are accepted, and ask for this
+-- what the words ask for
 abbrev pub IsRequest : List Text → Request → Type 0
-IsRequest words request = IsAccepted words × IsReading (subcommand_of cli words) request
+IsRequest words (Show page) = page_of words ≡ Some page
+IsRequest words request = (page_of words ≡ None) × HasReading words × IsReading (subcommand_of cli words) request
 
 -- the files that a subcommand names, in the order of the words
 abbrev pub files_of : Option (Text × List Row) → List Text
@@ -78,8 +101,9 @@ files_of (Some (name, rows)) =
     if bytes_eq name (codes "audit") then text_of (codes "NET") rows ∷ text_of (codes "CON") rows ∷ []
     else (if bytes_eq name (codes "replay") then text_of (codes "NET") rows ∷ text_of (codes "CON") rows ∷ text_of (codes "RUN") rows ∷ [] else [])
 
+-- a page asks for none
 abbrev pub file_words : List Text → List Text
-file_words words = files_of (subcommand_of cli words)
+file_words words = cond (is_some (page_of words)) [] (files_of (subcommand_of cli words))
 
 -- a name of one of the subcommands
 abbrev pub IsCommand : Text → Type 0

@@ -1,10 +1,10 @@
 //! The words of the command line, read by clap.
 #![tactic(auto)]
 
-ghost use Rattle.std.specs.Prelude.{◌≡◌, ◌≢◌, [], IfOk, IfErr, map, string_bytes, false};
+ghost use Rattle.std.specs.Prelude.{◌≡◌, ◌≢◌, [], None, Option, IfOk, IfErr, map, string_bytes, false};
 ghost use Rattle.clap.specs.Words.{app_of, fault_of, subcommand_of, subcommand_rows_of, rows_of, found_of};
 ghost use Rattle.clap.specs.declared.builder.command.Command.TheViews.{out-Command};
-ghost use Rattle.command_line.specs.Cli.{audit_app, replay_app, selftest_app, cli, IsAccepted, IsRequest, IsReading, IsCommand, IsCount, text_of};
+ghost use Rattle.command_line.specs.Cli.{audit_app, replay_app, selftest_app, cli, page_named as named_page, page_of as asked_page, IsAccepted, HasReading, IsRequest, IsReading, IsCommand, IsCount, text_of};
 
 use clap::error::ErrorKind;
 use clap::{Arg, ArgAction, ArgMatches, Command};
@@ -26,6 +26,14 @@ pub enum Request<'a> {
     Selftest {
         channels: u32,
     },
+    Show(Page),
+}
+
+/// What is shown without any file.
+#[derive(Clone, Copy, PartialEq, Eq, Debug, Drop)]
+pub enum Page {
+    Help,
+    Version,
 }
 
 /// Why there is no request: the words have no reading, or want of memory.
@@ -87,9 +95,9 @@ fn command<'a>(alloc: Global) -> Result<Command<'a>, AllocError>
 }
 
 fn matches<'a>(alloc: Global, words: &'a [String]) -> Result<ArgMatches<'a>, Refusal>
-    ensures ok { IfOk result (λ m. IsAccepted (map string_bytes words.now)
+    ensures ok { IfOk result (λ m. HasReading (map string_bytes words.now)
         × (subcommand_rows_of m ≡ subcommand_of cli (map string_bytes words.now))) }
-    ensures refused { result ≡ Err Refusal.Words → ¬ IsAccepted (map string_bytes words.now) }
+    ensures refused { result ≡ Err Refusal.Words → ¬ HasReading (map string_bytes words.now) }
 {
     match command(alloc)?.try_get_matches_from(words) {
         Ok(matches) => Ok(matches),
@@ -133,16 +141,47 @@ fn read_request<'a>(name: &str, found: &ArgMatches<'a>) -> Request<'a>
     }
 }
 
-/// What the words, without the program's name, ask for. They are refused exactly where the command's reading by clap
-/// gives no matches, memory aside.
-pub fn read<'a>(alloc: Global, words: &'a [String]) -> Result<Request<'a>, Refusal>
-    ensures accepted { IfOk result (λ r. IsRequest (map string_bytes words.now) r) }
-    ensures refused { result ≡ Err Refusal.Words → ¬ IsAccepted (map string_bytes words.now) }
+/// The request of one of the subcommands.
+fn read_command<'a>(alloc: Global, words: &'a [String]) -> Result<Request<'a>, Refusal>
+    ensures accepted { IfOk result (λ r. HasReading (map string_bytes words.now) × IsReading (subcommand_of cli (map string_bytes words.now)) r) }
+    ensures refused { result ≡ Err Refusal.Words → ¬ HasReading (map string_bytes words.now) }
 {
     let parsed = matches(alloc, words)?;
     match parsed.subcommand() {
         Some((name, found)) => Ok(read_request(name, found)),
         None => Err(Refusal::Words),
+    }
+}
+
+fn page_named(word: &str) -> Option<Page>
+    ensures { result ≡ named_page word.now }
+{
+    match word {
+        "help" | "--help" | "-h" => Some(Page::Help),
+        "version" | "--version" | "-V" => Some(Page::Version),
+        _ => None,
+    }
+}
+
+/// The page that a word asks for which is the only one.
+fn page_of(words: &[String]) -> Option<Page>
+    ensures { result ≡ asked_page (map string_bytes words.now) }
+{
+    match words {
+        [word] => page_named(word.as_str()),
+        _ => None,
+    }
+}
+
+/// What the words, without the program's name, ask for. They are refused exactly where they aren't one word for a page
+/// and the command's reading by clap gives no matches, memory aside.
+pub fn read<'a>(alloc: Global, words: &'a [String]) -> Result<Request<'a>, Refusal>
+    ensures accepted { IfOk result (λ r. IsRequest (map string_bytes words.now) r) }
+    ensures refused { result ≡ Err Refusal.Words → ¬ IsAccepted (map string_bytes words.now) }
+{
+    match page_of(words) {
+        Some(page) => Ok(Request::Show(page)),
+        None => read_command(alloc, words),
     }
 }
 

@@ -1,4 +1,4 @@
-use crate::{Refusal, Request, read};
+use crate::{Page, Refusal, Request, read};
 use std::alloc::Global;
 use std::test::Fail;
 
@@ -11,6 +11,8 @@ fn shown(alloc: Global, text: &str) -> Result<String, Fail> {
         Ok(Request::Audit { json, net, con }) => format!(in alloc; "audit {json} {net} {con}")?,
         Ok(Request::Replay { net, con, run }) => format!(in alloc; "replay {net} {con} {run}")?,
         Ok(Request::Selftest { channels }) => format!(in alloc; "selftest {channels}")?,
+        Ok(Request::Show(Page::Help)) => String::from_str(alloc, "page of help")?,
+        Ok(Request::Show(Page::Version)) => String::from_str(alloc, "page of version")?,
         Err(Refusal::Words) => String::from_str(alloc, "usage")?,
         Err(Refusal::Memory) => String::from_str(alloc, "memory")?,
     };
@@ -44,11 +46,18 @@ fn words_as_the_command_reads_them(rt: HostRuntime) -> Result<(), Fail> {
         ("selftest 007", "selftest 7"),
         ("selftest -5", "usage"),
         ("selftest five", "usage"),
-        ("help", "usage"),
+        ("help", "page of help"),
+        ("--help", "page of help"),
+        ("-h", "page of help"),
+        ("version", "page of version"),
+        ("--version", "page of version"),
+        ("-V", "page of version"),
         ("help audit", "usage"),
-        ("--version", "usage"),
+        ("--help --help", "usage"),
+        ("-- help", "usage"),
+        ("HELP", "usage"),
+        ("audit help version", "audit false help version"),
         ("audi n.v c.toml", "usage"),
-        ("--help", "usage"),
         ("audit -h", "usage"),
         ("-- audit n.v c.toml", "usage"),
         ("", "usage"),

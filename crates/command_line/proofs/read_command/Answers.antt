@@ -2,7 +2,7 @@ use Rattle.std.proofs.Common.{◌≡◌, ◌∙◌, map, string_bytes, sym, subs
 use Rattle.clap.specs.Words.{Row, Text, rows_of, found_of, subcommand_of, subcommand_rows_of}
 use Rattle.command_line.specs.Cli.{cli}
 use Rattle.command_line.proofs.Names.{named, HasCommand, rows_named, no_command}
-use Rattle.command_line.proofs.read.Goals as goal
+use Rattle.command_line.proofs.read_command.Goals as goal
 
 pub read_request-requires : goal.read_request-requires
 read_request-requires c =
