@@ -1,7 +1,6 @@
 //! Recorded runs, replayed.
-use crate::program::{
-    GRAY_COUNTER, HANDSHAKE, Outside, TWO_FLOPS, answered, constraints, replayed,
-};
+use row_designs::{GRAY_COUNTER, HANDSHAKE, TWO_FLOPS, constraints};
+use row_runs::{Outside, answered, replayed};
 use std::alloc::Global;
 use std::process::Abort;
 use std::test::Fail;

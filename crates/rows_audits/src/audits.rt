@@ -1,7 +1,6 @@
 //! Designs of every scheme and every finding.
-use crate::program::{
-    CHIP, CHIP_CONSTRAINTS, GRAY_COUNTER, HANDSHAKE, TWO_FLOPS, audited, constraints,
-};
+use row_designs::{CHIP, CHIP_CONSTRAINTS, GRAY_COUNTER, HANDSHAKE, TWO_FLOPS, constraints};
+use row_runs::audited;
 use std::alloc::Global;
 use std::process::Abort;
 use std::test::Fail;
@@ -62,14 +61,14 @@ endmodule
                 "s2 <= s1",
                 "s2 <= ~s1",
                 "d",
-                "V2 a -> s1: no second flop\n  path s1 <- a\nviolations=1 crossings=1\n1",
+                "V2 a -> s1: no second flop\n  path s1 <- a\n  at 2:1\nviolations=1 crossings=1\n1",
             ),
             (
                 one_flop,
                 "",
                 "",
                 "d",
-                "V2 a -> s1: no second flop\n  path s1 <- a\nviolations=1 crossings=1\n1",
+                "V2 a -> s1: no second flop\n  path s1 <- a\n  at 2:1\nviolations=1 crossings=1\n1",
             ),
             (
                 logic,
@@ -78,8 +77,10 @@ endmodule
                 "d e",
                 "V1 a -> s1: no scheme
   path s1 <- And[0] <- a
+  at 2:1
 V1 en -> s1: no scheme
   path s1 <- And[0] <- en
+  at 2:1
 violations=2 crossings=2
 1",
             ),
@@ -93,6 +94,7 @@ cover a -> t1 two-flop 2
 V4 a -> B: several first flops
   flop a -> s1
   flop a -> t1
+  at 2:1
 violations=1 crossings=2
 1",
             ),
@@ -125,6 +127,7 @@ V3 g -> B: 4 bits by first flops and no Gray register
   flop g[1] -> s1[1]
   flop g[2] -> s1[2]
   flop g[3] -> s1[3]
+  at 2:1
 violations=1 crossings=4
 1";
     let alloc = rt.alloc();
@@ -144,9 +147,11 @@ cover b[1] -> s1[1] two-flop 3
 V3 b -> B: 2 bits by first flops and no Gray register
   flop b[0] -> s1[0]
   flop b[1] -> s1[1]
+  at 2:1
 V6 hit: arrivals of several families from A
   arrival s3[0] of b[0] depth 3
   arrival s3[1] of b[1] depth 3
+  at 2:36
 violations=2 crossings=2
 1",
             ),
@@ -196,8 +201,10 @@ endmodule
     let bare = "cover req -> s1 two-flop 2
 V1 data[0] -> x[0]: no scheme
   path x[0] <- Mux[0] <- data[0]
+  at 3:29
 V1 data[1] -> x[1]: no scheme
   path x[1] <- Mux[1] <- data[1]
+  at 3:29
 violations=2 crossings=4
 1";
     let gated = "ring 1: req s1 s2 s3 k1 k2
@@ -213,8 +220,10 @@ cover data[1] -> x[1] recirc 1
     let open = format!(in alloc;
         "{gated}V8 data[0] -> y: not gated by ring 1
   path y <- ReduceXor[0] <- data[0]
+  at 3:42
 V8 data[1] -> y: not gated by ring 1
   path y <- ReduceXor[0] <- data[1]
+  at 3:42
 violations=2 crossings=6
 1"
     )?;
@@ -250,6 +259,7 @@ cover ack -> k1 two-flop 2
 cover req -> s1 two-flop 2
 V7 data -> x: data not held by ring 1
   path x <- Mux[0] <- data
+  at 3:1
 violations=1 crossings=3
 1",
             ),

@@ -1,5 +1,6 @@
 //! Texts at the limits, and one step beyond.
-use crate::program::{CLOCKS, audited, constraints};
+use row_designs::{CLOCKS, constraints};
+use row_runs::audited;
 use std::alloc::Global;
 use std::test::Fail;
 

@@ -1,11 +1,13 @@
 //! Words, and files and outputs that fail.
-use crate::program::{HANDSHAKE, Outside, TWO_FLOPS, answered, constraints};
+use row_designs::{HANDSHAKE, TWO_FLOPS, constraints};
+use row_runs::{Outside, answered};
 use std::test::Fail;
 
 #[test]
 fn words_and_reads(rt: HostRuntime) -> Result<(), Fail> {
     let alloc = rt.alloc();
-    let usage = "usage: cdcaudit audit [--json] NET CON | replay NET CON RUN | selftest N\n2";
+    let usage =
+        "usage: cdcaudit audit [--json] NET CON | replay NET CON RUN | selftest N | help\n2";
     let json =
         "{\"clean\":true,\"covers\":[{\"from\":\"a\",\"n\":2,\"scheme\":\"two-flop\",\"to\":\"s1\"}],\"crossings\":1,\"findings\":[],\"gray\":[],\"rings\":[]}\n0";
     let con = constraints(alloc, "d")?;
@@ -13,6 +15,9 @@ fn words_and_reads(rt: HostRuntime) -> Result<(), Fail> {
         ("audit net.v", 0, usage),
         ("", 0, usage),
         ("selftest 501", 0, usage),
+        ("--help --help", 0, usage),
+        ("version", 1, "cdcaudit 1.0\n0"),
+        ("-V", 1, "cdcaudit 1.0\n0"),
         ("audit --json net.v con.toml", 0, json),
         (
             "audit net.v other.toml",

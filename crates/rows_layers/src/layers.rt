@@ -1,11 +1,11 @@
 //! Single layers, each on a design that says most about it.
-use crate::program::{CHIP, HANDSHAKE, TWO_FLOPS, constraints};
 use cdc_base::{Bit, List, Name, ResetPin, Signal};
 use cdc_model::{Given, Race};
 use cell_graph::{Net, Values};
 use cofactor::Plain;
 use domains::Domains;
 use flat_design::{Flat, flatten};
+use row_designs::{CHIP, HANDSHAKE, TWO_FLOPS, constraints};
 use settling_sim::{Sim, StepFault};
 use std::alloc::Global;
 use std::test::Fail;

@@ -1,6 +1,6 @@
-//! The program over files and an output in memory.
-use audit_top::run;
-use cdc_base::{List, MemFile, MemFiles, MemSink, Name};
+//! Designs that tests take, and constraints for them.
+#![tactic(auto)]
+
 use std::alloc::Global;
 use std::test::Fail;
 
@@ -91,65 +91,4 @@ pub fn constraints(alloc: Global, inputs: &str) -> Result<String, Fail> {
         }
     }
     Ok(text)
-}
-
-fn file(alloc: Global, name: &str, text: &[u8]) -> Result<MemFile, Fail> {
-    let name = Name::from_text(alloc, name)?;
-    let bytes = List::from_vec(Vec::from_slice(alloc, text)?);
-    Ok(MemFile { name, bytes })
-}
-
-fn numbers(alloc: Global, of: &[u32]) -> Result<List<u32>, Fail> {
-    Ok(List::from_vec(Vec::from_slice(alloc, of)?))
-}
-
-/// The files and the output of a run, and which reads and puts fail.
-#[derive(Drop)]
-pub struct Outside<'a> {
-    pub net: &'a [u8],
-    pub con: &'a str,
-    pub run: &'a str,
-    pub reads: &'a [u32],
-    pub puts: &'a [u32],
-}
-
-/// The output of these words, and the status behind it. The files are `net.v`, `con.toml` and `run.json`.
-pub fn answered(alloc: Global, words: &str, outside: &Outside) -> Result<String, Fail> {
-    let mut files = List::new(alloc);
-    files.push(file(alloc, "net.v", outside.net)?)?;
-    files.push(file(alloc, "con.toml", outside.con.as_bytes())?)?;
-    files.push(file(alloc, "run.json", outside.run.as_bytes())?)?;
-    let mut files = MemFiles::new(alloc, files, numbers(alloc, outside.reads)?);
-    let mut out = MemSink::new(alloc, numbers(alloc, outside.puts)?);
-    let mut list: Vec<String> = Vec::new(alloc);
-    for word in words.split(' ') {
-        list.push(String::from_str(alloc, word)?)?;
-    }
-    let code = run(alloc, list.as_slice(), &mut files, &mut out).code();
-    let text = std::str::from_utf8(out.written())?;
-    Ok(format!(in alloc; "{text}{code}")?)
-}
-
-/// The answer to an audit over files and an output that don't fail.
-pub fn audited(alloc: Global, net: &[u8], con: &str) -> Result<String, Fail> {
-    let outside = Outside {
-        net,
-        con,
-        run: "",
-        reads: &[],
-        puts: &[],
-    };
-    answered(alloc, "audit net.v con.toml", &outside)
-}
-
-/// The answer to a replay of this record over files and an output that don't fail.
-pub fn replayed(alloc: Global, net: &str, con: &str, run: &str) -> Result<String, Fail> {
-    let outside = Outside {
-        net: net.as_bytes(),
-        con,
-        run,
-        reads: &[],
-        puts: &[],
-    };
-    answered(alloc, "replay net.v con.toml run.json", &outside)
 }

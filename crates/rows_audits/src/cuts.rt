@@ -1,5 +1,6 @@
 //! A whole design, cut at each of its bytes.
-use crate::program::{CHIP, CHIP_CONSTRAINTS, audited};
+use row_designs::{CHIP, CHIP_CONSTRAINTS};
+use row_runs::audited;
 use std::alloc::Global;
 use std::process::Abort;
 use std::test::Fail;
@@ -7,7 +8,7 @@ use std::test::Fail;
 /// The last cut of each span of cuts with one answer, in bytes, and the line of that answer. Where there is none, the
 /// text has no reading at its end: a form that is open there could go on. Cuts inside a word, a number or a mark have no
 /// reading where that piece begins, if it is no token that may stand there.
-const SPANS: [(usize, &str); 45] = [
+const SPANS: [(usize, &str); 46] = [
     (0, "error E301: no top module: chip"),
     (1, "error E104: directive left out at 1:1"),
     (2, "error E104: directive left out at 1:1: t"),
@@ -18,6 +19,7 @@ const SPANS: [(usize, &str); 45] = [
     (7, "error E104: directive left out at 1:1: timesc"),
     (8, "error E104: directive left out at 1:1: timesca"),
     (9, "error E104: directive left out at 1:1: timescal"),
+    (16, "error E104: directive left out at 1:1: timescale"),
     (19, "error E301: no top module: chip"),
     (24, "error E201: no reading at 2:1"),
     (34, ""),

@@ -1,5 +1,6 @@
 //! Texts that are refused, and texts close by that aren't.
-use crate::program::{TWO_FLOPS, audited, constraints};
+use row_designs::{TWO_FLOPS, constraints};
+use row_runs::audited;
 use std::alloc::Global;
 use std::process::Abort;
 use std::test::Fail;
@@ -51,6 +52,34 @@ fn tokens_and_grammar(rt: HostRuntime) -> Result<(), Fail> {
                 "module m; initial a = 1; else endmodule",
                 "error E201: no reading at 1:26",
             ),
+            (
+                "`celldefine wire w;",
+                "error E104: directive left out at 1:1: celldefine",
+            ),
+            (
+                "`timescale 1ns/1ps /* x",
+                "error E104: directive left out at 1:1: timescale",
+            ),
+            (
+                "(* \\a = 1 *)",
+                "error E102: unfinished comment or attribute at 1:1",
+            ),
+            (
+                "(* a // *)\nmodule m; endmodule",
+                "error E102: unfinished comment or attribute at 1:1",
+            ),
+            (
+                "module m; wire w = 'h1_0000_0000; endmodule",
+                "error E103: bad number at 1:20",
+            ),
+            (
+                "module m; wire w = 1 &&& 1; endmodule",
+                "error E201: no reading at 1:22",
+            ),
+            (
+                "module m; wire w = 2'b?0; endmodule",
+                "error E201: no reading at 1:20",
+            ),
         ],
     )
 }
@@ -101,6 +130,65 @@ fn flattening(rt: HostRuntime) -> Result<(), Fail> {
             (
                 "module m(input ca, output q); wire w = ~w; assign q = w; endmodule",
                 "error E312: combinational loop at 1:31: w",
+            ),
+        ],
+    )
+}
+
+/// Texts that other tools would read in another way, or that could be read in two.
+#[test]
+fn other_meanings(rt: HostRuntime) -> Result<(), Fail> {
+    refuse_all(
+        &rt,
+        rt.alloc(),
+        &[
+            (
+                "module m(input ca, output [7:0] o); assign o = {3, ca}; endmodule",
+                "error E308: width not 1 to 64 at 1:37",
+            ),
+            (
+                "module m(input ca, output [7:0] o); assign o = {2{'h3}}; endmodule",
+                "error E308: width not 1 to 64 at 1:37",
+            ),
+            (
+                "module m(input ca, output q); assign q = (ca ? 1 : 2) < 3; endmodule",
+                "error E307: constant out of range at 1:31",
+            ),
+            (
+                "module m; parameter P = 1 << 5'd31; endmodule",
+                "error E307: constant out of range at 1:11",
+            ),
+            (
+                "module n #(parameter [7:0] P = 0) (); endmodule module m; n #(.P(4'd15 + 4'd2)) u (); endmodule",
+                "error E306: port or parameter mismatch at 1:59: n",
+            ),
+            (
+                "module n(input [3:0] i); endmodule module m(input ca); n u(~ca); endmodule",
+                "error E306: port or parameter mismatch at 1:56: n",
+            ),
+            (
+                "module m(input ca, cb); wire w; assign {w, w} = {ca, cb}; endmodule",
+                "error E313: wrong kind of assignment at 1:33: w",
+            ),
+            (
+                "module m(input ca, cb); reg i; reg [1:0] r; always @(posedge ca) {i, r[i]} <= {cb, ca}; endmodule",
+                "error E313: wrong kind of assignment at 1:45: r",
+            ),
+            (
+                "module m(input ca, output q); reg M [0:1]; assign q = \\M[0] ; endmodule",
+                "error E305: unknown name at 1:44: M[0]",
+            ),
+            (
+                "module n(input i, output o); assign o = i; endmodule module m(output q); n u(.o(q)); endmodule",
+                "error E310: undriven bit is read at 1:1: u.i",
+            ),
+            (
+                "module m(a); input a; reg a; endmodule",
+                "error E304: name declared twice at 1:23: a",
+            ),
+            (
+                "module m(input [1:0] ca, output q); reg M [0:2]; assign q = M[ca]; endmodule",
+                "error E315: index may miss at 1:50: M",
             ),
         ],
     )
@@ -174,6 +262,13 @@ fn accepted_texts(rt: HostRuntime) -> Result<(), Fail> {
         "module m(input ca, cb); reg [63:0] a; always @(posedge ca) a <= a; endmodule",
         "module m(input ca, cb, output [3:0] q); assign q = 4'd31; endmodule",
         "module m(input ca, cb, output [2:0] q); parameter W = 8, E = W > 4; assign q = {E, 2'd1}; endmodule",
+        "module m(ca, cb, q); input ca, cb; wire ca; output q; wire q; assign q = 1'b0; endmodule",
+        "module m(input ca, cb, output [7:0] q); wire [1:0] w = 0; assign q = {4{w}} <<< 1; endmodule",
+        "`line 7 \"a.v\" 1\nmodule m(input ca, cb, output q); assign q = 2'b10 > 1; endmodule",
+        "module m(input ca, cb, output q); (* a = \"\\\"*)\" *) assign q = 0; endmodule",
+        "module m(input ca, cb, output q); reg [1:0] i; reg M [0:4]; always @(posedge ca) begin i <= i; M[i] <= 0; end assign q = M[i]; endmodule",
+        "module n(input i); endmodule module m(input ca, cb); n u(); endmodule",
+        "module n #(parameter [7:0] P = 0) (); endmodule module m(input ca, cb); n #(.P(15 + 2)) u (); endmodule",
     ] {
         let answer = audited(alloc, net.as_bytes(), con.as_str())?;
         assert_eq!(&rt; answer.as_str(), "clean crossings=0\n0", "{net}");

@@ -1,0 +1,7 @@
+//! Audits of designs of every scheme and every finding, as tables.
+#![tactic(auto)]
+
+#[cfg(test)]
+mod audits;
+#[cfg(test)]
+mod cuts;
