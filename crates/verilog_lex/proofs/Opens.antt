@@ -1,5 +1,5 @@
 -- Open bits beyond the lowest ones don't reach down.
-use Rattle.std.proofs.Common.{◌≡◌, ℕ, Bool, true, false, ◌≤◌, ◌+◌, ◌-◌, ◌*◌, ◌/◌, ◌^◌, ◌%◌, List, [], ◌∷◌, arith, refl, ◌==◌, ◌<◌, length, get_or, drop, ap, ◌∙◌, sym}
+use Rattle.std.proofs.Common.{◌≡◌, ℕ, Bool, true, false, ◌≤◌, ◌+◌, ◌-◌, ◌*◌, ◌/◌, ◌^◌, ◌%◌, List, [], ◌∷◌, arith, ◌==◌, ◌<◌, length, get_or, drop, ap, ◌∙◌, sym}
 use Rattle.std.specs.Prelude.{if◌then◌else◌}
 use Rattle.std.proofs.lemmas.List.{drop_more}
 use Rattle.std.proofs.Math.Nat.{add-mul-mod_self_left, mod-add-div', mod-add-mod}
@@ -39,7 +39,7 @@ opens_next m base n i b f x ds h k eb ef e =
     let rest = drop (i + 1) ds in
     let not95 : (d == 95) ≡ false = grind (arith, k) in
     let ex : x ≡ (n * base + opened base d) % m =
-        e ∙ ap (λ j. (n * j % m + f) % m) eb ∙ ap (λ j. (n * base % m + j) % m) ef ∙ mod-add-mod (n * base) m (opened base d) in
+    e ∙ ap (λ j. (n * j % m + f) % m) eb ∙ ap (λ j. (n * base % m + j) % m) ef ∙ mod-add-mod (n * base) m (opened base d) in
     ap (λ t. open_in base n t % m) (drop_more ds i 0 h)
     ∙ ap (λ t. (if t then open_in base n rest else open_in base (n * base + opened base d) rest) % m) not95
     ∙ sym (lowest m base (n * base + opened base d) rest) ∙ ap (λ j. open_in base j rest % m) (sym ex)
