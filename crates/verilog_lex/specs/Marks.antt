@@ -1,6 +1,6 @@
--- The marks, and the directives that are skipped.
-use Rattle.std.specs.Prelude.{ℕ, List, [], ◌∷◌, codes, Option, Bool}
-use Rattle.cdc_base.specs.Words.{found_in, is_in}
+-- The marks.
+use Rattle.std.specs.Prelude.{ℕ, List, [], ◌∷◌, codes, Option}
+use Rattle.cdc_base.specs.Words.{found_in}
 use Rattle.verilog_lex.specs.declared.marks.MarkKind.{MarkKind}
 use Rattle.verilog_lex.specs.declared.marks.MarkKind.TheVariants as mark
 
@@ -17,12 +17,6 @@ marks =
     (codes ">", mark.Greater) ∷ (codes ">=", mark.GreaterEqual) ∷ (codes "==", mark.EqualEqual) ∷ (codes "!=", mark.BangEqual) ∷
     (codes "&&", mark.AmpersandAmpersand) ∷ (codes "||", mark.BarBar) ∷ (codes "<<<", mark.LessLessLess) ∷ (codes "&&&", mark.AmpersandAmpersandAmpersand) ∷
     (codes "+:", mark.PlusColon) ∷ (codes "-:", mark.MinusColon) ∷ []
-
-abbrev pub directives : List (List ℕ)
-directives = codes "timescale" ∷ codes "default_nettype" ∷ codes "celldefine" ∷ codes "endcelldefine" ∷ codes "resetall" ∷ []
-
-unfoldable pub is_directive : List ℕ → Bool
-is_directive text = is_in directives text
 
 unfoldable pub mark_of : List ℕ → Option MarkKind
 mark_of text = found_in marks text

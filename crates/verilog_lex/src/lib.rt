@@ -7,6 +7,7 @@ ghost use Rattle.cdc_base.specs.declared.fault.Stop.TheVariants.{Refused};
 ghost use Rattle.verilog_lex.specs.Tokens.{tokens_of};
 
 pub mod laws;
+pub mod lines;
 pub mod marks;
 pub mod number;
 pub mod piece;

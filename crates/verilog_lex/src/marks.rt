@@ -1,8 +1,8 @@
-//! The marks of the profile, and the directives that are skipped.
+//! The marks of the profile.
 ghost use Rattle.std.specs.Prelude.{◌≡◌};
-ghost use Rattle.verilog_lex.specs.Marks.{is_directive, mark_of};
+ghost use Rattle.verilog_lex.specs.Marks.{mark_of};
 
-use cdc_base::words::{find_in, has_word};
+use cdc_base::words::find_in;
 
 /// A mark, named by its signs.
 #[derive(Clone, Copy, PartialEq, Eq, Debug, Drop)]
@@ -95,22 +95,6 @@ const MARKS: [(&str, MarkKind); 42] = [
     ("+:", MarkKind::PlusColon),
     ("-:", MarkKind::MinusColon),
 ];
-
-const DIRECTIVES: [&str; 5] = [
-    "timescale",
-    "default_nettype",
-    "celldefine",
-    "endcelldefine",
-    "resetall",
-];
-
-/// Whether the bytes name a directive that is skipped.
-#[tactic(auto, unfolding(crate::specs::Marks::is_directive))]
-pub fn is_directive(text: &[u8]) -> bool
-    ensures { result ≡ is_directive text.now }
-{
-    has_word(&DIRECTIVES, text)
-}
 
 /// The mark with these bytes.
 #[tactic(auto, unfolding(crate::specs::Marks::mark_of))]

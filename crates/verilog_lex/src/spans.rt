@@ -1,6 +1,17 @@
-//! Where a comment and an attribute end.
+//! Where a comment, a string and an attribute end.
 ghost use Rattle.std.specs.Prelude.{◌≡◌, length, ◌≤◌, None, IfSome, IsTrue};
-ghost use Rattle.verilog_lex.specs.Spans.{behind_comment, attribute_end, string_behind, closes};
+ghost use Rattle.verilog_lex.specs.declared.spans.Within.TheVariants.{Outside, Quoted};
+ghost use Rattle.verilog_lex.specs.Spans.{behind_comment, within_behind, is_barred, closes, attribute_end, string_end};
+
+use cdc_base::bytes::front;
+
+/// Where a byte stands: outside strings, in a string, or in one behind a `\`.
+#[derive(Clone, Copy, PartialEq, Eq, Debug, Drop)]
+pub enum Within {
+    Outside,
+    Quoted,
+    Escaped,
+}
 
 /// How many bytes stand up to the first `*/` and with it.
 pub fn comment(text: &[u8]) -> Option<usize>
@@ -15,44 +26,77 @@ pub fn comment(text: &[u8]) -> Option<usize>
     None
 }
 
-/// The string that is open behind the byte, by its last byte.
-fn string_behind(string: Option<u8>, byte: u8) -> Option<u8>
-    ensures { result ≡ string_behind string byte }
+/// Where the byte behind this one stands.
+fn within_behind(within: Within, byte: u8) -> Within
+    ensures { result ≡ within_behind within byte }
 {
-    match string {
-        None => { if byte == b'"' { Some(byte) } else { None } }
-        Some(before) => {
-            if byte == b'"' && before != b'\\' {
-                None
-            } else {
-                Some(byte)
-            }
+    match within {
+        Within::Outside if byte == b'"' => Within::Quoted,
+        Within::Outside => Within::Outside,
+        Within::Quoted if byte == b'"' => Within::Outside,
+        Within::Quoted if byte == b'\\' => Within::Escaped,
+        Within::Quoted | Within::Escaped => Within::Quoted,
+    }
+}
+
+/// Whether what begins the text may not stand there.
+fn is_barred(within: Within, text: &[u8]) -> bool
+    ensures { result ≡ is_barred within text.now }
+{
+    match within {
+        Within::Outside => {
+            front(text) == b'\\'
+                || front(text) == b'`'
+                || text.starts_with(b"//")
+                || text.starts_with(b"/*")
         }
+        Within::Quoted | Within::Escaped => front(text) == b'\n',
     }
 }
 
 /// Whether `*)` stands here outside a string.
-fn closes(string: Option<u8>, text: &[u8]) -> bool
-    ensures exact { result ≡ closes string text.now }
+fn closes(within: Within, text: &[u8]) -> bool
+    ensures exact { result ≡ closes within text.now }
     ensures fits { IsTrue result → 2 ≤ length text.now }
 {
-    match string {
-        None => text.starts_with(b"*)"),
-        Some(_) => false,
+    match within {
+        Within::Outside => text.starts_with(b"*)"),
+        Within::Quoted | Within::Escaped => false,
     }
 }
 
-/// How many bytes stand up to the first `*)` outside a string and with it.
+/// How many bytes stand up to the first `*)` outside a string and with it, if an attribute may have them.
 pub fn attribute(text: &[u8]) -> Option<usize>
-    ensures exact { result ≡ attribute_end None text.now }
+    ensures exact { result ≡ attribute_end Outside text.now }
     ensures fits { IfSome result (λ n. n ≤ length text.now) }
 {
-    let mut string: Option<u8> = None;
+    let mut within = Within::Outside;
     for i in 0..text.len() {
-        if closes(string, &text[i..]) {
+        if closes(within, &text[i..]) {
             return Some(i + 2);
         }
-        string = string_behind(string, text[i]);
+        if is_barred(within, &text[i..]) {
+            return None;
+        }
+        within = within_behind(within, text[i]);
+    }
+    None
+}
+
+/// How many bytes stand behind a string's first `"`, up to its last one and with it.
+pub fn string(text: &[u8]) -> Option<usize>
+    ensures exact { result ≡ string_end Quoted text.now }
+    ensures fits { IfSome result (λ n. n ≤ length text.now) }
+{
+    let mut within = Within::Quoted;
+    for (i, byte) in text.iter().enumerate() {
+        if *byte == b'\n' {
+            return None;
+        }
+        within = within_behind(within, *byte);
+        if within == Within::Outside {
+            return Some(i + 1);
+        }
     }
     None
 }

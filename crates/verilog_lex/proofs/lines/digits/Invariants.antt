@@ -1,0 +1,8 @@
+use Rattle.std.proofs.Common.{◌≡◌, ◌+◌, drop}
+use Rattle.std.specs.List.{prefix_len}
+use Rattle.std.specs.Char.{is_ascii_digit}
+use Rattle.verilog_lex.proofs.lines.digits.Given as goal
+
+abbrev pub invariant-loop-byte : goal.invariant-loop-byte
+invariant-loop-byte l =
+    (prefix_len is_ascii_digit l.line ≡ l.count + prefix_len is_ascii_digit (drop l.byte-index l.line)) × (l.count ≡ l.byte-index)
