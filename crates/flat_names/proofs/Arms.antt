@@ -1,14 +1,15 @@
 -- Notes of an operator's parts, at once and pending, are those of the whole in textual order.
-use Rattle.std.proofs.Common.{◌≡◌, ℕ, max, Bool, true, false, cond, List, [], ◌∷◌, ◌++◌, Option, Some, None, is_some, refl, sym, ap, ap₂, subst, ◌∙◌}
+use Rattle.std.proofs.Common.{◌≡◌, ℕ, Bool, true, false, cond, ◌&&◌, List, [], ◌++◌, Option, Some, None, is_some, refl, sym, ap, ap₂, subst, ◌∙◌}
 use Rattle.verilog_ast.specs.declared.UnaryOp.{UnaryOp}
 use Rattle.verilog_ast.specs.declared.BinaryOp.{BinaryOp}
 use Rattle.flat_unfolding.specs.Outcome.{Broken, breaks_if}
 use Rattle.flat_unfolding.specs.Names.{Look}
 use Rattle.flat_unfolding.specs.Expressions.{is_whole_only}
 use Rattle.flat_names.specs.Noting.{Noted, all_noted}
+use Rattle.flat_names.specs.Signs.{orders_signed}
 use Rattle.flat_names.specs.Pieces.{EachIs, Piece, IsFitPiece, out_of_range, pending, at_once, unary_piece, binary_piece, choice_piece, binary_notes, choice_notes}
 use Rattle.flat_names.proofs.Notes.{IsOne, noted-both, noted-late}
-use Rattle.flat_names.proofs.Counted.{with_size}
+use Rattle.flat_names.proofs.Terms.{with_size}
 
 -- a piece's notes are all of E307 where they are pending, and one rule is told in one way
 late : (p : Piece) → IsFitPiece p → EachIs (λ b. b ≡ out_of_range) (pending p)
@@ -55,18 +56,31 @@ binary-notes-are l op f p q h i = go p.size q.size refl refl
     wo : List Broken
     wo = breaks_if (is_whole_only op) 307 []
 
-    open_ : all_noted (all_noted (all_noted f (at_once p)) (at_once q)) (pending p ++ pending q ++ wo) ≡ all_noted f (p.term.broken ++ q.term.broken ++ wo)
-    open_ = noted-both (all_noted (all_noted f (at_once p)) (at_once q)) (pending p ++ pending q) wo ∙ ap (λ g. all_noted g wo) (two-notes f p q h i)
-        ∙ sym (noted-both f (p.term.broken ++ q.term.broken) wo)
+    orders : Bool
+    orders = orders_signed op p.signs q.signs
+
+    and-true : (b : Bool) → b ≡ (b && true)
+    and-true true = refl
+    and-true false = refl
+
+    start : Noted
+    start = all_noted (all_noted f (at_once p)) (at_once q)
+
+    open_ : all_noted start (pending p ++ pending q ++ wo ++ breaks_if orders 307 []) ≡ all_noted f (p.term.broken ++ q.term.broken ++ wo ++ breaks_if (orders && true) 307 [])
+    open_ = noted-both start (pending p ++ pending q ++ wo) (breaks_if orders 307 [])
+        ∙ ap₂ (λ g b. all_noted g (breaks_if b 307 [])) (noted-both start (pending p ++ pending q) wo ∙ ap (λ g. all_noted g wo) (two-notes f p q h i) ∙ sym (noted-both f (p.term.broken ++ q.term.broken) wo)) (and-true orders)
+        ∙ sym (noted-both f (p.term.broken ++ q.term.broken ++ wo) (breaks_if (orders && true) 307 []))
+
+    Open : (s r : Option ℕ) → Type 0
+    Open s r = all_noted (all_noted (all_noted f (at_once (with_size p s))) (at_once (with_size q r))) (pending (with_size p s) ++ pending (with_size q r) ++ wo ++ breaks_if orders 307 [])
+        ≡ all_noted f (p.term.broken ++ q.term.broken ++ wo ++ breaks_if (orders && true) 307 [])
 
     Goal : (s r : Option ℕ) → Type 0
     Goal s r = all_noted (all_noted (all_noted f (at_once (with_size p s))) (at_once (with_size q r))) (binary_notes op (with_size p s) (with_size q r))
         ≡ all_noted f (at_once (binary_piece l op (with_size p s) (with_size q r)))
 
-    from : (s r : Option ℕ) → p.size ≡ s → q.size ≡ r
-        → all_noted (all_noted (all_noted f (at_once (with_size p s))) (at_once (with_size q r))) (pending (with_size p s) ++ pending (with_size q r) ++ wo) ≡ all_noted f (p.term.broken ++ q.term.broken ++ wo)
-    from s r e d = subst (λ s. all_noted (all_noted (all_noted f (at_once (with_size p s))) (at_once (with_size q r))) (pending (with_size p s) ++ pending (with_size q r) ++ wo) ≡ all_noted f (p.term.broken ++ q.term.broken ++ wo)) e
-        (subst (λ r. all_noted (all_noted (all_noted f (at_once p)) (at_once (with_size q r))) (pending p ++ pending (with_size q r) ++ wo) ≡ all_noted f (p.term.broken ++ q.term.broken ++ wo)) d open_)
+    from : (s r : Option ℕ) → p.size ≡ s → q.size ≡ r → Open s r
+    from s r e d = subst (λ s. Open s r) e (subst (Open p.size) d open_)
 
     go : (s r : Option ℕ) → p.size ≡ s → q.size ≡ r → Goal s r
     go None None e d = from None None e d

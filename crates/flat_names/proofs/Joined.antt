@@ -1,5 +1,5 @@
 -- Parts of concatenations and replications, and what these make of them.
-use Rattle.std.proofs.Common.{◌≡◌, ℕ, zero, suc, ◌+◌, ◌-◌, ◌*◌, ◌^◌, ◌<◌, ◌≤◌, min, Bool, true, false, cond, not, ◌&&◌, ◌||◌, ◌==◌, nat_lt, nat_le, List, [], ◌∷◌, ◌++◌, map, flat_map, Option, Some, None, is_some, refl, sym, ap, ap₂, subst, ◌∙◌, arith, rules, eq-eqb, eqb-true}
+use Rattle.std.proofs.Common.{◌≡◌, ℕ, ◌+◌, ◌-◌, ◌^◌, ◌≤◌, min, Bool, true, false, cond, not, ◌&&◌, ◌||◌, nat_lt, List, [], ◌∷◌, ◌++◌, map, Option, Some, None, is_some, refl, sym, ap, ap₂, subst, ◌∙◌, arith, eq-eqb}
 use Rattle.std.specs.Prelude.{unwrap_or}
 use Rattle.std.specs.List.{list_all}
 use Rattle.std.proofs.lemmas.List.{map-append}
@@ -7,20 +7,20 @@ use Rattle.std.proofs.lemmas.List.Folds.{list_all-append}
 use Rattle.std.proofs.lemmas.Bool.{and_parts, false≢true}
 use Rattle.flat_meaning.specs.Flat as m
 use Rattle.flat_meaning.specs.Flat.{Expr, sizes}
-use Rattle.flat_meaning.proofs.Words.{by_lt, never_same}
+use Rattle.flat_meaning.proofs.Words.{by_lt}
 use Rattle.flat_form.specs.declared.flat.FExpr.{FExpr}
 use Rattle.flat_form.specs.declared.flat.FExpr.TheVariants as f
 use Rattle.flat_form.specs.View.{expr_of, exprs_of}
-use Rattle.flat_form.specs.Sizes.{Kept, is_word, kept_of, is_sized, sum, all_right}
+use Rattle.flat_form.specs.Sizes.{Kept, is_word, kept_of, sum, all_right}
 use Rattle.flat_form.proofs.Folds.{expr_of-Join, kept_of-Join}
-use Rattle.flat_form.proofs.Sized.{IsWidth, sized_range, width_word}
+use Rattle.flat_form.proofs.Sized.{sized_range, width_word}
 use Rattle.flat_form.proofs.Constants.{parts_width, head-sized}
-use Rattle.flat_unfolding.specs.Outcome.{Broken, breaks_if}
-use Rattle.flat_unfolding.specs.Expressions.{Term, is_empty, is_sound, all_broken, all_sound, all_constant, joined, join_term}
+use Rattle.flat_unfolding.specs.Expressions.{Term, is_empty, is_sound, all_broken, all_sound, joined, join_term}
 use Rattle.flat_meaning.specs.Law.{expr_reads}
 use Rattle.flat_form.specs.Uses.{exprs_read}
 use Rattle.flat_names.specs.declared.resolved.Resolved.{Resolved}
 use Rattle.flat_names.specs.declared.resolved.Parts.{Parts}
+use Rattle.flat_names.specs.declared.signs.Signs.{Signs}
 use Rattle.flat_names.specs.Pieces.{IsRead, AreRead, within_word}
 use Rattle.flat_names.proofs.Terms.{empty-both, empty-if}
 
@@ -128,9 +128,9 @@ pub first-part : (t : Term) (ts : List Term) (es : List FExpr) → map expr_of e
 first-part t ts [] e h = absurd (false≢true (sym (ap is_empty e)))
 first-part t ts (x ∷ es) e h = some-sum x es h
 
-pub is-join : (t : Term) (ts : List Term) (p : Parts) (v : Option ℕ) → AreRead (t ∷ ts) p → v ≡ within_word p.is_sound p.width
-    → IsRead (join_term (t ∷ ts)) (record { expr = f.Join p.items.items (unwrap_or v 1); is_sound = is_some v; is_constant = p.is_constant; count = None })
-is-join t ts p v h e = record {
+pub is-join : (t : Term) (ts : List Term) (p : Parts) (v : Option ℕ) (g : Signs) → AreRead (t ∷ ts) p → v ≡ within_word p.is_sound p.width
+    → IsRead (join_term (t ∷ ts)) (record { expr = f.Join p.items.items (unwrap_or v 1); is_sound = is_some v; is_constant = p.is_constant; count = None; signs = g })
+is-join t ts p v g h e = record {
   sound = ap is_some e ∙ some-within p.is_sound p.width ∙ wide p.is_sound refl ∙ sym (empty-both (all_broken all) _ ∙ ap₂ (λ a b. a && b) (empty-all all) (empty-if (all_sound all && nat_lt 64 (sizes (joined all))) 308 []));
   constant = h.constant;
   expr = λ s. expr_of-Join p.items.items (unwrap_or v 1) ∙ ap (λ xs. m.Join (exprs_of xs)) (h.exprs (fit s).0);
@@ -166,9 +166,9 @@ wide-test ts p h = go p.is_sound refl
         ∙ ap (λ b. b && nat_lt 64 (sizes (joined ts))) h.sound
 
 -- a concatenation as it is made
-pub is-joined : (t : Term) (ts : List Term) (p : Parts) (v : Option ℕ) (es : List FExpr) (w : ℕ) (s : Bool) → AreRead (t ∷ ts) p → v ≡ within_word p.is_sound p.width
-    → es ≡ p.items.items → w ≡ unwrap_or v 1 → s ≡ is_some v → IsRead (join_term (t ∷ ts)) (record { expr = f.Join es w; is_sound = s; is_constant = p.is_constant; count = None })
-is-joined t ts p v es w s h e is iw so =
-    subst (λ xs. IsRead (join_term (t ∷ ts)) (record { expr = f.Join xs w; is_sound = s; is_constant = p.is_constant; count = None })) (sym is)
-    (subst (λ n. IsRead (join_term (t ∷ ts)) (record { expr = f.Join p.items.items n; is_sound = s; is_constant = p.is_constant; count = None })) (sym iw)
-    (subst (λ b. IsRead (join_term (t ∷ ts)) (record { expr = f.Join p.items.items (unwrap_or v 1); is_sound = b; is_constant = p.is_constant; count = None })) (sym so) (is-join t ts p v h e)))
+pub is-joined : (t : Term) (ts : List Term) (p : Parts) (v : Option ℕ) (es : List FExpr) (w : ℕ) (s : Bool) (g : Signs) → AreRead (t ∷ ts) p → v ≡ within_word p.is_sound p.width
+    → es ≡ p.items.items → w ≡ unwrap_or v 1 → s ≡ is_some v → IsRead (join_term (t ∷ ts)) (record { expr = f.Join es w; is_sound = s; is_constant = p.is_constant; count = None; signs = g })
+is-joined t ts p v es w s g h e is iw so =
+    subst (λ xs. IsRead (join_term (t ∷ ts)) (record { expr = f.Join xs w; is_sound = s; is_constant = p.is_constant; count = None; signs = g })) (sym is)
+    (subst (λ n. IsRead (join_term (t ∷ ts)) (record { expr = f.Join p.items.items n; is_sound = s; is_constant = p.is_constant; count = None; signs = g })) (sym iw)
+    (subst (λ b. IsRead (join_term (t ∷ ts)) (record { expr = f.Join p.items.items (unwrap_or v 1); is_sound = b; is_constant = p.is_constant; count = None; signs = g })) (sym so) (is-join t ts p v g h e)))

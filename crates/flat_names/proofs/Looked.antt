@@ -1,9 +1,8 @@
 -- What the tables show of the definition's look.
-use Rattle.std.proofs.Common.{◌≡◌, ℕ, zero, suc, ◌+◌, ◌-◌, ◌*◌, ◌/◌, ◌%◌, ◌^◌, ◌<◌, ◌≤◌, Bool, true, false, cond, not, ◌&&◌, ◌==◌, nat_lt, nat_le, List, [], ◌∷◌, ◌++◌, length, map, Option, Some, None, is_none, refl, sym, ap, ap₂, subst, ◌∙◌, arith, rules, lt-ltb, eqb-true}
+use Rattle.std.proofs.Common.{◌≡◌, ℕ, zero, suc, ◌<◌, Bool, true, false, cond, ◌&&◌, ◌==◌, List, [], ◌∷◌, length, Option, Some, None, is_none, refl, sym, ap, ◌∙◌, arith}
 use Rattle.std.specs.Prelude.{option_map, option_and_then, slice_get}
 use Rattle.std.specs.Option.{option_map_or}
 use Rattle.std.proofs.lemmas.Option.{slice_get-map}
-use Rattle.std.proofs.lemmas.Bool.{false≢true}
 use Rattle.cdc_base.specs.declared.signal.ResetPin.{ResetPin}
 use Rattle.cell_graph.specs.Tree.{number}
 use Rattle.flat_meaning.specs.Meaning.{value}
@@ -11,24 +10,20 @@ use Rattle.flat_meaning.specs.Full.{nothing}
 use Rattle.flat_meaning.specs.Flat as f
 use Rattle.flat_form.specs.declared.flat.FExpr.{FExpr}
 use Rattle.flat_form.specs.View.{expr_of}
-use Rattle.flat_form.specs.Sizes.{Kept, is_word, kept_of, is_sized}
-use Rattle.flat_form.proofs.Folds.{expr_of-Number, kept_of-Number, expr_of-Read, kept_of-Read}
-use Rattle.flat_form.proofs.Sized.{sized_width, IsWidth, word_width}
+use Rattle.flat_form.specs.Sizes.{kept_of, is_sized}
+use Rattle.flat_form.proofs.Folds.{expr_of-Number, expr_of-Read}
+use Rattle.flat_form.proofs.Sized.{sized_width}
 use Rattle.flat_unfolding.specs.Outcome.{Text}
 use Rattle.flat_unfolding.specs.Names as n
 use Rattle.flat_unfolding.specs.Names.{Range, span, width_of, width_at, range_at, reset_at, level}
 use Rattle.flat_unfolding.specs.Constants.{own_value}
-use Rattle.flat_unfolding.specs.Expressions.{variable}
-use Rattle.flat_names.specs.declared.scope.Bounds.{Bounds}
 use Rattle.flat_names.specs.declared.scope.Meaning.{Meaning}
 use Rattle.flat_names.specs.declared.scope.Meaning.TheVariants as m
 use Rattle.flat_names.specs.declared.scope.Look.{Look}
 use Rattle.flat_names.specs.declared.design.Reset.{Reset}
 use Rattle.flat_names.specs.declared.design.Entry.{Entry}
-use Rattle.flat_names.specs.declared.resolved.Resolved.{Resolved}
-use Rattle.flat_names.specs.Looks.{range_of, meaning_of, kept_in, as_value, meant, one_if, bits_of, Seen, seen, shown, Shows, IsFit}
+use Rattle.flat_names.specs.Looks.{range_of, meaning_of, kept_in, as_value, meant, one_if, bits_of, Seen, seen, shown, Shows}
 use Rattle.flat_names.proofs.Options.{none-some, some-same}
-use Rattle.flat_names.specs.Pieces.{IsRead}
 
 -- the value of a constant, by its kept width and by its size
 pub own-is : (x : FExpr) (v : ℕ) → is_sized x ≡ true → v ≡ number (value nothing (expr_of x) (kept_of x).width) (kept_of x).width → v ≡ own_value (expr_of x)
@@ -41,7 +36,7 @@ value-of None = refl
 value-of (Some (m.Param p)) = refl
 value-of (Some (m.Signal s)) = refl
 value-of (Some (m.Memory a)) = refl
-value-of (Some m.Instance) = refl
+value-of (Some m.NoValue) = refl
 
 pub meant-is : (k : Look) (l : n.Look) → Shows k l → (x : Text) → n.meaning l x ≡ option_map meaning_of (meant k.names.now x)
 meant-is k l h x = ap (option_and_then n.as_value) (sym (h.names x)) ∙ value-of (kept_in k.names.now x)

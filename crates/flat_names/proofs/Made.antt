@@ -1,5 +1,5 @@
 -- Forms over parts in boxes.
-use Rattle.std.proofs.Common.{◌≡◌, ℕ, max, Bool, true, ◌&&◌, ◌==◌, refl, sym, ap, ap₂, ◌∙◌, Box, Global, eq-eqb}
+use Rattle.std.proofs.Common.{◌≡◌, ℕ, max, Bool, ◌&&◌, ◌==◌, ap, ap₂, ◌∙◌, Box, Global, eq-eqb}
 use Rattle.verilog_ast.specs.declared.UnaryOp.{UnaryOp}
 use Rattle.verilog_ast.specs.declared.BinaryOp.{BinaryOp}
 use Rattle.flat_meaning.specs.Flat.{Unary, Binary, Choose, unary_size, binary_size}

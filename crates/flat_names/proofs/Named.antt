@@ -2,8 +2,9 @@
 use Rattle.std.proofs.Common.{◌≡◌, inl, inr, ℕ, ◌^◌, ◌<◌, ◌≤◌, Bool, true, false, cond, ◌&&◌, ◌==◌, List, [], length, Option, Some, None, is_some, refl, sym, ap, ap₂, subst, ◌∙◌, arith, lt-ltb, pow_mono}
 use Rattle.std.specs.Prelude.{option_map, option_and_then, slice_get}
 use Rattle.std.specs.Option.{option_map_or}
-use Rattle.std.proofs.lemmas.Bool.{false≢true}
 use Rattle.std.proofs.lemmas.Option.{slice_get_cases}
+use Rattle.cdc_base.specs.declared.size.NumberSize.{NumberSize}
+use Rattle.cdc_base.specs.declared.size.NumberSize.TheVariants as z
 use Rattle.verilog_reading.specs.ExprTree.{ExprTree, number, name}
 use Rattle.flat_meaning.specs.Flat.{Number}
 use Rattle.flat_form.specs.declared.flat.FExpr.{FExpr}
@@ -27,6 +28,8 @@ use Rattle.flat_names.specs.declared.scope.Meaning.TheVariants as m
 use Rattle.flat_names.specs.declared.scope.Look.{Look}
 use Rattle.flat_names.specs.declared.resolved.Count.{Count}
 use Rattle.flat_names.specs.declared.resolved.Resolved.{Resolved}
+use Rattle.flat_names.specs.declared.signs.Signs.{Signs}
+use Rattle.flat_names.specs.Signs.{number_signs, based_signs, no_signs, is_whole_size}
 use Rattle.flat_names.specs.Noting.{Noted, all_noted}
 use Rattle.flat_names.specs.Looks.{param_of, meaning_of, meant, one_if, bits_of, Shows, IsFitParam, IsFit}
 use Rattle.flat_names.specs.Pieces.{Piece, piece, IsPiece, IsRead, at_once, numbered}
@@ -47,11 +50,12 @@ quiet p h = go (is_some p.size)
     go true = refl
     go false = h
 
-pub open-read : (p : Piece) (r : Resolved) → p.size ≡ None → IsRead p.term r → r.count ≡ None → IsPiece p r
-open-read p r e h c = record {
+pub open-read : (p : Piece) (r : Resolved) → p.size ≡ None → IsRead p.term r → r.count ≡ None → r.signs ≡ p.signs → IsPiece p r
+open-read p r e h c g = record {
   is = h;
   count = ap (option_map (λ (x : Count). x.whole)) c ∙ sym (ap (option_map (λ k. p.whole)) e);
   width = λ k d. none-some k (sym e ∙ d);
+  signs = g;
 }
 
 -- ---- numbers
@@ -59,9 +63,9 @@ open-read p r e h c = record {
 sized-number : (v w : ℕ) → is_word w ≡ true → v < 2 ^ w → is_sized (f.Number v w) ≡ true
 sized-number v w h l = ap (λ (k : Kept). k.right) (kept_of-Number v w) ∙ ap₂ (λ a b. a && b) h (lt-ltb v (2 ^ w) l)
 
-pub number-read : (v w : ℕ) (s : Bool) (c : Option Count) → is_word w ≡ true → v < 2 ^ w → s ≡ true
-    → IsRead (constant (Number w v)) (record { expr = f.Number v w; is_sound = s; is_constant = true; count = c })
-number-read v w s c h l e = record {
+pub number-read : (v w : ℕ) (s : Bool) (c : Option Count) (g : Signs) → is_word w ≡ true → v < 2 ^ w → s ≡ true
+    → IsRead (constant (Number w v)) (record { expr = f.Number v w; is_sound = s; is_constant = true; count = c; signs = g })
+number-read v w s c g h l e = record {
   sound = e;
   constant = refl;
   expr = λ d. expr_of-Number v w;
@@ -70,44 +74,62 @@ number-read v w s c h l e = record {
 }
 
 -- a number that is counted, as it is within its bounds
-counted-piece : (p : Piece) (v w : ℕ) → p.term ≡ constant (Number w v) → p.size ≡ Some w → p.whole ≡ Some v → is_word w ≡ true → v < 2 ^ w → within w v ≡ Some v → IsPiece p (numbered (within w v) v w)
+counted-piece : (p : Piece) (v w : ℕ) → p.term ≡ constant (Number w v) → p.size ≡ Some w → p.whole ≡ Some v → is_word w ≡ true → v < 2 ^ w → within w v ≡ Some v → IsPiece p (numbered (within w v) v w p.signs)
 counted-piece p v w t e d h l i = record {
-  is = subst (λ x. IsRead x (numbered (within w v) v w)) (sym t) (number-read v w (is_some (within w v)) (Some (record { whole = within w v })) h l (ap is_some i));
+  is = subst (λ x. IsRead x (numbered (within w v) v w p.signs)) (sym t) (number-read v w (is_some (within w v)) (Some (record { whole = within w v })) p.signs h l (ap is_some i));
   count = ap Some (i ∙ sym d) ∙ sym (ap (option_map (λ k. p.whole)) e);
   width = λ k q. ap (λ (x : Kept). x.width) (kept_of-Number v w) ∙ some-same w k (sym e ∙ q);
+  signs = refl;
 }
 
 plain-within : (v w : ℕ) → w ≡ 32 → v < 2 ^ 31 → within w v ≡ Some v
 plain-within v w e l = ap (λ k. within k v) e ∙ ap (λ t. cond t (Some v) None) (lt-ltb v (2 ^ 31) l)
 
-pub plain-number : (l : n.Look) (v w : ℕ) (plain : Bool) → plain ≡ true → IsFormed (number v w plain) → IsPiece (piece l (number v w plain)) (numbered (within w v) v w)
-plain-number l v w true e h =
+pub plain-number : (l : n.Look) (v w : ℕ) → IsFormed (number v w z.Plain) → IsPiece (piece l (number v w z.Plain)) (numbered (within w v) v w number_signs)
+plain-number l v w h =
     let k = h.3 refl in
-    counted-piece (piece l (number v w true)) v w refl refl (plain-within v 32 refl k.1) (width_word w (record { some = h.0; most = h.1 })) h.2 (plain-within v w k.0 k.1)
-plain-number l v w false e h = absurd (false≢true e)
+    counted-piece (piece l (number v w z.Plain)) v w refl refl (plain-within v 32 refl k.1) (width_word w (record { some = h.0; most = h.1 })) h.2 (plain-within v w k.0 k.1)
 
-pub sized-piece : (l : n.Look) (v w : ℕ) (plain : Bool) → plain ≡ false → IsFormed (number v w plain)
-    → IsPiece (piece l (number v w plain)) (record { expr = f.Number v w; is_sound = true; is_constant = true; count = None })
-sized-piece l v w true e h = absurd (false≢true (sym e))
-sized-piece l v w false e h = open-read (piece l (number v w false)) _ refl (number-read v w true None (width_word w (record { some = h.0; most = h.1 })) h.2 refl) refl
+pub based-number : (l : n.Look) (v w : ℕ) → IsFormed (number v w z.Unsized)
+    → IsPiece (piece l (number v w z.Unsized)) (record { expr = f.Number v w; is_sound = true; is_constant = true; count = None; signs = based_signs })
+based-number l v w h = open-read (piece l (number v w z.Unsized)) _ refl (number-read v w true None based_signs (width_word w (record { some = h.0; most = h.1 })) h.2 refl) refl refl
 
-pub number-notes : (l : n.Look) (old : Noted) (v w : ℕ) (plain : Bool) → old ≡ all_noted old (at_once (piece l (number v w plain)))
-number-notes l old v w plain = ap (all_noted old) (sym (quiet (piece l (number v w plain)) refl))
+pub sized-piece : (l : n.Look) (v w : ℕ) → IsFormed (number v w z.Sized)
+    → IsPiece (piece l (number v w z.Sized)) (record { expr = f.Number v w; is_sound = true; is_constant = true; count = None; signs = no_signs })
+sized-piece l v w h = open-read (piece l (number v w z.Sized)) _ refl (number-read v w true None no_signs (width_word w (record { some = h.0; most = h.1 })) h.2 refl) refl refl
+
+pub number-notes : (l : n.Look) (old : Noted) (v w : ℕ) (size : NumberSize) → old ≡ all_noted old (at_once (piece l (number v w size)))
+number-notes l old v w size = ap (all_noted old) (sym (quiet (piece l (number v w size)) refl))
 
 -- ---- parameters
 
-pub counted-param : (l : n.Look) (x : Text) (p : Param) → IsFitParam (param_of p) → p.counted ≡ true
-    → IsPiece (name_piece l x (Some (n.a_param (param_of p)))) (numbered (within p.width p.value) p.value p.width)
-counted-param l x p h e =
-    let i = h.whole e in
-    counted-piece (name_piece l x (Some (n.a_param (param_of p)))) p.value p.width refl
-    (ap (λ t. option_map (λ (q : n.Param). q.width) (cond t (Some (param_of p)) None)) e)
-    (ap (λ t. option_and_then (λ (q : n.Param). within q.width q.value) (cond t (Some (param_of p)) None)) e ∙ i) h.width h.value i
+-- it is a number without a size where it is counted with the size 32
+abbrev pub as_param : Param → Bool → Signs
+as_param p unsized = record { is_signed = p.signed; leans = false; is_unsized = unsized }
 
-pub sized-param : (l : n.Look) (x : Text) (p : Param) → IsFitParam (param_of p) → p.counted ≡ false
-    → IsPiece (name_piece l x (Some (n.a_param (param_of p)))) (record { expr = f.Number p.value p.width; is_sound = true; is_constant = true; count = None })
-sized-param l x p h e = open-read (name_piece l x (Some (n.a_param (param_of p)))) _ (ap (λ t. option_map (λ (q : n.Param). q.width) (cond t (Some (param_of p)) None)) e)
-    (number-read p.value p.width true None h.width h.value refl) refl
+abbrev pub param_signs : Param → Signs
+param_signs p = as_param p (p.counted && (p.width == 32))
+
+param-signs : (l : n.Look) (x : Text) (p : Param) (g : Signs) → g ≡ param_signs p → g ≡ (name_piece l x (Some (n.a_param (param_of p)))).signs
+param-signs l x p g e = e ∙ go p.counted
+  where
+    go : (b : Bool) → as_param p (b && (p.width == 32)) ≡ as_param p (is_whole_size (option_map (λ (q : n.Param). q.width) (cond b (Some (param_of p)) None)))
+    go true = refl
+    go false = refl
+
+pub counted-param : (l : n.Look) (x : Text) (p : Param) (g : Signs) → IsFitParam (param_of p) → p.counted ≡ true → g ≡ param_signs p
+    → IsPiece (name_piece l x (Some (n.a_param (param_of p)))) (numbered (within p.width p.value) p.value p.width g)
+counted-param l x p g h e d =
+    let i = h.whole e in
+    subst (λ z. IsPiece (name_piece l x (Some (n.a_param (param_of p)))) (numbered (within p.width p.value) p.value p.width z)) (sym (param-signs l x p g d))
+    (counted-piece (name_piece l x (Some (n.a_param (param_of p)))) p.value p.width refl
+    (ap (λ t. option_map (λ (q : n.Param). q.width) (cond t (Some (param_of p)) None)) e)
+    (ap (λ t. option_and_then (λ (q : n.Param). within q.width q.value) (cond t (Some (param_of p)) None)) e ∙ i) h.width h.value i)
+
+pub sized-param : (l : n.Look) (x : Text) (p : Param) (g : Signs) → IsFitParam (param_of p) → p.counted ≡ false → g ≡ param_signs p
+    → IsPiece (name_piece l x (Some (n.a_param (param_of p)))) (record { expr = f.Number p.value p.width; is_sound = true; is_constant = true; count = None; signs = g })
+sized-param l x p g h e d = open-read (name_piece l x (Some (n.a_param (param_of p)))) _ (ap (λ t. option_map (λ (q : n.Param). q.width) (cond t (Some (param_of p)) None)) e)
+    (number-read p.value p.width true None g h.width h.value refl) refl (param-signs l x p g d)
 
 -- ---- signals
 
@@ -127,7 +149,7 @@ sized-bits : (o : Option Reset) (active : Bool) (s at w : ℕ) → is_word w ≡
 sized-bits None active s at w h = ap (λ (k : Kept). k.right) (kept_of-Read s at w) ∙ h
 sized-bits (Some q) active s at w h = sized-number (one_if ((at == 0) && cond active q.is_high (cond q.is_high false true))) w h (bit-fits _ w (word_width w h).some)
 
-pub variable-read : (e : FExpr) (x : _) → expr_of e ≡ x → is_sized e ≡ true → IsRead (variable x) (record { expr = e; is_sound = true; is_constant = false; count = None })
+pub variable-read : (e : FExpr) (x : _) → expr_of e ≡ x → is_sized e ≡ true → IsRead (variable x) (record { expr = e; is_sound = true; is_constant = false; count = None; signs = no_signs })
 variable-read e x h i = record {
   sound = refl;
   constant = refl;
@@ -138,7 +160,7 @@ variable-read e x h i = record {
 
 pub signal-read : (k : Look) (l : n.Look) (s w : ℕ) (e : FExpr) → Shows k l → IsFit l → s < length l.entries → w ≡ option_map_or (λ (x : Entry). x.width) (slice_get k.entries.now s) 1
     → (1 ≤ w → e ≡ bits_of (option_and_then (λ (x : Entry). x.reset) (slice_get k.entries.now s)) k.active s 0 w)
-    → IsRead (variable (whole_of l s)) (record { expr = e; is_sound = true; is_constant = false; count = None })
+    → IsRead (variable (whole_of l s)) (record { expr = e; is_sound = true; is_constant = false; count = None; signs = no_signs })
 signal-read k l s w e shows fit i h d =
     let own : w ≡ width_at l.entries s = h ∙ width-is k l shows s i in
     let word : is_word w ≡ true = ap is_word own ∙ signal-word l s fit i in
@@ -169,7 +191,7 @@ name-param k l x p old r shows fit e h = by-meaning l x (Some (n.a_param (param_
 pub name-signal : (k : Look) (l : n.Look) (x : Text) (s w : ℕ) (e : FExpr) (old : Noted) → Shows k l → IsFit l → Some (m.Signal s) ≡ meant k.names.now x
     → w ≡ option_map_or (λ (y : Entry). y.width) (slice_get k.entries.now s) 1
     → (1 ≤ w → e ≡ bits_of (option_and_then (λ (y : Entry). y.reset) (slice_get k.entries.now s)) k.active s 0 w)
-    → Reads l (name x) old old (record { expr = e; is_sound = true; is_constant = false; count = None })
+    → Reads l (name x) old old (record { expr = e; is_sound = true; is_constant = false; count = None; signs = no_signs })
 name-signal k l x s w e old shows fit d h i =
     let is = meaning-as k l x (Some (m.Signal s)) shows d in
-    by-meaning l x (Some (n.a_signal s)) old old _ is (open-read (name_piece l x (Some (n.a_signal s))) _ refl (signal-read k l s w e shows fit (fit.signals x s is) h i) refl, refl)
+    by-meaning l x (Some (n.a_signal s)) old old _ is (open-read (name_piece l x (Some (n.a_signal s))) _ refl (signal-read k l s w e shows fit (fit.signals x s is) h i) refl refl, refl)

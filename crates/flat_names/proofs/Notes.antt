@@ -1,8 +1,8 @@
 -- Notes of broken rules: in groups, again, and in another order.
-use Rattle.std.proofs.Common.{◌≡◌, ◌≢◌, ℕ, suc, ◌<◌, ◌≤◌, Bool, true, false, cond, ◌==◌, nat_lt, ltb, List, [], ◌∷◌, ◌++◌, Option, Some, None, refl, sym, ap, subst, ◌∙◌, arith, rules, eqb-true}
+use Rattle.std.proofs.Common.{◌≡◌, ◌≢◌, ℕ, suc, ◌||◌, Bool, true, false, cond, ◌==◌, nat_lt, List, [], ◌∷◌, ◌++◌, Option, Some, None, refl, sym, ap, subst, ◌∙◌, arith, eqb-true}
 use Rattle.flat_meaning.proofs.Words.{by_lt, never}
 use Rattle.flat_unfolding.specs.Outcome as o
-use Rattle.flat_unfolding.specs.Outcome.{Broken, as_listed}
+use Rattle.flat_unfolding.specs.Outcome.{Broken, breaks_if, as_listed}
 use Rattle.flat_names.specs.declared.fault.Order.{Order}
 use Rattle.flat_names.specs.declared.fault.Order.TheVariants as k
 use Rattle.flat_names.specs.Noting.{order_of, Noted, first_of, noted, all_noted}
@@ -35,6 +35,12 @@ noted-again f b = ap (λ x. record { order = f.order; found = Some x }) (first-a
 pub noted-once : (f : Noted) (b : Broken) (bs : List Broken) → EachIs (λ c. c ≡ b) bs → all_noted (noted f b) bs ≡ noted f b
 noted-once f b [] h = refl
 noted-once f b (c ∷ cs) h = ap (λ x. all_noted (noted (noted f b) x) cs) h.0 ∙ ap (λ x. all_noted x cs) (noted-again f b) ∙ noted-once f b cs h.1
+
+-- two reasons to break E307 are one break
+pub noted-either : (f : Noted) (a b : Bool) → all_noted f (breaks_if (a || b) 307 []) ≡ all_noted (all_noted f (breaks_if a 307 [])) (breaks_if b 307 [])
+noted-either f true true = sym (noted-again f out_of_range)
+noted-either f true false = refl
+noted-either f false b = refl
 
 -- ---- another order
 

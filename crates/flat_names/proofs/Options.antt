@@ -1,5 +1,5 @@
 -- Equations between options, and facts of results.
-use Rattle.std.proofs.Common.{◌≡◌, Option, Some, None, is_some, Result, Ok, Err, IfOk, ap}
+use Rattle.std.proofs.Common.{◌≡◌, Some, None, is_some, Result, Ok, Err, IfOk, ap}
 use Rattle.std.specs.Prelude.{unwrap_or}
 use Rattle.std.proofs.lemmas.Bool.{false≢true}
 

@@ -1,5 +1,5 @@
 -- Counts and replications.
-use Rattle.std.proofs.Common.{◌≡◌, ◌⊎◌, inl, inr, ℕ, zero, suc, ◌+◌, ◌-◌, ◌*◌, ◌^◌, ◌<◌, ◌≤◌, min, Bool, true, false, cond, not, ◌&&◌, ◌||◌, ◌==◌, nat_lt, nat_le, List, [], ◌∷◌, ◌++◌, map, Option, Some, None, is_some, refl, sym, ap, ap₂, subst, ◌∙◌, arith, rules, eq-eqb, eqb-true, ne_eqb, le-leb, leb-true, mul-suc, suc-mul}
+use Rattle.std.proofs.Common.{◌≡◌, ℕ, zero, suc, ◌-◌, ◌*◌, ◌^◌, ◌<◌, ◌≤◌, min, Bool, true, false, cond, not, ◌&&◌, ◌==◌, nat_lt, nat_le, List, [], ◌∷◌, ◌++◌, map, Option, Some, None, is_some, refl, sym, ap, ap₂, subst, ◌∙◌, arith, eq-eqb, ne_eqb, le-leb, leb-true, mul-suc, suc-mul}
 use Rattle.std.specs.Prelude.{unwrap_or}
 use Rattle.std.proofs.lemmas.Bool.{and_parts, false≢true}
 use Rattle.flat_meaning.specs.Flat as m
@@ -11,16 +11,17 @@ use Rattle.flat_meaning.specs.Full.{nothing}
 use Rattle.flat_form.specs.declared.flat.FExpr.{FExpr}
 use Rattle.flat_form.specs.declared.flat.FExpr.TheVariants as f
 use Rattle.flat_form.specs.View.{expr_of, exprs_of}
-use Rattle.flat_form.specs.Sizes.{Kept, is_word, kept_of, is_sized, sum, all_right}
+use Rattle.flat_form.specs.Sizes.{Kept, is_word, kept_of, is_sized, sum}
 use Rattle.flat_form.proofs.Folds.{expr_of-Repeat, kept_of-Repeat}
-use Rattle.flat_form.proofs.Sized.{IsWidth, width_word}
-use Rattle.flat_unfolding.specs.Outcome.{Broken, breaks_if}
+use Rattle.flat_form.proofs.Sized.{width_word}
+use Rattle.flat_unfolding.specs.Outcome.{breaks_if}
 use Rattle.flat_unfolding.specs.Constants.{own_value}
-use Rattle.flat_unfolding.specs.Expressions.{Term, is_empty, is_sound, all_broken, all_sound, joined, as_constant, as_bound, as_count, repeat_term}
+use Rattle.flat_unfolding.specs.Expressions.{Term, is_sound, all_broken, all_sound, joined, as_constant, as_bound, as_count, repeat_term}
 use Rattle.flat_meaning.specs.Law.{expr_reads}
 use Rattle.flat_names.specs.declared.resolved.Resolved.{Resolved}
 use Rattle.flat_names.specs.declared.resolved.Parts.{Parts}
 use Rattle.flat_names.specs.Noting.{Noted, noted, all_noted}
+use Rattle.flat_names.specs.declared.signs.Signs.{Signs}
 use Rattle.flat_names.specs.Pieces.{IsRead, AreRead, within_word, count_notes, out_of_range}
 use Rattle.flat_names.proofs.Terms.{empty-both, empty-if}
 use Rattle.flat_names.proofs.Looked.{own-is}
@@ -94,11 +95,11 @@ some-cond : (n : ℕ) (b : Bool) → is_some (cond b (Some n) None) ≡ b
 some-cond n true = refl
 some-cond n false = refl
 
-pub is-repeat : (k t : Term) (ts : List Term) (p : Parts) (n v : Option ℕ) (count total : ℕ) → AreRead (t ∷ ts) p → n ≡ cond (is_sound (as_count k)) (Some (own_value k.expr)) None
+pub is-repeat : (k t : Term) (ts : List Term) (p : Parts) (n v : Option ℕ) (count total : ℕ) (g : Signs) → AreRead (t ∷ ts) p → n ≡ cond (is_sound (as_count k)) (Some (own_value k.expr)) None
     → (is_sound (as_count k) ≡ true → (1 ≤ own_value k.expr) × (own_value k.expr < 2 ^ 31)) → total ≡ min (2 ^ 64 - 1) (unwrap_or n 0 * p.width)
     → v ≡ within_word (p.is_sound && is_some n) total → (own_value k.expr ≤ 64 → is_some n ≡ true → count ≡ own_value k.expr)
-    → IsRead (repeat_term k (t ∷ ts)) (record { expr = f.Repeat count p.items.items (unwrap_or v 1); is_sound = is_some v; is_constant = p.is_constant; count = None })
-is-repeat k t ts p n v count total h en small et ev ec = record {
+    → IsRead (repeat_term k (t ∷ ts)) (record { expr = f.Repeat count p.items.items (unwrap_or v 1); is_sound = is_some v; is_constant = p.is_constant; count = None; signs = g })
+is-repeat k t ts p n v count total g h en small et ev ec = record {
   sound = ap is_some ev ∙ some-within (p.is_sound && is_some n) total ∙ wide ∙ sym whole_sound;
   constant = h.constant;
   expr = λ s. expr_of-Repeat count p.items.items (unwrap_or v 1) ∙ ap₂ m.Repeat (count_is s) (ap exprs_of (h.exprs (parts s)));
@@ -217,15 +218,15 @@ repeat-test k t ts p n total h en et = go p.is_sound (is_sound (as_count k)) ref
     go a b ea eb = ap₂ (λ x y. (x && y) && nat_lt 64 total) ea (some_is ∙ eb) ∙ split a b ea eb ∙ sym (ap₂ (λ x y. (x && y) && nat_lt 64 (own * sizes (joined all))) eb (sym h.sound ∙ ea))
 
 -- a replication as it is made
-pub is-repeated : (k t : Term) (ts : List Term) (p : Parts) (n v : Option ℕ) (total count : ℕ) (es : List FExpr) (w : ℕ) (s both : Bool) → AreRead (t ∷ ts) p
+pub is-repeated : (k t : Term) (ts : List Term) (p : Parts) (n v : Option ℕ) (total count : ℕ) (es : List FExpr) (w : ℕ) (s both : Bool) (g : Signs) → AreRead (t ∷ ts) p
     → n ≡ cond (is_sound (as_count k)) (Some (own_value k.expr)) None → total ≡ min (2 ^ 64 - 1) (unwrap_or n 0 * p.width) → both ≡ (p.is_sound && is_some n) → v ≡ within_word both total
     → (unwrap_or n 0 < 256 → count ≡ unwrap_or n 0) → es ≡ p.items.items → w ≡ unwrap_or v 1 → s ≡ is_some v
-    → IsRead (repeat_term k (t ∷ ts)) (record { expr = f.Repeat count es w; is_sound = s; is_constant = p.is_constant; count = None })
-is-repeated k t ts p n v total count es w s both h en et eb ev ec is iw so =
-    subst (λ xs. IsRead (repeat_term k (t ∷ ts)) (record { expr = f.Repeat count xs w; is_sound = s; is_constant = p.is_constant; count = None })) (sym is)
-    (subst (λ m. IsRead (repeat_term k (t ∷ ts)) (record { expr = f.Repeat count p.items.items m; is_sound = s; is_constant = p.is_constant; count = None })) (sym iw)
-    (subst (λ b. IsRead (repeat_term k (t ∷ ts)) (record { expr = f.Repeat count p.items.items (unwrap_or v 1); is_sound = b; is_constant = p.is_constant; count = None })) (sym so)
-    (is-repeat k t ts p n v count total h en (count-range k) et (ev ∙ ap (λ b. within_word b total) eb) few)))
+    → IsRead (repeat_term k (t ∷ ts)) (record { expr = f.Repeat count es w; is_sound = s; is_constant = p.is_constant; count = None; signs = g })
+is-repeated k t ts p n v total count es w s both g h en et eb ev ec is iw so =
+    subst (λ xs. IsRead (repeat_term k (t ∷ ts)) (record { expr = f.Repeat count xs w; is_sound = s; is_constant = p.is_constant; count = None; signs = g })) (sym is)
+    (subst (λ m. IsRead (repeat_term k (t ∷ ts)) (record { expr = f.Repeat count p.items.items m; is_sound = s; is_constant = p.is_constant; count = None; signs = g })) (sym iw)
+    (subst (λ b. IsRead (repeat_term k (t ∷ ts)) (record { expr = f.Repeat count p.items.items (unwrap_or v 1); is_sound = b; is_constant = p.is_constant; count = None; signs = g })) (sym so)
+    (is-repeat k t ts p n v count total g h en (count-range k) et (ev ∙ ap (λ b. within_word b total) eb) few)))
   where
     few : own_value k.expr ≤ 64 → is_some n ≡ true → count ≡ own_value k.expr
     few l i = let c : is_sound (as_count k) ≡ true = sym (ap is_some en ∙ some-cond (own_value k.expr) (is_sound (as_count k))) ∙ i in

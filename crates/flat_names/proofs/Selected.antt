@@ -1,5 +1,5 @@
 -- Selects of what a name stands for, against what the definition reads.
-use Rattle.std.proofs.Common.{◌≡◌, ◌≢◌, Result, Ok, Err, Box, Global, ℕ, zero, suc, ◌+◌, ◌-◌, ◌*◌, ◌/◌, ◌%◌, ◌^◌, ◌<◌, ◌≤◌, max, min, Bool, true, false, cond, not, ◌&&◌, ◌==◌, nat_lt, nat_le, List, [], ◌∷◌, ◌++◌, length, map, Option, Some, None, is_none, is_some, refl, sym, ap, ap₂, subst, ◌∙◌, arith, rules, lt-ltb, le-leb, leb-true, eq-eqb, ne_eqb, pow_pos, pow_mono, pow-suc}
+use Rattle.std.proofs.Common.{◌≡◌, Result, Ok, Err, Box, Global, ℕ, suc, ◌+◌, ◌-◌, ◌*◌, ◌/◌, ◌%◌, ◌^◌, ◌<◌, ◌≤◌, Bool, true, false, cond, not, ◌&&◌, ◌==◌, nat_lt, nat_le, List, [], ◌++◌, length, Option, Some, None, is_none, is_some, refl, sym, ap, ap₂, subst, ◌∙◌, arith, lt-ltb, le-leb, leb-true, eq-eqb, ne_eqb, pow_pos, pow_mono}
 use Rattle.std.specs.Prelude.{option_map, option_and_then, slice_get, IfOk}
 use Rattle.std.specs.Option.{option_map_or}
 use Rattle.std.proofs.Math.Nat.{mod-lt, div-eq_of_lt, lt-div-mul-add}
@@ -24,14 +24,14 @@ use Rattle.flat_unfolding.specs.Expressions.{Term, is_empty, is_sound, as_consta
 use Rattle.flat_meaning.specs.Law.{expr_reads}
 use Rattle.flat_names.specs.declared.scope.Meaning.{Meaning}
 use Rattle.flat_names.specs.declared.scope.Meaning.TheVariants as m
-use Rattle.flat_names.specs.declared.scope.Memory.{Memory}
-use Rattle.flat_names.specs.declared.scope.Param.{Param}
 use Rattle.flat_names.specs.declared.scope.Look.{Look}
 use Rattle.flat_names.specs.declared.design.Reset.{Reset}
 use Rattle.flat_names.specs.declared.design.Entry.{Entry}
 use Rattle.flat_names.specs.declared.resolved.Resolved.{Resolved}
-use Rattle.flat_names.specs.Looks.{meaning_of, param_of, memory_of, kept_in, as_value, meant, one_if, bits_of, Shows, IsFit, IsFitParam}
+use Rattle.flat_names.specs.Looks.{meaning_of, kept_in, as_value, meant, one_if, bits_of, Shows, IsFit, IsFitParam}
 use Rattle.flat_names.specs.Noting.{Noted, noted, all_noted}
+use Rattle.flat_names.specs.declared.signs.Signs.{Signs}
+use Rattle.flat_names.specs.Signs.{no_signs}
 use Rattle.flat_names.specs.Pieces.{IsRead, Makes, SameReads, out_of_range}
 use Rattle.flat_names.specs.Selects.{is_param, index_at, index_of, part_at, bound_notes, part_in, part_notes, StandsFor, IsSelected}
 use Rattle.flat_names.proofs.Options.{none-some, some-same}
@@ -72,13 +72,6 @@ quotient-some a p h = by_le (λ v. not (a / p == 0) ≡ v) p a
 
 pub quotient-none : (a w : ℕ) → a < 2 ^ 64 → 64 ≤ w → false ≡ nat_le (2 ^ w) a
 quotient-none a w h l = let k = pow_mono {i = 64} {j = w} l in sym (le-false (2 ^ w) a (omega arith))
-
--- a number of words has one logarithm
-pow-less : (a b : ℕ) → a < b → 2 ^ a < 2 ^ b
-pow-less a b h = let k = pow_mono {i = suc a} {j = b} (omega arith) in let e = pow-suc 2 a in let z = pow_pos a in omega arith
-
-pow-one : (a b : ℕ) → 2 ^ a ≡ 2 ^ b → a ≡ b
-pow-one a b h = by_lt (λ v. a ≡ b) a b (λ l. absurd (let k = pow-less a b l in omega arith)) (λ l. by_lt (λ v. a ≡ b) b a (λ g. absurd (let k = pow-less b a g in omega arith)) (λ g. omega arith))
 
 -- ---- bounds
 
@@ -206,20 +199,20 @@ meant-kept k x v h = go (kept_in k.names.now x) refl h
     go (Some (m.Param p)) e d = e ∙ d
     go (Some (m.Signal s)) e d = e ∙ d
     go (Some (m.Memory a)) e d = e ∙ d
-    go (Some m.Instance) e d = none-some v d
+    go (Some m.NoValue) e d = none-some v d
 
-pub never-instance : (k : Look) (x : Text) (o : Option Meaning) → o ≡ meant k.names.now x → o ≡ Some m.Instance → meant k.names.now x ≡ None
-never-instance k x o h i = go (kept_in k.names.now x) (sym h ∙ i)
+pub never-no_value : (k : Look) (x : Text) (o : Option Meaning) → o ≡ meant k.names.now x → o ≡ Some m.NoValue → meant k.names.now x ≡ None
+never-no_value k x o h i = go (kept_in k.names.now x) (sym h ∙ i)
   where
-    other : {A : Type 0} (v : Meaning) → Some v ≡ Some m.Instance → is_some (as_value v) ≡ true → A
-    other v d e = absurd (false≢true (ap (λ w. is_some (as_value w)) (sym (some-same v m.Instance d)) ∙ e))
+    other : {A : Type 0} (v : Meaning) → Some v ≡ Some m.NoValue → is_some (as_value v) ≡ true → A
+    other v d e = absurd (false≢true (ap (λ w. is_some (as_value w)) (sym (some-same v m.NoValue d)) ∙ e))
 
-    go : (q : Option Meaning) → option_and_then as_value q ≡ Some m.Instance → option_and_then as_value q ≡ None
+    go : (q : Option Meaning) → option_and_then as_value q ≡ Some m.NoValue → option_and_then as_value q ≡ None
     go None d = refl
     go (Some (m.Param p)) d = other (m.Param p) d refl
     go (Some (m.Signal s)) d = other (m.Signal s) d refl
     go (Some (m.Memory a)) d = other (m.Memory a) d refl
-    go (Some m.Instance) d = refl
+    go (Some m.NoValue) d = refl
 
 pub means : (k : Look) (l : n.Look) → Shows k l → (x : Text) (o : Option Meaning) → o ≡ meant k.names.now x → n.meaning l x ≡ option_map meaning_of o
 means k l h x o e = meant-is k l h x ∙ ap (option_map meaning_of) (sym e)
@@ -230,7 +223,7 @@ means-nothing k l h x e = meant-is k l h x ∙ ap (option_map meaning_of) e
 -- ---- selects that break no rule, and others
 
 pub select-sound : (bs : List Broken) (x : FExpr) (y : Expr) (c : Bool) (old : Noted) → is_empty bs ≡ true → StandsFor x y
-    → IsSelected bs (spoilt y c []) old old (record { expr = x; is_sound = true; is_constant = c; count = None })
+    → IsSelected bs (spoilt y c []) old old (record { expr = x; is_sound = true; is_constant = c; count = None; signs = no_signs })
 select-sound bs x y c old h s = (
   record {
     sound = sym (empty-both bs [] ∙ ap (λ b. b && true) h);
@@ -241,10 +234,11 @@ select-sound bs x y c old h s = (
   },
   refl,
   refl,
+  refl,
 )
 
 pub select-broken : (bs : List Broken) (t : Term) (x : FExpr) (c : Bool) (old new : Noted) → (is_empty bs && is_empty t.broken) ≡ false → c ≡ t.is_constant → SameReads (expr_of x) t.expr → new ≡ all_noted old t.broken
-    → IsSelected bs t old new (record { expr = x; is_sound = false; is_constant = c; count = None })
+    → IsSelected bs t old new (record { expr = x; is_sound = false; is_constant = c; count = None; signs = no_signs })
 select-broken bs t x c old new h k s d = (
   record {
     sound = sym (empty-both bs t.broken ∙ h);
@@ -255,6 +249,7 @@ select-broken bs t x c old new h k s d = (
   },
   refl,
   d,
+  refl,
 )
 
 and-false : (b : Bool) → (b && false) ≡ false
@@ -263,17 +258,20 @@ and-false false = refl
 
 -- a select that is outside
 pub select-missed : (bs : List Broken) (x : FExpr) (c : Bool) (y : Text) (old : Noted) → x ≡ f.Number 0 1
-    → IsSelected bs (spoilt no_expr c (breaks 314 y)) old (noted old (record { number = 314; name = y; place = None })) (record { expr = x; is_sound = false; is_constant = c; count = None })
+    → IsSelected bs (spoilt no_expr c (breaks 314 y)) old (noted old (record { number = 314; name = y; place = None })) (record { expr = x; is_sound = false; is_constant = c; count = None; signs = no_signs })
 select-missed bs x c y old h = select-broken bs (spoilt no_expr c (breaks 314 y)) x c old (noted old (record { number = 314; name = y; place = None })) (and-false (is_empty bs)) refl (nothing-reads x h) refl
 
 abbrev pub missed : Noted → ℕ → Text → Noted
 missed old k y = noted old (record { number = k; name = y; place = None })
 
 abbrev pub broken_as : FExpr → Bool → Resolved
-broken_as x c = record { expr = x; is_sound = false; is_constant = c; count = None }
+broken_as x c = record { expr = x; is_sound = false; is_constant = c; count = None; signs = no_signs }
+
+abbrev pub sound_with : Signs → FExpr → Bool → Resolved
+sound_with g x c = record { expr = x; is_sound = true; is_constant = c; count = None; signs = g }
 
 abbrev pub sound_as : FExpr → Bool → Resolved
-sound_as x c = record { expr = x; is_sound = true; is_constant = c; count = None }
+sound_as = sound_with no_signs
 
 -- ---- an index
 
@@ -299,20 +297,20 @@ module _ (l : n.Look) (x : Text) (t : Term) (r : Resolved) (old : Noted) where
       go false = select-broken (breaks_if true 305 x ++ t.broken) (spoilt t.expr false []) r.expr false old old refl refl h.reads refl
 
   pub index-done : (o : Option n.Meaning) (new : Noted) (q : Resolved) → n.meaning l x ≡ o → IsSelected (breaks_if (is_none o) 305 x ++ t.broken) (index_of l x t o) old new q
-      → IsRead (index_term l x t) q × (q.count ≡ None) × (new ≡ all_noted old (index_of l x t (n.meaning l x)).broken)
+      → IsRead (index_term l x t) q × (q.count ≡ None) × (new ≡ all_noted old (index_of l x t (n.meaning l x)).broken) × (q.signs ≡ no_signs)
   index-done o new q e s =
       let k = subst (λ z. IsSelected (breaks_if (is_none z) 305 x ++ t.broken) (index_of l x t z) old new q) (sym e) s in
-      (subst (λ z. IsRead (spoilt z.expr z.is_constant ((breaks_if (is_none (n.meaning l x)) 305 x ++ t.broken) ++ z.broken)) q) (sym (same (n.meaning l x))) k.0, k.1, k.2)
+      (subst (λ z. IsRead (spoilt z.expr z.is_constant ((breaks_if (is_none (n.meaning l x)) 305 x ++ t.broken) ++ z.broken)) q) (sym (same (n.meaning l x))) k.0, k.1, k.2, k.3)
     where
       same : (z : Option n.Meaning) → cond (is_sound t) (definition.meant_index l x t z) (spoilt t.expr (definition.is_param l z && t.is_constant) []) ≡ index_of l x t z
       same None = refl
       same (Some (n.a_param p)) = refl
       same (Some (n.a_signal s)) = refl
       same (Some (n.a_memory a)) = refl
-      same (Some n.an_instance) = refl
+      same (Some n.no_value) = refl
 
   pub index-all : {E : Type 0} (o : Option n.Meaning) (new : Noted) (q : Result Resolved E) → n.meaning l x ≡ o → IfOk q (λ z. IsSelected (breaks_if (is_none o) 305 x ++ t.broken) (index_of l x t o) old new z)
-      → IfOk q (λ z. IsRead (index_term l x t) z × (z.count ≡ None) × (new ≡ all_noted old (index_of l x t (n.meaning l x)).broken))
+      → IfOk q (λ z. IsRead (index_term l x t) z × (z.count ≡ None) × (new ≡ all_noted old (index_of l x t (n.meaning l x)).broken) × (z.signs ≡ no_signs))
   index-all o new (Ok q) e s = index-done o new q e s
   index-all o new (Err q) e s = s
 
@@ -352,11 +350,11 @@ module _ (l : n.Look) (x : Text) (t : Term) (r : Resolved) (old : Noted) where
     signal-all new (Ok q) h s k w = signal-constant new q h s k w
     signal-all new (Err q) h s k w = w (sym h.sound ∙ s)
 
-    pub signal-variable : (p : Box FExpr Global) (v : Bool) (new : Noted) → IsRead t r → r.is_sound ≡ true → r.is_constant ≡ false → p.value ≡ r.expr
-        → v ≡ definition.may_index (range_at l.entries sig) (kept_of r.expr).width → new ≡ all_noted old (breaks_if (not v) 315 x)
-        → IsSelected t.broken (index_of l x t (Some (n.a_signal sig))) old new (record { expr = f.At sig p 1; is_sound = v; is_constant = false; count = None })
-    signal-variable p v new h s k i e w = index-sound (Some (n.a_signal sig)) new (record { expr = f.At sig p 1; is_sound = v; is_constant = false; count = None }) h s (λ d.
-        subst (λ b. IsSelected t.broken (cond b (signal_bits l x sig (bit_select (range_at l.entries sig) (own_value t.expr))) (spoilt (At sig t.expr) false (breaks_if (not may) 315 x))) old new (record { expr = f.At sig p 1; is_sound = v; is_constant = false; count = None })) (sym (sym h.constant ∙ k)) (
+    pub signal-variable : (p : Box FExpr Global) (v : Bool) (g : Signs) (new : Noted) → IsRead t r → r.is_sound ≡ true → r.is_constant ≡ false → p.value ≡ r.expr
+        → v ≡ definition.may_index (range_at l.entries sig) (kept_of r.expr).width → new ≡ all_noted old (breaks_if (not v) 315 x) → g ≡ no_signs
+        → IsSelected t.broken (index_of l x t (Some (n.a_signal sig))) old new (record { expr = f.At sig p 1; is_sound = v; is_constant = false; count = None; signs = g })
+    signal-variable p v g new h s k i e w y = index-sound (Some (n.a_signal sig)) new (record { expr = f.At sig p 1; is_sound = v; is_constant = false; count = None; signs = g }) h s (λ d.
+        subst (λ b. IsSelected t.broken (cond b (signal_bits l x sig (bit_select (range_at l.entries sig) (own_value t.expr))) (spoilt (At sig t.expr) false (breaks_if (not may) 315 x))) old new (record { expr = f.At sig p 1; is_sound = v; is_constant = false; count = None; signs = g })) (sym (sym h.constant ∙ k)) (
           record {
             sound = meets ∙ sym (empty-both t.broken (breaks_if (not may) 315 x) ∙ ap₂ (λ a b. a && b) d (empty-if (not may) 315 x) ∙ not-not may);
             constant = refl;
@@ -366,6 +364,7 @@ module _ (l : n.Look) (x : Text) (t : Term) (r : Resolved) (old : Noted) where
           },
           refl,
           w ∙ ap (λ b. all_noted old (breaks_if (not b) 315 x)) meets,
+          y,
         ))
       where
         may : Bool
@@ -384,33 +383,39 @@ module _ (l : n.Look) (x : Text) (t : Term) (r : Resolved) (old : Noted) where
   -- ---- of a memory
 
   module _ (a : n.Memory) where
-    memory-by : (b c : Bool) (new : Noted) (q : Resolved) → IsRead t r → r.is_sound ≡ true → r.is_constant ≡ b → (2 ^ size t.expr == a.words) ≡ c
-        → (is_empty t.broken ≡ true → IsSelected t.broken (cond b (word_bits l x (word_of a (own_value t.expr))) (cond c (variable (words_from l a t.expr 0 (a.words - 1))) (spoilt t.expr false (breaks 315 x)))) old new q)
+    memory-by : (b c : Bool) (new : Noted) (q : Resolved) → IsRead t r → r.is_sound ≡ true → r.is_constant ≡ b → (nat_le (2 ^ size t.expr) a.words) ≡ c
+        → (is_empty t.broken ≡ true → IsSelected t.broken (cond b (word_bits l x (word_of a (own_value t.expr))) (cond c (variable (words_from l a t.expr 0 (2 ^ size t.expr - 1))) (spoilt t.expr false (breaks 315 x)))) old new q)
         → IsSelected t.broken (index_of l x t (Some (n.a_memory a))) old new q
     memory-by b c new q h s k e w = index-sound (Some (n.a_memory a)) new q h s (λ d.
-        subst (λ z. IsSelected t.broken (cond z (word_bits l x (word_of a (own_value t.expr))) (cond (2 ^ size t.expr == a.words) (variable (words_from l a t.expr 0 (a.words - 1))) (spoilt t.expr false (breaks 315 x)))) old new q) (sym (sym h.constant ∙ k))
-        (subst (λ z. IsSelected t.broken (cond b (word_bits l x (word_of a (own_value t.expr))) (cond z (variable (words_from l a t.expr 0 (a.words - 1))) (spoilt t.expr false (breaks 315 x)))) old new q) (sym e) (w d)))
+        subst (λ z. IsSelected t.broken (cond z (word_bits l x (word_of a (own_value t.expr))) (cond (nat_le (2 ^ size t.expr) a.words) (variable (words_from l a t.expr 0 (2 ^ size t.expr - 1))) (spoilt t.expr false (breaks 315 x)))) old new q) (sym (sym h.constant ∙ k))
+        (subst (λ z. IsSelected t.broken (cond b (word_bits l x (word_of a (own_value t.expr))) (cond z (variable (words_from l a t.expr 0 (2 ^ size t.expr - 1))) (spoilt t.expr false (breaks 315 x)))) old new q) (sym e) (w d)))
 
     pub memory-constant : (new : Noted) (q : Resolved) → IsRead t r → r.is_sound ≡ true → r.is_constant ≡ true
         → (is_empty t.broken ≡ true → IsSelected t.broken (word_bits l x (word_of a (own_value (expr_of r.expr)))) old new q) → IsSelected t.broken (index_of l x t (Some (n.a_memory a))) old new q
-    memory-constant new q h s k w = memory-by true (2 ^ size t.expr == a.words) new q h s k refl (λ d. subst (λ z. IsSelected t.broken (word_bits l x (word_of a (own_value z))) old new q) (h.expr s) (w d))
+    memory-constant new q h s k w = memory-by true (nat_le (2 ^ size t.expr) a.words) new q h s k refl (λ d. subst (λ z. IsSelected t.broken (word_bits l x (word_of a (own_value z))) old new q) (h.expr s) (w d))
 
     pub memory-all : {E : Type 0} (new : Noted) (q : Result Resolved E) → IsRead t r → r.is_sound ≡ true → r.is_constant ≡ true
         → (is_empty t.broken ≡ true → IfOk q (λ z. IsSelected t.broken (word_bits l x (word_of a (own_value (expr_of r.expr)))) old new z)) → IfOk q (λ z. IsSelected t.broken (index_of l x t (Some (n.a_memory a))) old new z)
     memory-all new (Ok q) h s k w = memory-constant new q h s k w
     memory-all new (Err q) h s k w = w (sym h.sound ∙ s)
 
-    -- the index has another size than the words need
-    pub memory-wide : (w : ℕ) → IsRead t r → r.is_sound ≡ true → r.is_constant ≡ false → (kept_of r.expr).width ≢ w → 2 ^ w ≡ a.words → IsSelected t.broken (index_of l x t (Some (n.a_memory a))) old (missed old 315 x) (broken_as r.expr false)
-    memory-wide w h s k i e = memory-by false false (missed old 315 x) (broken_as r.expr false) h s k
-        (ne_eqb (2 ^ size t.expr) a.words (λ z. i (sized_width r.expr (h.sized s) ∙ ap size (h.expr s) ∙ pow-one (size t.expr) w (z ∙ sym e))))
+    -- the size at which the index is kept
+    width-size : IsRead t r → r.is_sound ≡ true → (kept_of r.expr).width ≡ size t.expr
+    width-size h s = sized_width r.expr (h.sized s) ∙ ap size (h.expr s)
+
+    -- the index may miss a word
+    pub memory-wide : (b : Bool) → IsRead t r → r.is_sound ≡ true → r.is_constant ≡ false → b ≡ nat_le (2 ^ (kept_of r.expr).width) a.words → b ≡ false
+        → IsSelected t.broken (index_of l x t (Some (n.a_memory a))) old (missed old 315 x) (broken_as r.expr false)
+    memory-wide b h s k i e = memory-by false false (missed old 315 x) (broken_as r.expr false) h s k
+        (ap (λ w. nat_le (2 ^ w) a.words) (sym (width-size h s)) ∙ sym i ∙ e)
         (λ d. select-broken t.broken (spoilt t.expr false (breaks 315 x)) r.expr false old (missed old 315 x) (and-false (is_empty t.broken)) refl h.reads refl)
 
-    pub memory-chosen : (w : ℕ) (y : FExpr) → IsRead t r → r.is_sound ≡ true → r.is_constant ≡ false → (kept_of r.expr).width ≡ w → 2 ^ w ≡ a.words → StandsFor y (words_from l a (expr_of r.expr) 0 (a.words - 1))
-        → IsSelected t.broken (index_of l x t (Some (n.a_memory a))) old old (sound_as y false)
-    memory-chosen w y h s k i e z = memory-by false true old (sound_as y false) h s k
-        (eq-eqb (2 ^ size t.expr) a.words (ap (λ m. 2 ^ m) (sym (sized_width r.expr (h.sized s) ∙ ap size (h.expr s)) ∙ i) ∙ e))
-        (λ d. select-sound t.broken y (words_from l a t.expr 0 (a.words - 1)) false old d (subst (λ m. StandsFor y (words_from l a m 0 (a.words - 1))) (h.expr s) z))
+    pub memory-chosen : (b : Bool) (y : FExpr) → IsRead t r → r.is_sound ≡ true → r.is_constant ≡ false → b ≡ nat_le (2 ^ (kept_of r.expr).width) a.words → b ≡ true
+        → StandsFor y (words_from l a (expr_of r.expr) 0 (2 ^ (kept_of r.expr).width - 1)) → IsSelected t.broken (index_of l x t (Some (n.a_memory a))) old old (sound_as y false)
+    memory-chosen b y h s k i e z = memory-by false true old (sound_as y false) h s k
+        (ap (λ w. nat_le (2 ^ w) a.words) (sym (width-size h s)) ∙ sym i ∙ e)
+        (λ d. select-sound t.broken y (words_from l a t.expr 0 (2 ^ size t.expr - 1)) false old d
+        (subst (λ w. StandsFor y (words_from l a t.expr 0 (2 ^ w - 1))) (width-size h s) (subst (λ m. StandsFor y (words_from l a m 0 (2 ^ (kept_of r.expr).width - 1))) (h.expr s) z)))
 
 -- ---- bits and words of constant indices
 
@@ -490,7 +495,7 @@ part-bounds x v t u = empty-both (as_bound t).broken (as_bound u).broken ∙ go 
 
 pub part-done : (l : n.Look) (x : Text) (t u : Term) (o : Option n.Meaning) (p : Option Range) (old mid new : Noted) (q : Resolved) → n.meaning l x ≡ o → p ≡ range_of (as_bound t) (as_bound u) → mid ≡ all_noted old (bound_notes t ++ bound_notes u)
     → IsSelected (part_broken x o t u) (part_at l x p o) mid new q
-    → IsRead (part_term l x t u) q × (q.count ≡ None) × (new ≡ all_noted old (bound_notes t ++ bound_notes u ++ (part_at l x (range_of (as_bound t) (as_bound u)) (n.meaning l x)).broken))
+    → IsRead (part_term l x t u) q × (q.count ≡ None) × (new ≡ all_noted old (bound_notes t ++ bound_notes u ++ (part_at l x (range_of (as_bound t) (as_bound u)) (n.meaning l x)).broken)) × (q.signs ≡ no_signs)
 part-done l x t u o p old mid new q e d i s =
     let g = range_of (as_bound t) (as_bound u) in
     let k = subst (λ z. IsSelected (part_broken x z t u) (part_at l x p z) mid new q) (sym e) s in
@@ -498,6 +503,7 @@ part-done l x t u o p old mid new q e d i s =
       subst (λ z. IsRead (spoilt z.expr z.is_constant (part_broken x (n.meaning l x) t u ++ z.broken)) q) (sym (same g (n.meaning l x))) j.0,
       j.1,
       j.2 ∙ ap (λ z. all_noted z (part_at l x g (n.meaning l x)).broken) i ∙ sym (noted-both old (bound_notes t ++ bound_notes u) (part_at l x g (n.meaning l x)).broken),
+      j.3,
     )
   where
     same : (g : Option Range) (z : Option n.Meaning) → definition.meant_part l x g z ≡ part_at l x g z
@@ -505,16 +511,16 @@ part-done l x t u o p old mid new q e d i s =
     same None (Some (n.a_param p)) = refl
     same None (Some (n.a_signal s)) = refl
     same None (Some (n.a_memory a)) = refl
-    same None (Some n.an_instance) = refl
+    same None (Some n.no_value) = refl
     same (Some r) None = refl
     same (Some r) (Some (n.a_param p)) = refl
     same (Some r) (Some (n.a_signal s)) = refl
     same (Some r) (Some (n.a_memory a)) = refl
-    same (Some r) (Some n.an_instance) = refl
+    same (Some r) (Some n.no_value) = refl
 
 pub part-all : {E : Type 0} (l : n.Look) (x : Text) (t u : Term) (o : Option n.Meaning) (p : Option Range) (old mid new : Noted) (q : Result Resolved E) → n.meaning l x ≡ o → p ≡ range_of (as_bound t) (as_bound u) → mid ≡ all_noted old (bound_notes t ++ bound_notes u)
     → IfOk q (λ z. IsSelected (part_broken x o t u) (part_at l x p o) mid new z)
-    → IfOk q (λ z. IsRead (part_term l x t u) z × (z.count ≡ None) × (new ≡ all_noted old (bound_notes t ++ bound_notes u ++ (part_at l x (range_of (as_bound t) (as_bound u)) (n.meaning l x)).broken)))
+    → IfOk q (λ z. IsRead (part_term l x t u) z × (z.count ≡ None) × (new ≡ all_noted old (bound_notes t ++ bound_notes u ++ (part_at l x (range_of (as_bound t) (as_bound u)) (n.meaning l x)).broken)) × (z.signs ≡ no_signs))
 part-all l x t u o p old mid new (Ok q) e d i s = part-done l x t u o p old mid new q e d i s
 part-all l x t u o p old mid new (Err q) e d i s = s
 

@@ -1,13 +1,11 @@
 -- What the operators make of what was read.
-use Rattle.std.proofs.Common.{◌≡◌, ◌≢◌, ℕ, ◌^◌, ◌<◌, max, Bool, true, false, cond, not, ◌&&◌, ◌||◌, ◌==◌, nat_lt, List, [], ◌∷◌, ◌++◌, Option, Some, None, is_some, refl, sym, ap, ap₂, subst, ◌∙◌, arith, rules, eqb-true, eq-eqb, le-ltb, lt-ltb}
-use Rattle.std.specs.Prelude.{option_map, option_and_then, unwrap_or}
+use Rattle.std.proofs.Common.{◌≡◌, ◌≢◌, ℕ, ◌^◌, ◌<◌, max, Bool, true, false, not, ◌&&◌, ◌||◌, ◌==◌, List, [], ◌∷◌, ◌++◌, Option, Some, None, refl, sym, ap, ap₂, subst, ◌∙◌, eqb-true, lt-ltb}
+use Rattle.std.specs.Prelude.{option_map, unwrap_or}
 use Rattle.std.proofs.lemmas.Bool.{and_parts, false≢true}
 use Rattle.verilog_ast.specs.declared.UnaryOp.{UnaryOp}
 use Rattle.verilog_ast.specs.declared.BinaryOp.{BinaryOp}
-use Rattle.verilog_ast.specs.declared.BinaryOp.TheVariants as b
 use Rattle.flat_meaning.specs.Flat.{Number, Unary, Binary, Choose, unary_size, binary_size}
 use Rattle.flat_meaning.specs.Flat as flat
-use Rattle.flat_meaning.proofs.Words.{never_same}
 use Rattle.flat_form.specs.declared.flat.FExpr.{FExpr}
 use Rattle.flat_form.specs.declared.flat.FExpr.TheVariants as f
 use Rattle.flat_form.specs.View.{expr_of, unary_of, binary_of}
@@ -15,14 +13,14 @@ use Rattle.flat_form.specs.Sizes.{Kept, kept_of, is_sized}
 use Rattle.flat_form.proofs.Folds.{expr_of-Number, kept_of-Number}
 use Rattle.flat_unfolding.specs.Outcome.{Text, Broken, breaks_if}
 use Rattle.flat_unfolding.specs.Names.{Look}
-use Rattle.flat_unfolding.specs.Constants.{both, within, whole_unary, whole_binary}
-use Rattle.flat_unfolding.specs.Expressions.{Term, is_empty, is_sound, unary_term, binary_term, choice_term, is_whole_only}
+use Rattle.flat_unfolding.specs.Expressions.{Term, also, is_empty, is_sound, unary_term, binary_term, choice_term, is_whole_only}
 use Rattle.flat_meaning.specs.Law.{expr_reads}
 use Rattle.flat_names.specs.declared.resolved.Count.{Count}
 use Rattle.flat_names.specs.declared.resolved.Resolved.{Resolved}
-use Rattle.flat_names.specs.Pieces.{IsRead, Makes, Piece, IsPiece, IsFitPiece, is_counted_size, numbered, flagged, judged_piece, unary_piece, binary_piece, choice_piece}
+use Rattle.flat_names.specs.declared.signs.Signs.{Signs}
+use Rattle.flat_names.specs.Signs.{number_signs, judged_signs}
+use Rattle.flat_names.specs.Pieces.{IsRead, Makes, Piece, IsPiece, is_counted_size, numbered, flagged, judged_piece}
 use Rattle.flat_names.proofs.Options.{none-some, some-same}
-use Rattle.flat_names.proofs.Wholes.{within-same, within-below, unary-whole, binary-whole, choice-whole}
 
 pub empty-both : (bs cs : List Broken) → is_empty (bs ++ cs) ≡ (is_empty bs && is_empty cs)
 empty-both [] cs = refl
@@ -34,10 +32,10 @@ empty-if false n x = refl
 
 -- ---- forms
 
-pub is-unary : (op : UnaryOp) (t : Term) (r : Resolved) (e : FExpr) (n : ℕ) (c : Option Count) → IsRead t r
+pub is-unary : (op : UnaryOp) (t : Term) (r : Resolved) (e : FExpr) (n : ℕ) (c : Option Count) (g : Signs) → IsRead t r
     → Makes e (Unary (unary_of op) (expr_of r.expr)) (record { width = n; right = is_sized r.expr })
-    → IsRead (unary_term op t) (record { expr = e; is_sound = r.is_sound; is_constant = r.is_constant; count = c })
-is-unary op t r e n c h m = record {
+    → IsRead (unary_term op t) (record { expr = e; is_sound = r.is_sound; is_constant = r.is_constant; count = c; signs = g })
+is-unary op t r e n c g h m = record {
   sound = h.sound;
   constant = h.constant;
   expr = λ s. m.expr ∙ ap (Unary (unary_of op)) (h.expr s);
@@ -45,13 +43,20 @@ is-unary op t r e n c h m = record {
   reads = λ wid s i. ap (λ x. expr_reads wid x s i) m.expr ∙ h.reads wid s i;
 }
 
-pub is-binary : (op : BinaryOp) (t u : Term) (r q : Resolved) (e : FExpr) (n : ℕ) (s k : Bool) (c : Option Count) → IsRead t r → IsRead u q
+and-nor : (a x w : Bool) → (a && not (x || w)) ≡ ((a && not x) && not w)
+and-nor true true w = refl
+and-nor true false w = refl
+and-nor false x w = refl
+
+-- with a break of E307 of its own
+pub is-binary : (op : BinaryOp) (t u : Term) (r q : Resolved) (e : FExpr) (n : ℕ) (s k w : Bool) (c : Option Count) (g : Signs) → IsRead t r → IsRead u q
     → Makes e (Binary (binary_of op) (expr_of r.expr) (expr_of q.expr)) (record { width = n; right = is_sized r.expr && is_sized q.expr })
-    → s ≡ ((r.is_sound && q.is_sound) && not (is_whole_only op)) → k ≡ (r.is_constant && q.is_constant)
-    → IsRead (binary_term op t u) (record { expr = e; is_sound = s; is_constant = k; count = c })
-is-binary op t u r q e n s k c h i m es ek = record {
-  sound = es ∙ ap₂ (λ x y. (x && y) && not (is_whole_only op)) h.sound i.sound
-      ∙ sym (empty-both (t.broken ++ u.broken) (breaks_if (is_whole_only op) 307 []) ∙ ap₂ (λ x y. x && y) (empty-both t.broken u.broken) (empty-if (is_whole_only op) 307 []));
+    → s ≡ ((r.is_sound && q.is_sound) && not (is_whole_only op || w)) → k ≡ (r.is_constant && q.is_constant)
+    → IsRead (also (binary_term op t u) (breaks_if w 307 [])) (record { expr = e; is_sound = s; is_constant = k; count = c; signs = g })
+is-binary op t u r q e n s k w c g h i m es ek = record {
+  sound = es ∙ ap₂ (λ x y. (x && y) && not (is_whole_only op || w)) h.sound i.sound ∙ and-nor (is_sound t && is_sound u) (is_whole_only op) w
+      ∙ sym (empty-both (t.broken ++ u.broken ++ breaks_if (is_whole_only op) 307 []) (breaks_if w 307 [])
+      ∙ ap₂ (λ x y. x && y) (empty-both (t.broken ++ u.broken) (breaks_if (is_whole_only op) 307 []) ∙ ap₂ (λ x y. x && y) (empty-both t.broken u.broken) (empty-if (is_whole_only op) 307 [])) (empty-if w 307 []));
   constant = ek ∙ ap₂ (λ x y. x && y) h.constant i.constant;
   expr = λ o. let p = parts o in m.expr ∙ ap₂ (Binary (binary_of op)) (h.expr p.0) (i.expr p.1);
   sized = λ o. let p = parts o in ap (λ (x : Kept). x.right) m.kept ∙ ap₂ (λ x y. x && y) (h.sized p.0) (i.sized p.1);
@@ -59,13 +64,13 @@ is-binary op t u r q e n s k c h i m es ek = record {
 }
   where
     parts : s ≡ true → (r.is_sound ≡ true) × (q.is_sound ≡ true)
-    parts o = let p = and_parts (r.is_sound && q.is_sound) (not (is_whole_only op)) (sym es ∙ o) in and_parts r.is_sound q.is_sound p.0
+    parts o = let p = and_parts (r.is_sound && q.is_sound) (not (is_whole_only op || w)) (sym es ∙ o) in and_parts r.is_sound q.is_sound p.0
 
-pub is-choice : (t u v : Term) (r q o : Resolved) (e : FExpr) (n : ℕ) (s k : Bool) (c : Option Count) → IsRead t r → IsRead u q → IsRead v o
+pub is-choice : (t u v : Term) (r q o : Resolved) (e : FExpr) (n : ℕ) (s k : Bool) (c : Option Count) (g : Signs) → IsRead t r → IsRead u q → IsRead v o
     → Makes e (Choose (expr_of r.expr) (expr_of q.expr) (expr_of o.expr)) (record { width = n; right = is_sized r.expr && (is_sized q.expr && is_sized o.expr) })
     → s ≡ ((r.is_sound && q.is_sound) && o.is_sound) → k ≡ ((r.is_constant && q.is_constant) && o.is_constant)
-    → IsRead (choice_term t u v) (record { expr = e; is_sound = s; is_constant = k; count = c })
-is-choice t u v r q o e n s k c h i j m es ek = record {
+    → IsRead (choice_term t u v) (record { expr = e; is_sound = s; is_constant = k; count = c; signs = g })
+is-choice t u v r q o e n s k c g h i j m es ek = record {
   sound = es ∙ ap₂ (λ x y. (x && y) && o.is_sound) h.sound i.sound ∙ ap (λ z. (is_sound t && is_sound u) && z) j.sound
       ∙ sym (empty-both (t.broken ++ u.broken) v.broken ∙ ap (λ x. x && is_empty v.broken) (empty-both t.broken u.broken));
   constant = ek ∙ ap₂ (λ x y. (x && y) && o.is_constant) h.constant i.constant ∙ ap (λ z. (t.is_constant && u.is_constant) && z) j.constant ∙ and-right t.is_constant u.is_constant v.is_constant;
@@ -137,6 +142,9 @@ counted-whole k h d = counted-is k (λ x. x ≢ 1 → x ≡ 32) h (λ e. absurd 
 
 -- ---- pieces
 
+abbrev pub with_size : Piece → Option ℕ → Piece
+with_size p s = record { term = p.term; size = s; whole = p.whole; signs = p.signs }
+
 pub counted-of : (p : Piece) (r : Resolved) (c : Count) → IsPiece p r → r.count ≡ Some c → (k : ℕ) × (p.size ≡ Some k) × (p.whole ≡ c.whole)
 counted-of p r c h e = go p.size refl (sym h.count ∙ ap (option_map (λ (x : Count). x.whole)) e)
   where
@@ -154,8 +162,8 @@ open-of p r h e = go p.size refl (sym h.count ∙ ap (option_map (λ (x : Count)
 number-sized : (n : ℕ) → n < 2 ^ 32 → is_sized (f.Number n 32) ≡ true
 number-sized n h = ap (λ (k : Kept). k.right) (kept_of-Number n 32) ∙ lt-ltb n (2 ^ 32) h
 
-pub number-piece : (l : Look) (v : Option ℕ) (t : Term) → ((n : ℕ) → v ≡ Some n → n < 2 ^ 32) → IsPiece (judged_piece l (Some 32) v t) (numbered v (unwrap_or v 0) 32)
-number-piece l None t h = record {
+pub number-piece : (l : Look) (v : Option ℕ) (t : Term) (g : Signs) → ((n : ℕ) → v ≡ Some n → n < 2 ^ 32) → IsPiece (judged_piece l (Some 32) v t g) (numbered v (unwrap_or v 0) 32 number_signs)
+number-piece l None t g h = record {
   is = record {
     sound = refl;
     constant = refl;
@@ -165,8 +173,9 @@ number-piece l None t h = record {
   };
   count = refl;
   width = λ k e. ap (λ (x : Kept). x.width) (kept_of-Number 0 32) ∙ some-same 32 k e;
+  signs = refl;
 }
-number-piece l (Some n) t h = record {
+number-piece l (Some n) t g h = record {
   is = record {
     sound = refl;
     constant = refl;
@@ -176,10 +185,12 @@ number-piece l (Some n) t h = record {
   };
   count = refl;
   width = λ k e. ap (λ (x : Kept). x.width) (kept_of-Number n 32) ∙ some-same 32 k e;
+  signs = refl;
 }
 
-pub flag-piece : (l : Look) (v : Option ℕ) (t : Term) (e : FExpr) (s : Bool) → IsRead t (flagged e s v) → (kept_of e).width ≡ 1 → IsPiece (judged_piece l (Some 1) v t) (flagged e s v)
-flag-piece l v t e s h i = record { is = h; count = refl; width = λ k d. i ∙ some-same 1 k d }
+pub flag-piece : (l : Look) (v : Option ℕ) (t : Term) (e : FExpr) (s : Bool) (g f : Signs) → IsRead t (flagged e s v f) → (kept_of e).width ≡ 1 → f ≡ judged_signs (Some 1) g
+    → IsPiece (judged_piece l (Some 1) v t g) (flagged e s v f)
+flag-piece l v t e s g f h i d = record { is = h; count = refl; width = λ k q. i ∙ some-same 1 k q; signs = d }
 
-pub open-piece : (l : Look) (v : Option ℕ) (t : Term) (r : Resolved) → IsRead t r → r.count ≡ None → IsPiece (judged_piece l None v t) r
-open-piece l v t r h e = record { is = h; count = ap (option_map (λ (c : Count). c.whole)) e; width = λ k d. none-some k d }
+pub open-piece : (l : Look) (v : Option ℕ) (t : Term) (g : Signs) (r : Resolved) → IsRead t r → r.count ≡ None → r.signs ≡ judged_signs None g → IsPiece (judged_piece l None v t g) r
+open-piece l v t g r h e d = record { is = h; count = ap (option_map (λ (c : Count). c.whole)) e; width = λ k q. none-some k q; signs = d }

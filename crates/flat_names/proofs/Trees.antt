@@ -1,5 +1,6 @@
 -- The tree of each form of a written expression, by the trees of its parts.
-use Rattle.std.proofs.Common.{◌≡◌, ℕ, Bool, List, map, Box, Global, sym, ap, ap₂, ◌∙◌}
+use Rattle.std.proofs.Common.{◌≡◌, ℕ, List, map, Box, Global, sym, ap, ap₂, ◌∙◌}
+use Rattle.cdc_base.specs.declared.size.NumberSize.{NumberSize}
 use Rattle.verilog_ast.specs.declared.UnaryOp.{UnaryOp}
 use Rattle.verilog_ast.specs.declared.BinaryOp.{BinaryOp}
 use Rattle.verilog_ast.specs.declared.Expr.{Expr}
@@ -8,8 +9,8 @@ use Rattle.verilog_ast.specs.declared.Expr.TheFolds.{fold-roll-Expr}
 use Rattle.verilog_ast.specs.declared.Expr.TheVariants as e
 use Rattle.verilog_reading.specs.ExprTree.{ExprTree, number, index, part, unary, binary, choice, join, repeat, tree_of, trees_of, expr_tree_step}
 
-pub tree-number : (x : Expr) (v w : ℕ) (plain : Bool) → x ≡ e.Number v w plain → tree_of x ≡ number v w plain
-tree-number x v w plain p = ap tree_of p ∙ ap tree_of (sym (e.rolls-Number v w plain)) ∙ fold-roll-Expr ExprTree expr_tree_step (Expr-F.Number v w plain)
+pub tree-number : (x : Expr) (v w : ℕ) (size : NumberSize) → x ≡ e.Number v w size → tree_of x ≡ number v w size
+tree-number x v w size p = ap tree_of p ∙ ap tree_of (sym (e.rolls-Number v w size)) ∙ fold-roll-Expr ExprTree expr_tree_step (Expr-F.Number v w size)
 
 pub tree-index : (x : Expr) (n : List ℕ) (i : Box Expr Global) (a : Expr) → x ≡ e.At n i → a ≡ i.value → tree_of x ≡ index n (tree_of a)
 tree-index x n i a p q = ap tree_of p ∙ ap tree_of (sym (e.rolls-At n i)) ∙ fold-roll-Expr ExprTree expr_tree_step (Expr-F.At n i) ∙ ap (λ z. index n (tree_of z)) (sym q)

@@ -1,6 +1,6 @@
 -- Whole numbers, as the operators give them and as the definition has them.
-use Rattle.std.proofs.Common.{◌≡◌, ℕ, ◌+◌, ◌-◌, ◌*◌, ◌/◌, ◌%◌, ◌^◌, ◌<◌, ◌≤◌, Bool, true, false, cond, not, ◌&&◌, ◌||◌, ◌==◌, nat_lt, nat_le, Option, Some, None, refl, sym, ap, ap₂, ◌∙◌, arith, rules, leb-true, le-leb, ltb-true}
-use Rattle.std.specs.Prelude.{bit_and, bit_or, bit_xor, option_and_then}
+use Rattle.std.proofs.Common.{◌≡◌, ℕ, ◌+◌, ◌-◌, ◌^◌, ◌<◌, ◌≤◌, Bool, true, false, cond, not, ◌==◌, nat_lt, nat_le, Option, Some, None, refl, sym, ap, ◌∙◌, arith, leb-true, le-leb, ltb-true}
+use Rattle.std.specs.Prelude.{option_and_then}
 use Rattle.verilog_ast.specs.declared.UnaryOp.{UnaryOp}
 use Rattle.verilog_ast.specs.declared.UnaryOp.TheVariants as u
 use Rattle.verilog_ast.specs.declared.BinaryOp.{BinaryOp}
@@ -10,12 +10,12 @@ use Rattle.cell_graph.proofs.Words.{bit-has, has-number}
 use Rattle.flat_meaning.specs.Flat.{unary_size}
 use Rattle.flat_meaning.specs.Fits.{has_cell}
 use Rattle.flat_meaning.specs.Meaning.{unary}
-use Rattle.flat_meaning.proofs.Words.{by_lt, never_same}
+use Rattle.flat_meaning.proofs.Words.{by_lt}
 use Rattle.flat_form.specs.View.{unary_of, binary_of}
 use Rattle.flat_form.specs.Whole as form
 use Rattle.flat_form.specs.Whole.{judged, one_if}
 use Rattle.flat_names.proofs.Options.{none-some, some-same}
-use Rattle.flat_unfolding.specs.Constants.{within, whole_unary, whole_binary, truth}
+use Rattle.flat_unfolding.specs.Constants.{within, whole_unary, whole_binary}
 use Rattle.flat_unfolding.specs.Expressions.{is_whole_only}
 
 le-lt : (n m : ℕ) → nat_le n m ≡ nat_lt n (m + 1)

@@ -10,14 +10,15 @@ use Rattle.verilog_reading.specs.ExprTree.{ExprTree, index, part, unary, binary,
 use Rattle.flat_unfolding.specs.Outcome.{Text, Broken, breaks_if}
 use Rattle.flat_unfolding.specs.Names.{Look, meaning, unknown}
 use Rattle.flat_unfolding.specs.Constants.{own_value}
-use Rattle.flat_unfolding.specs.Expressions.{Term, is_sound, all_broken, as_constant, as_bound, as_count, range_of, index_term, part_term, join_term, repeat_term, read, read_all}
+use Rattle.flat_unfolding.specs.Expressions.{Term, is_sound, all_broken, as_constant, as_bound, as_count, range_of, index_term, part_term, join_term, repeat_term, read, read_parts}
 use Rattle.flat_unfolding.specs.Formed.{IsFormed, AreFormed, AreSome}
 use Rattle.flat_names.specs.declared.resolved.Count.{Count}
 use Rattle.flat_names.specs.declared.resolved.Resolved.{Resolved}
 use Rattle.flat_names.specs.declared.resolved.Parts.{Parts}
 use Rattle.flat_names.specs.Noting.{Noted, all_noted}
 use Rattle.flat_names.specs.Looks.{IsFit}
-use Rattle.flat_names.specs.Pieces.{Piece, piece, IsPiece, IsRead, AreRead, pending, at_once, unary_piece, binary_piece, choice_piece, binary_notes, choice_notes, join_notes, count_notes, repeat_notes}
+use Rattle.flat_names.specs.Signs.{no_signs}
+use Rattle.flat_names.specs.Pieces.{Piece, piece, IsPiece, IsRead, AreRead, as_part, pending, at_once, unary_piece, binary_piece, choice_piece, binary_notes, choice_notes, join_notes, count_notes, repeat_notes}
 use Rattle.flat_names.specs.Selects.{index_of, part_at, bound_notes}
 use Rattle.flat_names.proofs.Notes.{noted-both, noted-late, then-noted}
 use Rattle.flat_names.proofs.Options.{ok-map}
@@ -30,9 +31,15 @@ use Rattle.flat_names.proofs.Named.{Reads, open-read}
 pub settled-after : (f g h : Noted) (p : Piece) → g ≡ all_noted f (at_once p) → h ≡ all_noted g (pending p) → h ≡ all_noted f p.term.broken
 settled-after f g h p d e = e ∙ ap (λ x. all_noted x (pending p)) d ∙ settled-notes f p
 
+-- with what it breaks besides
+also-after : (f g h : Noted) (p : Piece) (bs : List Broken) → g ≡ all_noted f (at_once p) → h ≡ all_noted g (pending p ++ bs) → h ≡ all_noted f (p.term.broken ++ bs)
+also-after f g h p bs d e = then-noted f (all_noted g (pending p)) h p.term.broken bs (settled-after f g (all_noted g (pending p)) p d refl) (e ∙ noted-both g (pending p) bs)
+
 pub constant-after : (f g h : Noted) (p : Piece) → g ≡ all_noted f (at_once p) → h ≡ all_noted g (pending p ++ breaks_if (not p.term.is_constant) 307 []) → h ≡ all_noted f (as_constant p.term).broken
-constant-after f g h p d e = then-noted f (all_noted g (pending p)) h p.term.broken (breaks_if (not p.term.is_constant) 307 []) (settled-after f g (all_noted g (pending p)) p d refl)
-    (e ∙ noted-both g (pending p) (breaks_if (not p.term.is_constant) 307 []))
+constant-after f g h p = also-after f g h p (breaks_if (not p.term.is_constant) 307 [])
+
+pub part-after : (f g h : Noted) (p : Piece) → g ≡ all_noted f (at_once p) → h ≡ all_noted g (pending p ++ breaks_if p.signs.is_unsized 308 []) → h ≡ all_noted f (as_part p).broken
+part-after f g h p = also-after f g h p (breaks_if p.signs.is_unsized 308 [])
 
 pub counted-same : (p : Piece) (r : Resolved) → IsPiece p r → is_some r.count ≡ is_some p.size
 counted-same p r h = left r.count ∙ ap is_some h.count ∙ sym (right p.size)
@@ -48,10 +55,10 @@ counted-same p r h = left r.count ∙ ap is_some h.count ∙ sym (right p.size)
 -- ---- selects
 
 pub index-reads : (l : Look) (x : Text) (i : ExprTree) (f0 f1 f2 f3 f4 : Noted) (r : Resolved) → f1 ≡ all_noted f0 (unknown l x) → f2 ≡ all_noted f1 (at_once (piece l i))
-    → f3 ≡ all_noted f2 (pending (piece l i)) → IsRead (index_term l x (read l i)) r × (r.count ≡ None) × (f4 ≡ all_noted f3 (index_of l x (read l i) (meaning l x)).broken)
+    → f3 ≡ all_noted f2 (pending (piece l i)) → IsRead (index_term l x (read l i)) r × (r.count ≡ None) × (f4 ≡ all_noted f3 (index_of l x (read l i) (meaning l x)).broken) × (r.signs ≡ no_signs)
     → Reads l (index x i) f0 f4 r
 index-reads l x i f0 f1 f2 f3 f4 r e1 e2 e3 h = (
-  open-read (piece l (index x i)) r refl h.0 h.1,
+  open-read (piece l (index x i)) r refl h.0 h.1 h.3,
   then-noted f0 f3 f4 (unknown l x ++ (read l i).broken) (index_of l x (read l i) (meaning l x)).broken
       (then-noted f0 f1 f3 (unknown l x) (read l i).broken e1 (settled-after f1 f2 f3 (piece l i) e2 e3)) h.2,
 )
@@ -60,9 +67,9 @@ pub part-reads : (l : Look) (x : Text) (a b : ExprTree) (f0 f1 f2 f3 f4 f5 f6 : 
     → f2 ≡ all_noted f1 (at_once (piece l a)) → f3 ≡ all_noted f2 (pending (piece l a) ++ breaks_if (not (read l a).is_constant) 307 [])
     → f4 ≡ all_noted f3 (at_once (piece l b)) → f5 ≡ all_noted f4 (pending (piece l b) ++ breaks_if (not (read l b).is_constant) 307 [])
     → IsRead (part_term l x (read l a) (read l b)) r × (r.count ≡ None)
-    × (f6 ≡ all_noted f5 (bound_notes (read l a) ++ bound_notes (read l b) ++ (part_at l x (range_of (as_bound (read l a)) (as_bound (read l b))) (meaning l x)).broken))
+    × (f6 ≡ all_noted f5 (bound_notes (read l a) ++ bound_notes (read l b) ++ (part_at l x (range_of (as_bound (read l a)) (as_bound (read l b))) (meaning l x)).broken)) × (r.signs ≡ no_signs)
     → Reads l (part x a b) f0 f6 r
-part-reads l x a b f0 f1 f2 f3 f4 f5 f6 r is formed e1 e2 e3 e4 e5 h = (open-read (piece l (part x a b)) r refl h.0 h.1, then-noted f0 upper f6 ((unknown l x ++ (as_bound (read l a)).broken) ++ (as_bound (read l b)).broken) rest both last)
+part-reads l x a b f0 f1 f2 f3 f4 f5 f6 r is formed e1 e2 e3 e4 e5 h = (open-read (piece l (part x a b)) r refl h.0 h.1 h.3, then-noted f0 upper f6 ((unknown l x ++ (as_bound (read l a)).broken) ++ (as_bound (read l b)).broken) rest both last)
   where
     left : List Broken
     left = (as_constant (read l a)).broken
@@ -135,24 +142,24 @@ choice-reads l c a b f0 f1 f2 f3 f4 r is fc fa fb e1 e2 e3 h = (
 -- ---- concatenations and replications
 
 pub join-reads : (l : Look) (parts : ExprTrees) (f0 f1 f2 : Noted) (p : Parts) (s : Result Resolved NoMemory) → AreSome parts
-    → AreRead (read_all l parts) p × (f1 ≡ all_noted f0 (all_broken (read_all l parts)))
-    → ((t : Term) (ts : List Term) → AreRead (t ∷ ts) p → IfOk s (λ r. IsRead (join_term (t ∷ ts)) r × (r.count ≡ None) × (f2 ≡ all_noted f1 (join_notes (t ∷ ts)))))
+    → AreRead (read_parts l parts) p × (f1 ≡ all_noted f0 (all_broken (read_parts l parts)))
+    → ((t : Term) (ts : List Term) → AreRead (t ∷ ts) p → IfOk s (λ r. IsRead (join_term (t ∷ ts)) r × (r.count ≡ None) × (f2 ≡ all_noted f1 (join_notes (t ∷ ts))) × (r.signs ≡ no_signs)))
     → IfOk s (Reads l (join parts) f0 f2)
 join-reads l no_trees f0 f1 f2 p s some h k = absurd some
 join-reads l (and_trees a rest) f0 f1 f2 p s some h k = ok-map s
-    (λ r i. (open-read (piece l (join (and_trees a rest))) r refl i.0 i.1, then-noted f0 f1 f2 (all_broken (read_all l (and_trees a rest))) (join_notes (read_all l (and_trees a rest))) h.1 i.2))
-    (k (read l a) (read_all l rest) h.0)
+    (λ r i. (open-read (piece l (join (and_trees a rest))) r refl i.0 i.1 i.3, then-noted f0 f1 f2 (all_broken (read_parts l (and_trees a rest))) (join_notes (read_parts l (and_trees a rest))) h.1 i.2))
+    (k (as_part (piece l a)) (read_parts l rest) h.0)
 
 repeat-broken : (l : Look) (n : ExprTree) (parts : ExprTrees) (f0 f1 f2 f3 f4 : Noted) → IsFit l → AreFormed parts → f1 ≡ all_noted f0 (at_once (piece l n))
-    → f2 ≡ all_noted f1 (pending (piece l n) ++ breaks_if (not (read l n).is_constant) 307 []) → f3 ≡ all_noted f2 (all_broken (read_all l parts))
-    → f4 ≡ all_noted f3 (count_notes (read l n) ++ repeat_notes (read l n) (read_all l parts)) → f4 ≡ all_noted f0 (repeat_term (read l n) (read_all l parts)).broken
+    → f2 ≡ all_noted f1 (pending (piece l n) ++ breaks_if (not (read l n).is_constant) 307 []) → f3 ≡ all_noted f2 (all_broken (read_parts l parts))
+    → f4 ≡ all_noted f3 (count_notes (read l n) ++ repeat_notes (read l n) (read_parts l parts)) → f4 ≡ all_noted f0 (repeat_term (read l n) (read_parts l parts)).broken
 repeat-broken l n parts f0 f1 f2 f3 f4 is formed e1 e2 e3 e4 = then-noted f0 (all_noted f3 (low ++ zero_)) f4 ((as_count t).broken ++ all_broken ts) (repeat_notes t ts) before (e4 ∙ noted-both f3 (low ++ zero_) (repeat_notes t ts))
   where
     t : Term
     t = read l n
 
     ts : List Term
-    ts = read_all l parts
+    ts = read_parts l parts
 
     low : List Broken
     low = bound_notes t
@@ -175,14 +182,14 @@ repeat-broken l n parts f0 f1 f2 f3 f4 is formed e1 e2 e3 e4 = then-noted f0 (al
 
 pub repeat-reads : (l : Look) (n : ExprTree) (parts : ExprTrees) (f0 f1 f2 f3 f4 : Noted) (c : Resolved) (p : Parts) (s : Result Resolved NoMemory) → IsFit l → AreSome parts → AreFormed parts
     → f1 ≡ all_noted f0 (at_once (piece l n)) → IsRead (as_constant (read l n)) c → f2 ≡ all_noted f1 (pending (piece l n) ++ breaks_if (not (read l n).is_constant) 307 [])
-    → AreRead (read_all l parts) p × (f3 ≡ all_noted f2 (all_broken (read_all l parts)))
+    → AreRead (read_parts l parts) p × (f3 ≡ all_noted f2 (all_broken (read_parts l parts)))
     → ((k t : Term) (ts : List Term) → IsRead (as_constant k) c → AreRead (t ∷ ts) p
-    → IfOk s (λ r. IsRead (repeat_term k (t ∷ ts)) r × (r.count ≡ None) × (f4 ≡ all_noted f3 (count_notes k ++ repeat_notes k (t ∷ ts)))))
+    → IfOk s (λ r. IsRead (repeat_term k (t ∷ ts)) r × (r.count ≡ None) × (f4 ≡ all_noted f3 (count_notes k ++ repeat_notes k (t ∷ ts))) × (r.signs ≡ no_signs)))
     → IfOk s (Reads l (repeat n parts) f0 f4)
 repeat-reads l n no_trees f0 f1 f2 f3 f4 c p s is some formed e1 h e2 g k = absurd some
 repeat-reads l n (and_trees a rest) f0 f1 f2 f3 f4 c p s is some formed e1 h e2 g k = ok-map s
-    (λ r i. (open-read (piece l (repeat n (and_trees a rest))) r refl i.0 i.1, repeat-broken l n (and_trees a rest) f0 f1 f2 f3 f4 is formed e1 e2 g.1 i.2))
-    (k (read l n) (read l a) (read_all l rest) h g.0)
+    (λ r i. (open-read (piece l (repeat n (and_trees a rest))) r refl i.0 i.1 i.3, repeat-broken l n (and_trees a rest) f0 f1 f2 f3 f4 is formed e1 e2 g.1 i.2))
+    (k (read l n) (as_part (piece l a)) (read_parts l rest) h g.0)
 
 -- ---- parts, one after another
 
@@ -196,18 +203,18 @@ all-more (u ∷ ts) t = ap (λ bs. u.broken ++ bs) (all-more ts t) ∙ sym (appe
 -- what is read so far, and what is left
 pub record IsPartly (l : Look) (all rest : List Expr) (old new : Noted) (p : Parts) : Type 0 where
   pub done : List Term
-  pub terms : done ++ read_all l (trees rest) ≡ read_all l (trees all)
+  pub terms : done ++ read_parts l (trees rest) ≡ read_parts l (trees all)
   pub formed : AreFormed (trees rest)
   pub read : AreRead done p
   pub notes : new ≡ all_noted old (all_broken done)
 
 pub next-part : (l : Look) (all rest : List Expr) (x : Expr) (f0 f1 f2 f3 : Noted) (p q : Parts) (r : Resolved) → IsPartly l all (x ∷ rest) f0 f1 p
-    → f2 ≡ all_noted f1 (at_once (piece l (tree_of x))) → f3 ≡ all_noted f2 (pending (piece l (tree_of x))) → IsRead (read l (tree_of x)) r
+    → f2 ≡ all_noted f1 (at_once (piece l (tree_of x))) → f3 ≡ all_noted f2 (pending (piece l (tree_of x)) ++ breaks_if (piece l (tree_of x)).signs.is_unsized 308 []) → IsRead (as_part (piece l (tree_of x))) r
     → ((ts : List Term) (t : Term) → AreRead ts p → IsRead t r → AreRead (ts ++ t ∷ []) q) → IsPartly l all rest f0 f3 q
-next-part l all rest x f0 f1 f2 f3 p q r h e1 e2 i k = let t = read l (tree_of x) in record {
+next-part l all rest x f0 f1 f2 f3 p q r h e1 e2 i k = let t = as_part (piece l (tree_of x)) in record {
   done = h.done ++ t ∷ [];
-  terms = append_assoc h.done (t ∷ []) (read_all l (trees rest)) ∙ h.terms;
+  terms = append_assoc h.done (t ∷ []) (read_parts l (trees rest)) ∙ h.terms;
   formed = h.formed.1;
   read = k h.done t h.read i;
-  notes = then-noted f0 f1 f3 (all_broken h.done) t.broken h.notes (settled-after f1 f2 f3 (piece l (tree_of x)) e1 e2) ∙ ap (all_noted f0) (sym (all-more h.done t));
+  notes = then-noted f0 f1 f3 (all_broken h.done) t.broken h.notes (part-after f1 f2 f3 (piece l (tree_of x)) e1 e2) ∙ ap (all_noted f0) (sym (all-more h.done t));
 }

@@ -1,5 +1,5 @@
 -- The flat design as it grows: what the tables show of the definition's stage.
-use Rattle.std.specs.Prelude.{◌≡◌, ℕ, ◌^◌, ◌<◌, Bool, true, false, cond, ◌==◌, List, [], ◌∷◌, map, Option, Some, None, is_some, unwrap_or, Result, Ok, Err, option_map, option_and_then, slice_get, bytes_eq}
+use Rattle.std.specs.Prelude.{◌≡◌, ℕ, ◌<◌, false, cond, ◌==◌, List, [], ◌∷◌, map, Option, Some, None, is_some, unwrap_or, Result, Ok, Err, option_map, option_and_then, slice_get, bytes_eq}
 use Rattle.std.specs.Option.{option_map_or}
 use Rattle.indexmap.specs.IndexMap.{IndexMap}
 use Rattle.cdc_base.specs.declared.signal.ResetPin.{ResetPin}
@@ -18,9 +18,7 @@ use Rattle.flat_unfolding.specs.Starts.{given_bit}
 use Rattle.flat_unfolding.specs.Widths.{KeepsSizes}
 use Rattle.flat_unfolding.specs.Design as u
 use Rattle.flat_unfolding.specs.Design.{Start, Given, Stage}
-use Rattle.flat_names.specs.declared.scope.Memory as a
 use Rattle.flat_names.specs.declared.scope.Meaning.{Meaning}
-use Rattle.flat_names.specs.declared.scope.Meaning.TheVariants as m
 use Rattle.flat_names.specs.declared.design.Reset.{Reset}
 use Rattle.flat_names.specs.declared.design.Entry.{Entry}
 use Rattle.flat_names.specs.declared.design.Design.{Design}
@@ -29,7 +27,6 @@ use Rattle.flat_names.specs.Looks.{meaning_of, kept_in, seen, shown}
 -- the names of a module
 pub record ShowsNames {S : Type 0} (table : IndexMap Text Meaning S) (names : n.Names) : Type 0 where
   pub kept : (x : Text) → option_map meaning_of (kept_in table x) ≡ found_in names x
-  pub indices : (x : Text) (w : a.Memory) → kept_in table x ≡ Some (m.Memory w) → 2 ^ w.index_width ≡ w.words
 
 -- a signal before it is known which signals are registers
 abbrev pub signal_of : n.Entry → Signal

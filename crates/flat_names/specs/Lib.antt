@@ -1,5 +1,6 @@
 pub mod Noting
 pub mod Looks
+pub mod Signs
 pub mod Pieces
 pub mod Selects
 pub mod Designs

@@ -1,5 +1,5 @@
 -- What expressions and targets are read in: the tables of names and signals, and the definition's look that they show.
-use Rattle.std.specs.Prelude.{◌≡◌, ℕ, ◌+◌, ◌^◌, ◌<◌, ◌≤◌, Bool, true, false, not, cond, ◌&&◌, ◌||◌, ◌==◌, List, length, map, Option, None, Some, option_map, option_and_then, slice_get}
+use Rattle.std.specs.Prelude.{◌≡◌, ℕ, ◌+◌, ◌^◌, ◌<◌, ◌≤◌, Bool, true, false, not, cond, ◌&&◌, ◌||◌, ◌==◌, length, map, Option, None, Some, option_map, option_and_then, slice_get}
 use Rattle.std.specs.Cmp.Lexicographic.{pointwise}
 use Rattle.indexmap.specs.IndexMap.{IndexMap, get_by}
 use Rattle.cdc_base.specs.declared.signal.ResetPin.{ResetPin}
@@ -27,7 +27,7 @@ abbrev pub range_of : Bounds → Range
 range_of b = record { left = b.left; right = b.right }
 
 abbrev pub param_of : Param → n.Param
-param_of p = record { value = p.value; width = p.width; is_counted = p.counted; range = option_map range_of p.bounds }
+param_of p = record { value = p.value; width = p.width; is_counted = p.counted; is_signed = p.signed; range = option_map range_of p.bounds }
 
 abbrev pub memory_of : Memory → n.Memory
 memory_of a = record { first = a.first; words = a.words }
@@ -36,14 +36,14 @@ abbrev pub meaning_of : Meaning → n.Meaning
 meaning_of (m.Param p) = n.a_param (param_of p)
 meaning_of (m.Signal s) = n.a_signal s
 meaning_of (m.Memory a) = n.a_memory (memory_of a)
-meaning_of m.Instance = n.an_instance
+meaning_of m.NoValue = n.no_value
 
 abbrev pub direction_of : Role → Direction
 direction_of r.Inner = n.inner
 direction_of r.Input = n.inward
 direction_of r.Output = n.outward
 
--- what a table has for a name, and what it stands for in an expression or a target: an instance's name stands for no value
+-- what a table has for a name, and what it stands for in an expression or a target: an instance or a memory's word by its printed name for no value
 abbrev pub kept_in : {S : Type 0} → IndexMap Text Meaning S → Text → Option Meaning
 kept_in names x = get_by (pointwise ◌==◌ x) names
 
@@ -51,7 +51,7 @@ abbrev pub as_value : Meaning → Option Meaning
 as_value (m.Param p) = Some (m.Param p)
 as_value (m.Signal s) = Some (m.Signal s)
 as_value (m.Memory a) = Some (m.Memory a)
-as_value m.Instance = None
+as_value m.NoValue = None
 
 abbrev pub meant : {S : Type 0} → IndexMap Text Meaning S → Text → Option Meaning
 meant names x = option_and_then as_value (kept_in names x)
@@ -101,7 +101,6 @@ takes_seen of_registers s = s.is_reg
 -- the tables show the definition's look
 pub record Shows (k : Look) (l : n.Look) : Type 0 where
   pub names : (x : Text) → option_map meaning_of (kept_in k.names.now x) ≡ found_in l.names x
-  pub indices : (x : Text) (a : Memory) → kept_in k.names.now x ≡ Some (m.Memory a) → 2 ^ a.index_width ≡ a.words
   pub entries : map seen k.entries.now ≡ map shown l.entries
   pub active : k.active ≡ l.active
 

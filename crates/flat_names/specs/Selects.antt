@@ -1,7 +1,7 @@
 -- Selects of what a name stands for.
-use Rattle.std.specs.Prelude.{◌≡◌, ℕ, ◌^◌, ◌<◌, ◌≤◌, Bool, true, false, cond, ◌&&◌, nat_le, List, [], ◌++◌, Option, Some, None, is_none, option_map, option_and_then}
+use Rattle.std.specs.Prelude.{◌≡◌, ℕ, ◌^◌, Bool, true, false, cond, ◌&&◌, nat_le, List, [], ◌++◌, Option, Some, None, is_none, option_map, option_and_then}
 use Rattle.flat_unfolding.specs.Outcome.{Text, Broken, breaks, breaks_if}
-use Rattle.flat_unfolding.specs.Names.{Range, Param, Meaning, a_param, a_signal, a_memory, Look, meaning, range_at, whole_of, unknown}
+use Rattle.flat_unfolding.specs.Names.{Range, Param, Meaning, a_param, a_signal, a_memory, Look, range_at, whole_of, unknown}
 use Rattle.flat_meaning.specs.Flat.{Expr, Number}
 use Rattle.flat_form.specs.View.{expr_of}
 use Rattle.flat_form.specs.Sizes.{is_sized}
@@ -10,7 +10,9 @@ use Rattle.flat_unfolding.specs.Constants.{own_value, within, if_counted}
 use Rattle.flat_names.specs.declared.resolved.Resolved.{Resolved}
 use Rattle.flat_names.specs.Noting.{Noted, all_noted}
 use Rattle.flat_names.specs.Pieces.{Piece, IsRead}
-use Rattle.flat_unfolding.specs.Expressions.{Term, is_sound, constant, variable, spoilt, no_expr, as_constant, as_bound, range_of, Select, part_select, param_bits, signal_bits, param_index, signal_index, memory_index}
+use Rattle.flat_names.specs.Signs.{no_signs, is_whole_size}
+use Rattle.flat_unfolding.specs.Signs.{meant_signed}
+use Rattle.flat_unfolding.specs.Expressions.{Term, is_sound, constant, variable, spoilt, no_expr, as_constant, Select, part_select, param_bits, signal_bits, param_index, signal_index, memory_index}
 
 -- ---- a name alone, by what it stands for
 
@@ -25,6 +27,7 @@ name_piece l x m = record {
   term = name_at l x m;
   size = option_map (λ (p : Param). p.width) (option_and_then if_counted m);
   whole = option_and_then (λ (p : Param). within p.width p.value) (option_and_then if_counted m);
+  signs = record { is_signed = meant_signed m; leans = false; is_unsized = is_whole_size (option_map (λ (p : Param). p.width) (option_and_then if_counted m)) };
 }
 
 -- ---- an index of what a name stands for
@@ -78,6 +81,6 @@ part_notes x r (Some p) = breaks_if (is_none (part_select r p)) 314 x
 abbrev pub StandsFor : FExpr → Expr → Type 0
 StandsFor e x = (expr_of e ≡ x) × (is_sized e ≡ true)
 
--- the select behind what was broken before it: what it breaks itself is noted
+-- the select behind what was broken before it: what it breaks itself is noted, and it is unsigned with a size of its own
 abbrev pub IsSelected : List Broken → Term → (old new : Noted) → Resolved → Type 0
-IsSelected bs t old new r = IsRead (behind bs t) r × (r.count ≡ None) × (new ≡ all_noted old t.broken)
+IsSelected bs t old new r = IsRead (behind bs t) r × (r.count ≡ None) × (new ≡ all_noted old t.broken) × (r.signs ≡ no_signs)

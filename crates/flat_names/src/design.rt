@@ -34,7 +34,7 @@ pub struct Entry {
     pub width: u8,
     pub is_reg: bool,
     pub role: Role,
-    /// A plain output of the old style, which may be declared once more.
+    /// A plain port of the old style, which may be declared once more.
     pub is_open: bool,
     pub reset: Option<Reset>,
     pub start: Option<u64>,

@@ -5,21 +5,23 @@ ghost use Rattle.flat_unfolding.specs.Outcome.{Text};
 ghost use Rattle.flat_unfolding.specs.Names as meanings;
 ghost use Rattle.flat_unfolding.specs.Names.{unknown};
 ghost use Rattle.flat_unfolding.specs.Constants.{is_counted};
-ghost use Rattle.flat_unfolding.specs.Expressions.{all_broken, as_constant, read as read_tree, read_all};
+ghost use Rattle.flat_unfolding.specs.Expressions.{all_broken, as_constant, read as read_tree, read_parts};
 ghost use Rattle.flat_unfolding.specs.Formed.{IsFormed, AreFormed};
 ghost use Rattle.flat_names.specs.Noting.{all_noted};
 ghost use Rattle.flat_names.specs.Looks.{param_of, Shows, IsFitParam, IsFit};
 ghost use Rattle.flat_names.specs.Pieces.{piece, IsPiece, IsRead, AreRead, at_once};
 ghost use Rattle.flat_names.specs.Selects.{name_piece};
+ghost use Rattle.flat_names.specs.Signs.{signs_of};
 
 use crate::fault::{Faults, Rule};
 use crate::resolved::{
     Parts, Resolved, binary, choose, counted_number, join, nothing, repeat, settled,
-    settled_constant, unary,
+    settled_constant, settled_part, unary,
 };
 use crate::scope::{Look, Meaning, Param};
 use crate::select::{index_read, part_read};
-use cdc_base::{Name, NoMemory};
+use crate::signs::Signs;
+use cdc_base::{Name, NoMemory, NumberSize};
 use flat_form::flat::FExpr;
 use verilog_ast::Expr;
 
@@ -30,11 +32,7 @@ pub fn part_of(look: &Look, expr: &Expr, faults: &mut Faults) -> Result<Resolved
         → IfOk result (λ r. IsPiece (piece l (tree_of expr.now)) r × (faults.new ≡ all_noted faults.old (at_once (piece l (tree_of expr.now))))) }
 {
     match expr {
-        Expr::Number {
-            value,
-            width,
-            plain,
-        } => Ok(number(*value, *width, *plain)),
+        Expr::Number { value, width, size } => Ok(number(*value, *width, *size)),
         Expr::Ident(name) => named(look, name, faults),
         Expr::At { name, index } => {
             note_unknown(look, name, faults)?;
@@ -78,11 +76,11 @@ pub fn part_of(look: &Look, expr: &Expr, faults: &mut Faults) -> Result<Resolved
 #[cycle(resolve)]
 fn parts_of(look: &Look, exprs: &[Expr], faults: &mut Faults) -> Result<Parts, NoMemory>
     ensures { (l : meanings.Look) → Shows look.now l → IsFit l → AreFormed (trees_of (map tree_of exprs.now))
-        → IfOk result (λ p. AreRead (read_all l (trees_of (map tree_of exprs.now))) p × (faults.new ≡ all_noted faults.old (all_broken (read_all l (trees_of (map tree_of exprs.now)))))) }
+        → IfOk result (λ p. AreRead (read_parts l (trees_of (map tree_of exprs.now))) p × (faults.new ≡ all_noted faults.old (all_broken (read_parts l (trees_of (map tree_of exprs.now)))))) }
 {
     let mut parts = Parts::new(look.alloc);
     for expr in exprs {
-        let part = settled(part_of(look, expr, faults)?, faults)?;
+        let part = settled_part(part_of(look, expr, faults)?, faults)?;
         parts.add(part)?;
     }
     Ok(parts)
@@ -91,7 +89,7 @@ fn parts_of(look: &Look, exprs: &[Expr], faults: &mut Faults) -> Result<Parts, N
 /// The expression by itself.
 pub fn resolve(look: &Look, expr: &Expr, faults: &mut Faults) -> Result<Resolved, NoMemory>
     ensures { (l : meanings.Look) → Shows look.now l → IsFit l → IsFormed (tree_of expr.now)
-        → IfOk result (λ r. IsRead (read_tree l (tree_of expr.now)) r × (faults.new ≡ all_noted faults.old (read_tree l (tree_of expr.now)).broken) × (is_some r.count ≡ is_counted l.names (tree_of expr.now))) }
+        → IfOk result (λ r. IsRead (read_tree l (tree_of expr.now)) r × (faults.new ≡ all_noted faults.old (read_tree l (tree_of expr.now)).broken) × (is_some r.count ≡ is_counted l.names (tree_of expr.now)) × (r.signs ≡ signs_of l.names (tree_of expr.now))) }
 {
     let resolved = part_of(look, expr, faults)?;
     settled(resolved, faults)
@@ -100,19 +98,19 @@ pub fn resolve(look: &Look, expr: &Expr, faults: &mut Faults) -> Result<Resolved
 /// The expression by itself, which has to be a constant.
 pub fn resolve_constant(look: &Look, expr: &Expr, faults: &mut Faults) -> Result<Resolved, NoMemory>
     ensures { (l : meanings.Look) → Shows look.now l → IsFit l → IsFormed (tree_of expr.now)
-        → IfOk result (λ r. IsRead (as_constant (read_tree l (tree_of expr.now))) r × (faults.new ≡ all_noted faults.old (as_constant (read_tree l (tree_of expr.now))).broken) × (is_some r.count ≡ is_counted l.names (tree_of expr.now))) }
+        → IfOk result (λ r. IsRead (as_constant (read_tree l (tree_of expr.now))) r × (faults.new ≡ all_noted faults.old (as_constant (read_tree l (tree_of expr.now))).broken) × (is_some r.count ≡ is_counted l.names (tree_of expr.now)) × (r.signs ≡ signs_of l.names (tree_of expr.now))) }
 {
     let resolved = part_of(look, expr, faults)?;
     settled_constant(resolved, faults)
 }
 
-fn number(value: u64, width: u8, plain: bool) -> Resolved
-    ensures { (l : meanings.Look) → IsFormed (number_tree value width plain) → IsPiece (piece l (number_tree value width plain)) result }
+fn number(value: u64, width: u8, size: NumberSize) -> Resolved
+    ensures { (l : meanings.Look) → IsFormed (number_tree value width size) → IsPiece (piece l (number_tree value width size)) result }
 {
-    if plain {
-        counted_number(value, width)
-    } else {
-        Resolved::constant(FExpr::Number { value, width })
+    match size {
+        NumberSize::Plain => counted_number(value, width, Signs::of_number()),
+        NumberSize::Unsized => Resolved::constant(FExpr::Number { value, width }, Signs::based()),
+        NumberSize::Sized => Resolved::constant(FExpr::Number { value, width }, Signs::none()),
     }
 }
 
@@ -138,7 +136,7 @@ fn named(look: &Look, name: &Name, faults: &mut Faults) -> Result<Resolved, NoMe
             faults.note(Rule::Memory, name.as_str())?;
             Ok(Resolved::broken(nothing(), false))
         }
-        Some(Meaning::Instance) | None => {
+        Some(Meaning::NoValue) | None => {
             faults.note(Rule::UnknownName, name.as_str())?;
             Ok(Resolved::broken(nothing(), false))
         }
@@ -148,12 +146,18 @@ fn named(look: &Look, name: &Name, faults: &mut Faults) -> Result<Resolved, NoMe
 fn parameter(param: Param) -> Resolved
     ensures { (l : meanings.Look) (x : Text) → IsFitParam (param_of param) → IsPiece (name_piece l x (Some (meanings.a_param (param_of param)))) result }
 {
+    let signs = Signs {
+        is_signed: param.signed,
+        leans: false,
+        is_unsized: param.counted && param.width == 32,
+    };
     if param.counted {
-        counted_number(param.value, param.width)
+        counted_number(param.value, param.width, signs)
     } else {
-        Resolved::constant(FExpr::Number {
+        let number = FExpr::Number {
             value: param.value,
             width: param.width,
-        })
+        };
+        Resolved::constant(number, signs)
     }
 }

@@ -8,3 +8,4 @@ pub mod printed;
 pub mod resolved;
 pub mod scope;
 pub mod select;
+pub mod signs;

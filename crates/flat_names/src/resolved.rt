@@ -11,9 +11,11 @@ ghost use Rattle.flat_unfolding.specs.Names.{Look};
 ghost use Rattle.flat_unfolding.specs.Constants.{both, within as within_of, own_value as value_of};
 ghost use Rattle.flat_unfolding.specs.Expressions.{Term, is_sound as is_sound_term, all_sound, joined, as_constant, as_count, join_term, repeat_term, is_whole_only as is_whole_only_of};
 ghost use Rattle.flat_names.specs.Noting.{all_noted};
-ghost use Rattle.flat_names.specs.Pieces.{Piece, IsPiece, IsRead, IsFitPiece, Makes, AreRead, pending, numbered, flagged, unary_piece, binary_piece, choice_piece, binary_notes, choice_notes, within_word, join_notes, count_notes, repeat_notes};
+ghost use Rattle.flat_names.specs.Pieces.{Piece, IsPiece, IsRead, IsFitPiece, Makes, AreRead, pending, numbered, flagged, as_part, unary_piece, binary_piece, choice_piece, binary_notes, choice_notes, within_word, join_notes, count_notes, repeat_notes};
+ghost use Rattle.flat_names.specs.Signs.{no_signs, number_signs, orders_signed as orders_signed_of};
 
 use crate::fault::{Faults, Rule};
+use crate::signs::{Signs, orders_signed};
 use cdc_base::limits::MAX_WIDTH;
 use cdc_base::{List, NoMemory};
 use flat_form::flat::FExpr;
@@ -39,40 +41,44 @@ pub struct Resolved {
     pub is_sound: bool,
     pub is_constant: bool,
     pub count: Option<Count>,
+    pub signs: Signs,
 }
 
 impl Resolved {
-    pub fn constant(expr: FExpr) -> Resolved
-        ensures { result ≡ record { expr = expr; is_sound = true; is_constant = true; count = None } }
+    pub fn constant(expr: FExpr, signs: Signs) -> Resolved
+        ensures { result ≡ record { expr = expr; is_sound = true; is_constant = true; count = None; signs = signs } }
     {
         Resolved {
             expr,
             is_sound: true,
             is_constant: true,
             count: None,
+            signs,
         }
     }
 
     pub fn variable(expr: FExpr) -> Resolved
-        ensures { result ≡ record { expr = expr; is_sound = true; is_constant = false; count = None } }
+        ensures { result ≡ record { expr = expr; is_sound = true; is_constant = false; count = None; signs = no_signs } }
     {
         Resolved {
             expr,
             is_sound: true,
             is_constant: false,
             count: None,
+            signs: Signs::none(),
         }
     }
 
     /// What broke a rule. Signals that are read below it are in `expr`.
     pub fn broken(expr: FExpr, is_constant: bool) -> Resolved
-        ensures { result ≡ record { expr = expr; is_sound = false; is_constant = is_constant; count = None } }
+        ensures { result ≡ record { expr = expr; is_sound = false; is_constant = is_constant; count = None; signs = no_signs } }
     {
         Resolved {
             expr,
             is_sound: false,
             is_constant,
             count: None,
+            signs: Signs::none(),
         }
     }
 
@@ -91,8 +97,8 @@ pub fn nothing() -> FExpr
 }
 
 /// A plain number or a counted parameter.
-pub fn counted_number(value: u64, width: u8) -> Resolved
-    ensures { result ≡ numbered (within_of width value) value width }
+pub fn counted_number(value: u64, width: u8, signs: Signs) -> Resolved
+    ensures { result ≡ numbered (within_of width value) value width signs }
 {
     let whole = within(width, value);
     Resolved {
@@ -100,12 +106,13 @@ pub fn counted_number(value: u64, width: u8) -> Resolved
         is_sound: whole.is_some(),
         is_constant: true,
         count: Some(Count { whole }),
+        signs,
     }
 }
 
 /// A counted expression of own size 32 is whole, so it counts as a number.
 fn whole_number(whole: Option<u64>) -> Resolved
-    ensures { result ≡ numbered whole (unwrap_or whole 0) 32 }
+    ensures { result ≡ numbered whole (unwrap_or whole 0) 32 number_signs }
 {
     Resolved {
         expr: FExpr::Number {
@@ -115,19 +122,21 @@ fn whole_number(whole: Option<u64>) -> Resolved
         is_sound: whole.is_some(),
         is_constant: true,
         count: Some(Count { whole }),
+        signs: Signs::of_number(),
     }
 }
 
 /// A counted expression of own size 1, sound where its parts are: it has its meaning by the sizes, unless it stands in
 /// a whole expression.
-fn counted_flag(expr: FExpr, is_sound: bool, whole: Option<u64>) -> Resolved
-    ensures { result ≡ flagged expr is_sound whole }
+fn counted_flag(expr: FExpr, is_sound: bool, whole: Option<u64>, signs: Signs) -> Resolved
+    ensures { result ≡ flagged expr is_sound whole signs }
 {
     Resolved {
         expr,
         is_sound,
         is_constant: true,
         count: Some(Count { whole }),
+        signs,
     }
 }
 
@@ -150,13 +159,33 @@ pub fn settled_constant(resolved: Resolved, faults: &mut Faults) -> Result<Resol
     ensures read { (p : Piece) → IsPiece p resolved → IsFitPiece p
         → IfOk result (λ r. IsRead (as_constant p.term) r × (faults.new ≡ all_noted faults.old (pending p ++ breaks_if (not p.term.is_constant) 307 []))) }
     ensures counted { (p : Piece) → IsPiece p resolved → IsFitPiece p → IfOk result (λ r. is_some r.count ≡ is_some p.size) }
+    ensures signs { (p : Piece) → IsPiece p resolved → IsFitPiece p → IfOk result (λ r. r.signs ≡ p.signs) }
 {
     let resolved = settled(resolved, faults)?;
     if resolved.is_constant {
         return Ok(resolved);
     }
     faults.note(Rule::ConstantOutOfRange, "")?;
-    Ok(Resolved::broken(resolved.expr, false))
+    Ok(Resolved {
+        is_sound: false,
+        ..resolved
+    })
+}
+
+/// Judges a part of a concatenation or a replication, which needs a size of its own.
+pub fn settled_part(resolved: Resolved, faults: &mut Faults) -> Result<Resolved, NoMemory>
+    ensures { (p : Piece) → IsPiece p resolved → IsFitPiece p
+        → IfOk result (λ r. IsRead (as_part p) r × (faults.new ≡ all_noted faults.old (pending p ++ breaks_if p.signs.is_unsized 308 []))) }
+{
+    let part = settled(resolved, faults)?;
+    if part.signs.is_unsized {
+        faults.note(Rule::Width, "")?;
+        return Ok(Resolved {
+            is_sound: false,
+            ..part
+        });
+    }
+    Ok(part)
 }
 
 pub fn unary(alloc: Global, op: UnaryOp, a: Resolved) -> Result<Resolved, NoMemory>
@@ -168,12 +197,14 @@ pub fn unary(alloc: Global, op: UnaryOp, a: Resolved) -> Result<Resolved, NoMemo
         let whole = whole_unary(op, count.whole, size);
         return counted_unary(alloc, op, a, width, whole);
     }
+    let signs = Signs::of_unary(op, a.signs);
     let expr = unary_expr(alloc, op, a.expr, width)?;
     Ok(Resolved {
         expr,
         is_sound: a.is_sound,
         is_constant: a.is_constant,
         count: None,
+        signs,
     })
 }
 
@@ -191,8 +222,9 @@ fn counted_unary(
         return Ok(whole_number(whole));
     }
     let is_sound = a.is_sound;
+    let signs = Signs::of_unary(op, a.signs);
     let expr = unary_expr(alloc, op, a.expr, width)?;
-    Ok(counted_flag(expr, is_sound, whole))
+    Ok(counted_flag(expr, is_sound, whole, signs))
 }
 
 fn unary_expr(alloc: Global, op: UnaryOp, a: FExpr, width: u8) -> Result<FExpr, NoMemory>
@@ -229,21 +261,24 @@ fn open_binary(
     faults: &mut Faults,
 ) -> Result<Resolved, NoMemory>
     ensures { (l : Look) (p q : Piece) → IsPiece p a → IsFitPiece p → IsPiece q b → IsFitPiece q → both (λ j k. k) p.size q.size ≡ None
-        → IfOk result (λ r. IsPiece (binary_piece l op p q) r × (faults.new ≡ all_noted faults.old (pending p ++ pending q ++ breaks_if (is_whole_only_of op) 307 []))) }
+        → IfOk result (λ r. IsPiece (binary_piece l op p q) r × (faults.new ≡ all_noted faults.old (pending p ++ pending q ++ breaks_if (is_whole_only_of op) 307 [] ++ breaks_if (orders_signed_of op p.signs q.signs) 307 []))) }
 {
     let a = settled(a, faults)?;
     let b = settled(b, faults)?;
-    if is_whole_only(op) {
+    let is_broken = is_whole_only(op) || orders_signed(op, a.signs, b.signs);
+    if is_broken {
         faults.note(Rule::ConstantOutOfRange, "")?;
     }
-    let is_sound = a.is_sound && b.is_sound && !is_whole_only(op);
+    let is_sound = a.is_sound && b.is_sound && !is_broken;
     let is_constant = a.is_constant && b.is_constant;
+    let signs = Signs::of_binary(op, a.signs, b.signs);
     let expr = binary_expr(alloc, op, a.expr, b.expr)?;
     Ok(Resolved {
         expr,
         is_sound,
         is_constant,
         count: None,
+        signs,
     })
 }
 
@@ -261,8 +296,9 @@ fn counted_binary(
         return Ok(whole_number(whole));
     }
     let is_sound = a.is_sound && b.is_sound && !is_whole_only(op);
+    let signs = Signs::of_binary(op, a.signs, b.signs);
     let expr = binary_expr(alloc, op, a.expr, b.expr)?;
-    Ok(counted_flag(expr, is_sound, whole))
+    Ok(counted_flag(expr, is_sound, whole, signs))
 }
 
 pub fn binary_expr(alloc: Global, op: BinaryOp, a: FExpr, b: FExpr) -> Result<FExpr, NoMemory>
@@ -310,12 +346,14 @@ fn open_choice(
     let other = settled(other, faults)?;
     let is_sound = cond.is_sound && yes.is_sound && other.is_sound;
     let is_constant = cond.is_constant && yes.is_constant && other.is_constant;
+    let signs = Signs::of_choice(yes.signs, other.signs);
     let expr = choose_expr(alloc, cond.expr, yes.expr, other.expr)?;
     Ok(Resolved {
         expr,
         is_sound,
         is_constant,
         count: None,
+        signs,
     })
 }
 
@@ -334,8 +372,9 @@ fn counted_choice(
         return Ok(whole_number(whole));
     }
     let is_sound = cond.is_sound && yes.is_sound && other.is_sound;
+    let signs = Signs::of_choice(yes.signs, other.signs);
     let expr = choose_expr(alloc, cond.expr, yes.expr, other.expr)?;
-    Ok(counted_flag(expr, is_sound, whole))
+    Ok(counted_flag(expr, is_sound, whole, signs))
 }
 
 pub fn choose_expr(alloc: Global, cond: FExpr, yes: FExpr, other: FExpr) -> Result<FExpr, NoMemory>
@@ -401,7 +440,7 @@ fn joined_width(width: u64, is_sound: bool, faults: &mut Faults) -> Result<Optio
 
 pub fn join(parts: Parts, faults: &mut Faults) -> Result<Resolved, NoMemory>
     ensures { (t : Term) (ts : List Term) → AreRead (t ∷ ts) parts
-        → IfOk result (λ r. IsRead (join_term (t ∷ ts)) r × (r.count ≡ None) × (faults.new ≡ all_noted faults.old (join_notes (t ∷ ts)))) }
+        → IfOk result (λ r. IsRead (join_term (t ∷ ts)) r × (r.count ≡ None) × (faults.new ≡ all_noted faults.old (join_notes (t ∷ ts))) × (r.signs ≡ no_signs)) }
 {
     let width = joined_width(parts.width, parts.is_sound, faults)?;
     Ok(Resolved {
@@ -412,6 +451,7 @@ pub fn join(parts: Parts, faults: &mut Faults) -> Result<Resolved, NoMemory>
         is_sound: width.is_some(),
         is_constant: parts.is_constant,
         count: None,
+        signs: Signs::none(),
     })
 }
 
@@ -434,7 +474,7 @@ fn repetition(count: &Resolved, faults: &mut Faults) -> Result<Option<u64>, NoMe
 /// A replication. The count is settled as a constant.
 pub fn repeat(count: Resolved, parts: Parts, faults: &mut Faults) -> Result<Resolved, NoMemory>
     ensures { (k t : Term) (ts : List Term) → IsRead (as_constant k) count → AreRead (t ∷ ts) parts
-        → IfOk result (λ r. IsRead (repeat_term k (t ∷ ts)) r × (r.count ≡ None) × (faults.new ≡ all_noted faults.old (count_notes k ++ repeat_notes k (t ∷ ts)))) }
+        → IfOk result (λ r. IsRead (repeat_term k (t ∷ ts)) r × (r.count ≡ None) × (faults.new ≡ all_noted faults.old (count_notes k ++ repeat_notes k (t ∷ ts))) × (r.signs ≡ no_signs)) }
 {
     let times = repetition(&count, faults)?;
     let total = times.unwrap_or(0).saturating_mul(parts.width);
@@ -448,6 +488,7 @@ pub fn repeat(count: Resolved, parts: Parts, faults: &mut Faults) -> Result<Reso
         is_sound: width.is_some(),
         is_constant: parts.is_constant,
         count: None,
+        signs: Signs::none(),
     })
 }
 

@@ -50,21 +50,21 @@ impl Bounds {
     }
 }
 
-/// A parameter of a module: its value, its size, and whether it counts as a plain number.
+/// A parameter of a module: its value, its size, whether it counts as a plain number, and whether it is signed.
 #[derive(Clone, Copy, PartialEq, Eq, Debug, Drop)]
 pub struct Param {
     pub value: u64,
     pub width: u8,
     pub counted: bool,
+    pub signed: bool,
     pub bounds: Option<Bounds>,
 }
 
-/// A memory: the number of its first word's signal, the number of its words, and the size of an index.
+/// A memory: the number of its first word's signal, and the number of its words.
 #[derive(Clone, Copy, PartialEq, Eq, Debug, Drop)]
 pub struct Memory {
     pub first: u32,
     pub words: u32,
-    pub index_width: u8,
 }
 
 impl Memory {
@@ -81,13 +81,14 @@ impl Memory {
     }
 }
 
-/// What a name stands for. A signal is given by its number.
+/// What a name stands for. A signal is given by its number; no value is that of an instance, or of a memory's word by
+/// its printed name.
 #[derive(Clone, Copy, PartialEq, Eq, Debug, Drop)]
 pub enum Meaning {
     Param(Param),
     Signal(u32),
     Memory(Memory),
-    Instance,
+    NoValue,
 }
 
 /// The names of one module.
@@ -121,12 +122,12 @@ pub struct Look<'a> {
 }
 
 impl<'a> Look<'a> {
-    /// What a name stands for in an expression or as a target. The name of an instance stands for nothing there.
+    /// What a name stands for in an expression or as a target. A name without a value stands for nothing there.
     pub fn meaning(&self, name: &Name) -> Option<Meaning>
         ensures { result ≡ meant self.now.names.now name.now }
     {
         match self.names.get(name) {
-            Some(Meaning::Instance) | None => None,
+            Some(Meaning::NoValue) | None => None,
             Some(meaning) => Some(*meaning),
         }
     }

@@ -10,13 +10,15 @@ ghost use Rattle.flat_unfolding.specs.Expressions.{Term, bit_select, signal_bits
 ghost use Rattle.flat_names.specs.Noting.{all_noted};
 ghost use Rattle.flat_names.specs.Looks.{range_of, param_of, memory_of, Shows, IsFit, IsFitParam};
 ghost use Rattle.flat_names.specs.Pieces.{IsRead, Makes};
+ghost use Rattle.flat_names.specs.Signs.{no_signs};
 ghost use Rattle.flat_names.specs.Selects.{index_of, part_at, bound_notes, select_of, part_in, part_notes, IsSelected, StandsFor};
 
 use crate::fault::{Faults, Rule};
 use crate::resolved::{Resolved, binary_expr, choose_expr, nothing};
 use crate::scope::{Bounds, Look, Meaning, Memory, Param};
+use crate::signs::Signs;
 use cdc_base::{Name, NoMemory};
-use flat_form::bits::{low_bits, shifted_right};
+use flat_form::bits::{low_bits, shifted_left, shifted_right};
 use flat_form::copy::copy;
 use flat_form::flat::FExpr;
 use flat_form::memory::boxed;
@@ -42,6 +44,20 @@ fn has_all(indices: u64, index_width: u8) -> bool
     ensures { result ≡ nat_le (2 ^ index_width) indices }
 {
     index_width < 64 && shifted_right(indices, u64::from(index_width)) != 0
+}
+
+/// Whether a variable index of this size always meets a word of the memory.
+pub fn may_index_words(memory: Memory, index_width: u8) -> bool
+    ensures { result ≡ nat_le (2 ^ index_width) memory.words }
+{
+    has_all(u64::from(memory.words), index_width)
+}
+
+/// How many values an index of this size has.
+pub fn index_values(index_width: u8) -> u32
+    ensures { 2 ^ index_width < 2 ^ 32 → result ≡ 2 ^ index_width }
+{
+    u32::try_from(shifted_left(1, u64::from(index_width))).unwrap_or(u32::MAX)
 }
 
 /// Bounds that a constant gives, from 0 to 2^31 - 1.
@@ -102,13 +118,14 @@ pub fn index_read(
     faults: &mut Faults,
 ) -> Result<Resolved, NoMemory>
     ensures { (l : LookOf) (t : Term) → Shows look.now l → IsFit l → IsRead t index
-        → IfOk result (λ r. IsRead (index_term l name.now t) r × (r.count ≡ None) × (faults.new ≡ all_noted faults.old (index_of l name.now t (meaning_in l name.now)).broken)) }
+        → IfOk result (λ r. IsRead (index_term l name.now t) r × (r.count ≡ None)
+        × (faults.new ≡ all_noted faults.old (index_of l name.now t (meaning_in l name.now)).broken) × (r.signs ≡ no_signs)) }
 {
     match look.meaning(name) {
         Some(Meaning::Param(param)) => index_of_parameter(param, name, index, faults),
         Some(Meaning::Signal(sig)) => index_of_signal(look, sig, name, index, faults),
         Some(Meaning::Memory(memory)) => index_of_memory(look, memory, name, index, faults),
-        Some(Meaning::Instance) => Ok(Resolved::broken(index.expr, false)),
+        Some(Meaning::NoValue) => Ok(Resolved::broken(index.expr, false)),
         None => Ok(Resolved::broken(index.expr, false)),
     }
 }
@@ -130,7 +147,7 @@ fn index_of_parameter(
         return Ok(Resolved::broken(index.expr, false));
     }
     match offset_in(param.bounds, &index.expr) {
-        Some(at) => Ok(Resolved::constant(bits_of(param, at, 1))),
+        Some(at) => Ok(Resolved::constant(bits_of(param, at, 1), Signs::none())),
         None => {
             faults.note(Rule::IndexOutOfRange, name.as_str())?;
             Ok(Resolved::broken(nothing(), true))
@@ -181,6 +198,7 @@ fn index_of_signal(
         is_sound,
         is_constant: false,
         count: None,
+        signs: Signs::none(),
     })
 }
 
@@ -227,7 +245,7 @@ fn index_of_memory(
     index: Resolved,
     faults: &mut Faults,
 ) -> Result<Resolved, NoMemory>
-    ensures { (l : LookOf) (t : Term) → Shows look.now l → IsFit l → memory.first + memory.words ≤ length l.entries → 2 ^ memory.index_width ≡ memory.words → IsRead t index
+    ensures { (l : LookOf) (t : Term) → Shows look.now l → IsFit l → memory.first + memory.words ≤ length l.entries → IsRead t index
         → IfOk result (λ r. IsSelected t.broken (index_of l name.now t (Some (a_memory (memory_of memory)))) faults.old faults.new r) }
 {
     if !index.is_sound {
@@ -236,7 +254,7 @@ fn index_of_memory(
     if index.is_constant {
         return word_of_memory(look, memory, name, &index.expr, faults);
     }
-    if index.width() != memory.index_width {
+    if !may_index_words(memory, index.width()) {
         faults.note(Rule::IndexMayMiss, name.as_str())?;
         return Ok(Resolved::broken(index.expr, false));
     }
@@ -286,12 +304,12 @@ pub fn is_index(alloc: Global, index: &FExpr, n: u32) -> Result<FExpr, NoMemory>
     Ok(equal)
 }
 
-/// The word that a variable index chooses: the first where the index is 0, and so on up to the last.
+/// The word that a variable index chooses: the first where the index is 0, and so on up to the last that it reaches.
 fn memory_read(look: &Look, memory: Memory, index: &FExpr) -> Result<FExpr, NoMemory>
-    ensures { (l : LookOf) → Shows look.now l → IsFit l → 1 ≤ memory.words → memory.first + memory.words ≤ length l.entries → is_sized index.now ≡ true → memory.words ≤ 2 ^ (kept_of index.now).width
-        → IfOk result (λ e. StandsFor e (words_from l (memory_of memory) (expr_of index.now) 0 (memory.words - 1))) }
+    ensures { (l : LookOf) → Shows look.now l → IsFit l → memory.first + memory.words ≤ length l.entries → is_sized index.now ≡ true → 2 ^ (kept_of index.now).width ≤ memory.words
+        → IfOk result (λ e. StandsFor e (words_from l (memory_of memory) (expr_of index.now) 0 (2 ^ (kept_of index.now).width - 1))) }
 {
-    let mut n = memory.words.saturating_sub(1);
+    let mut n = index_values(width_of(index)).saturating_sub(1);
     let mut read = word_read(look, memory, n);
     while n > 0 {
         n -= 1;
@@ -319,7 +337,7 @@ pub fn part_read(
 ) -> Result<Resolved, NoMemory>
     ensures { (l : LookOf) (t u : Term) → Shows look.now l → IsFit l → IsRead (as_constant t) left.now → IsRead (as_constant u) right.now
         → IfOk result (λ r. IsRead (part_term l name.now t u) r × (r.count ≡ None)
-        × (faults.new ≡ all_noted faults.old (bound_notes t ++ bound_notes u ++ (part_at l name.now (range_between (as_bound t) (as_bound u)) (meaning_in l name.now)).broken))) }
+        × (faults.new ≡ all_noted faults.old (bound_notes t ++ bound_notes u ++ (part_at l name.now (range_between (as_bound t) (as_bound u)) (meaning_in l name.now)).broken)) × (r.signs ≡ no_signs)) }
 {
     let bounds = bounds_of(left, right, faults)?;
     match look.meaning(name) {
@@ -329,7 +347,7 @@ pub fn part_read(
             faults.note(Rule::Memory, name.as_str())?;
             Ok(Resolved::broken(nothing(), false))
         }
-        Some(Meaning::Instance) => Ok(Resolved::broken(nothing(), false)),
+        Some(Meaning::NoValue) => Ok(Resolved::broken(nothing(), false)),
         None => Ok(Resolved::broken(nothing(), false)),
     }
 }
@@ -365,7 +383,7 @@ fn part_of_parameter(
         → IfOk result (λ r. IsSelected bs (part_at l name.now (option_map range_of part) (Some (a_param (param_of param)))) faults.old faults.new r) }
 {
     match part_within(param.bounds, part, name, faults)? {
-        Some((at, width)) => Ok(Resolved::constant(bits_of(param, at, width))),
+        Some((at, width)) => Ok(Resolved::constant(bits_of(param, at, width), Signs::none())),
         None => Ok(Resolved::broken(nothing(), true)),
     }
 }

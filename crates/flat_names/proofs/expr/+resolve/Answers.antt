@@ -16,9 +16,9 @@ use Rattle.flat_names.proofs.expr.+resolve.Goals as goal
 pub part_of-returns-in-Number : goal.part_of-returns-in-Number
 part_of-returns-in-Number t c = λ l shows is formed.
     let n = c.in-Number in
-    let tree = tree-number c.args.expr.now n.value n.width n.plain n.is in
+    let tree = tree-number c.args.expr.now n.value n.width n.size n.is in
     subst (λ e. Reads l e c.args.faults.now c.args.faults.now c.number.result) (sym tree)
-    (c.number.ensures l (subst IsFormed tree formed), number-notes l c.args.faults.now n.value n.width n.plain)
+    (c.number.ensures l (subst IsFormed tree formed), number-notes l c.args.faults.now n.value n.width n.size)
 
 pub part_of-returns-in_ok-index-in-At : goal.part_of-returns-in_ok-index-in-At
 part_of-returns-in_ok-index-in-At t c = λ l shows is formed.
@@ -128,5 +128,4 @@ parts_of-loop-expr-preserved t c = λ l shows is formed.
     let before = subst (λ es. IsPartly l all es c.args.faults.now c.loop-expr.faults c.loop-expr.parts) next (c.loop-expr.invariant l shows is formed) in
     let first = c.in_ok-part_of.ensures l shows is before.formed.0 in
     let second = c.in_ok-part.ensures (piece l (tree_of x)) first.0 (fit l is (tree_of x) before.formed.0) in
-    next-part l all rest x c.args.faults.now c.loop-expr.faults c.part_of.new.faults c.settled.new.faults c.loop-expr.parts c.add.new.self c.in_ok-part.part before first.1 second.1
-    (subst (IsRead (read l (tree_of x))) (sym second.0) first.0.is) c.in_ok-add.ensures
+    next-part l all rest x c.args.faults.now c.loop-expr.faults c.part_of.new.faults c.settled_part.new.faults c.loop-expr.parts c.add.new.self c.in_ok-part.part before first.1 second.1 second.0 c.in_ok-add.ensures

@@ -17,5 +17,6 @@ returns c = λ l shows is formed.
       subst (IsRead (read l e)) (sym i.0) h.0.is,
       settled-after c.args.faults.now c.part_of.new.faults c.settled.new.faults (piece l e) h.1 i.1,
       ap (λ (x : Resolved). is_some x.count) i.0 ∙ counted-same (piece l e) c.in_ok-resolved.resolved h.0,
+      ap (λ (x : Resolved). x.signs) i.0 ∙ h.0.signs,
     ))
     (c.settled.ensures (piece l e) h.0 (fit l is e formed))

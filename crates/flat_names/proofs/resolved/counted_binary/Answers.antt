@@ -25,4 +25,4 @@ returns c = λ l p q j k pa fp qb fq ep eq whole.
       | else-b w ↦ w.is_sound-is ∙ w.if-b.false ∙ sym (ap (λ x. x && not (is_whole_only op)) (sym both ∙ w.if-b.false))
     ] in
     subst (IsPiece (binary_piece l op p q)) (sym c.counted_flag.ensures)
-    (binary-flag l op p q c.args.a c.args.b c.in_ok-expr.expr j k c.if-b.is_sound c.args.whole pa fp qb fq ep eq (sym size ∙ c.if-binary_size-ne1.false) whole c.in_ok-expr.ensures sound)
+    (binary-flag l op p q c.args.a c.args.b c.in_ok-expr.expr j k c.if-b.is_sound c.args.whole c.of_binary-signs.result pa fp qb fq ep eq (sym size ∙ c.if-binary_size-ne1.false) whole c.in_ok-expr.ensures sound c.of_binary-signs.ensures)

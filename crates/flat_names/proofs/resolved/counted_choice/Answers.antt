@@ -21,4 +21,4 @@ returns c = λ l p q o i j k pa fp qb fq oc fo ep eq eo whole.
       | else-yes w ↦ w.is_sound-is ∙ w.if-yes.false ∙ sym (ap (λ x. x && d) (sym both ∙ w.if-yes.false))
     ] in
     subst (IsPiece (choice_piece l p q o)) (sym c.counted_flag.ensures)
-    (choice-flag l p q o c.args.cond c.args.yes c.args.other c.in_ok-expr.expr i j k c.if-yes.is_sound c.args.whole pa fp qb fq oc fo ep eq eo (sym size ∙ c.if-max-ne1.false) whole c.in_ok-expr.ensures sound)
+    (choice-flag l p q o c.args.cond c.args.yes c.args.other c.in_ok-expr.expr i j k c.if-yes.is_sound c.args.whole c.of_choice-signs.result pa fp qb fq oc fo ep eq eo (sym size ∙ c.if-max-ne1.false) whole c.in_ok-expr.ensures sound c.of_choice-signs.ensures)

@@ -29,7 +29,7 @@ returns c = λ l p q o pa fp qb fq oc fo none.
       | then-yes-2 w ↦ w.is_constant-is ∙ sym (ap (λ x. x && d.is_constant) (sym fixed ∙ w.if-yes-2.true))
       | else-yes-2 w ↦ w.is_constant-is ∙ w.if-yes-2.false ∙ sym (ap (λ x. x && d.is_constant) (sym fixed ∙ w.if-yes-2.false))
     ] in (
-      choice-open l p q o a b d c.in_ok-expr.expr _ c.if-yes.is_sound c.if-yes-2.is_constant (subst (IsPiece p) (sym first.0) pa) (subst (IsPiece q) (sym second.0) qb) (subst (IsPiece o) (sym third.0) oc) none
-          c.in_ok-expr.ensures sound constant,
+      choice-open l p q o a b d c.in_ok-expr.expr _ c.if-yes.is_sound c.if-yes-2.is_constant c.of_choice-signs.result (subst (IsPiece p) (sym first.0) pa) (subst (IsPiece q) (sym second.0) qb) (subst (IsPiece o) (sym third.0) oc) none
+          c.in_ok-expr.ensures sound constant c.of_choice-signs.ensures,
       then-noted f0 f2 f3 (pending p ++ pending q) (pending o) (then-noted f0 f1 f2 (pending p) (pending q) first.1 second.1) third.1,
     )

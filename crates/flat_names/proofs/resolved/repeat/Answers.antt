@@ -20,9 +20,10 @@ returns c = λ k t ts is are.
       | then-parts w ↦ w.joined_width-is ∙ w.is_some.ensures ∙ sym (ap (λ x. x && is_some n) w.if-parts.true)
       | else-parts w ↦ w.joined_width-is ∙ w.if-parts.false ∙ sym (ap (λ x. x && is_some n) w.if-parts.false)
     ] in (
-      is-repeated k t ts p n v total c.kept_count.result c.from_vec.result c.unwrap_or-2.result c.is_some-2.result c.if-parts.joined_width are count.0 product both c.in_ok-width.ensures.0 c.kept_count.ensures c.from_vec.ensures
+      is-repeated k t ts p n v total c.kept_count.result c.from_vec.result c.unwrap_or-2.result c.is_some-2.result c.if-parts.joined_width c.none.result are count.0 product both c.in_ok-width.ensures.0 c.kept_count.ensures c.from_vec.ensures
           c.unwrap_or-2.ensures c.is_some-2.ensures,
       refl,
       then-noted c.args.faults.now c.repetition.new.faults c.joined_width.new.faults (count_notes k) (repeat_notes k (t ∷ ts)) count.1
           (c.in_ok-width.ensures.1 ∙ ap (λ b. all_noted c.repetition.new.faults (breaks_if b 308 [])) (ap (λ b. b && nat_lt 64 total) both ∙ repeat-test k t ts p n total are count.0 product)),
+      c.none.ensures,
     )

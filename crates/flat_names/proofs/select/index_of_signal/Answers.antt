@@ -17,5 +17,5 @@ returns c = λ l t h f i is.
     let sig = c.args.sig in
     let r : option_map range_of c.bounds.result ≡ range_at l.entries sig = ap (option_map range_of) c.bounds.ensures ∙ range-is c.args.look.now l h sig in
     let g = c.in_ok-is_sound.ensures in
-    signal-variable l c.args.name.now t c.args.index c.args.faults.now sig c.in_ok-index.index c.in_ok-is_sound.is_sound c.surely_meets.new.faults is c.if-not-index.false c.if-index.false c.in_ok-index.ensures
-    (g.0 ∙ ap₂ may_index r c.width.ensures) g.1
+    signal-variable l c.args.name.now t c.args.index c.args.faults.now sig c.in_ok-index.index c.in_ok-is_sound.is_sound c.none.result c.surely_meets.new.faults is c.if-not-index.false c.if-index.false c.in_ok-index.ensures
+    (g.0 ∙ ap₂ may_index r c.width.ensures) g.1 c.none.ensures

@@ -4,7 +4,7 @@ use Rattle.flat_unfolding.specs.Names.{Meaning, a_param, a_signal, a_memory, mea
 use Rattle.flat_names.specs.declared.scope.Meaning.TheVariants as m
 use Rattle.flat_names.specs.Looks.{param_of, memory_of}
 use Rattle.flat_names.specs.Selects.{index_of}
-use Rattle.flat_names.proofs.Selected.{select-as, means, means-nothing, meant-kept, never-instance, index-all, index-done, index-unknown}
+use Rattle.flat_names.proofs.Selected.{select-as, means, means-nothing, never-no_value, index-all, index-done, index-unknown}
 use Rattle.flat_names.proofs.select.index_read.Goals as goal
 
 pub returns-in-Some-Param : goal.returns-in-Some-Param
@@ -28,12 +28,12 @@ returns-in-Some-Memory c = λ l t h f is.
     let i = c.in-Some-Memory.is ∙ ap Some c.in-Some-Memory.field-0-is in
     let e : meaning l x ≡ Some v = means k l h x (Some (m.Memory a)) (sym i ∙ c.meaning.ensures) in
     index-all l x t c.args.index c.args.faults.now (Some v) c.index_of_memory.new.faults c.index_of_memory.result e
-    (c.index_of_memory.ensures l t h f (f.memories x (memory_of a) e).1 (h.indices x a (meant-kept k x (m.Memory a) (sym c.meaning.ensures ∙ i))) is)
+    (c.index_of_memory.ensures l t h f (f.memories x (memory_of a) e).1 is)
 
-pub returns-in-Some-Instance : goal.returns-in-Some-Instance
-returns-in-Some-Instance c = λ l t h f is.
+pub returns-in-Some-NoValue : goal.returns-in-Some-NoValue
+returns-in-Some-NoValue c = λ l t h f is.
     let k = c.args.look.now in let x = c.args.name.now in let old = c.args.faults.now in
-    let e = means-nothing k l h x (never-instance k x c.meaning.result c.meaning.ensures (c.in-Some-Instance.is ∙ ap Some c.in-Some-Instance.field-0-is)) in
+    let e = means-nothing k l h x (never-no_value k x c.meaning.result c.meaning.ensures (c.in-Some-NoValue.is ∙ ap Some c.in-Some-NoValue.field-0-is)) in
     index-done l x t c.args.index old None old c.broken.result e (select-as (breaks_if true 305 x ++ t.broken) (index_of l x t None) old old old c.broken.result _ refl c.broken.ensures (index-unknown l x t c.args.index old is))
 
 pub returns-in-None : goal.returns-in-None

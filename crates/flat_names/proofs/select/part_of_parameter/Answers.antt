@@ -1,4 +1,4 @@
-use Rattle.std.proofs.Common.{true, Some, sym, ap, ◌∙◌}
+use Rattle.std.proofs.Common.{true, Some, sym, ap, ap₂, ◌∙◌}
 use Rattle.std.specs.Prelude.{option_map}
 use Rattle.flat_form.proofs.Sized.{word_width}
 use Rattle.flat_unfolding.specs.Names.{a_param}
@@ -6,7 +6,7 @@ use Rattle.flat_unfolding.specs.Expressions.{Select}
 use Rattle.flat_names.specs.Looks.{range_of, param_of}
 use Rattle.flat_names.specs.Noting.{all_noted}
 use Rattle.flat_names.specs.Selects.{part_at, part_notes, select_of}
-use Rattle.flat_names.proofs.Selected.{select-as, sound_as, some-map, param-range, part-word, part-param-hit, part-param-missed}
+use Rattle.flat_names.proofs.Selected.{select-as, sound_with, some-map, param-range, part-word, part-param-hit, part-param-missed}
 use Rattle.flat_names.proofs.select.part_of_parameter.Goals as goal
 
 pub returns-in-Some : goal.returns-in-Some
@@ -16,7 +16,7 @@ returns-in-Some c = λ l bs fit b.
     let g = c.in_ok-at.ensures (param-range p fit) in
     let e = ap (option_map select_of) (sym c.in-Some.is) ∙ g.0 in
     let w = (word_width part.bits (part-word l x bs old p.range o part (param-range p fit) e)).most in
-    select-as bs (part_at l x o (Some (a_param p))) old c.part_within.new.faults (all_noted old (part_notes x p.range o)) c.constant.result _ g.1 (c.constant.ensures ∙ ap (λ y. sound_as y true) (c.bits_of.ensures w))
+    select-as bs (part_at l x o (Some (a_param p))) old c.part_within.new.faults (all_noted old (part_notes x p.range o)) c.constant.result _ g.1 (c.constant.ensures ∙ ap₂ (λ g y. sound_with g y true) c.none.ensures (c.bits_of.ensures w))
     (part-param-hit l x bs old p o part fit (b ∙ some-map range_of c.args.part) e)
 
 pub returns-in-None : goal.returns-in-None

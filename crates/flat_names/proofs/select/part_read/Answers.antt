@@ -4,7 +4,7 @@ use Rattle.flat_unfolding.specs.Names.{Meaning, a_param, a_signal, a_memory, mea
 use Rattle.flat_names.specs.declared.scope.Meaning.TheVariants as m
 use Rattle.flat_names.specs.Looks.{range_of, param_of, memory_of}
 use Rattle.flat_names.specs.Selects.{part_at}
-use Rattle.flat_names.proofs.Selected.{select-as, missed, some-map, means, means-nothing, never-instance, part_broken, part-bounds, part-all, part-done, part-memory, part-unknown}
+use Rattle.flat_names.proofs.Selected.{select-as, missed, some-map, means, means-nothing, never-no_value, part_broken, part-bounds, part-all, part-done, part-memory, part-unknown}
 use Rattle.flat_names.proofs.select.part_read.Goals as goal
 
 pub returns-in-Some-Param : goal.returns-in-Some-Param
@@ -33,13 +33,13 @@ returns-in_ok-note-in-Some-Memory c = λ l t u h f a b.
     (select-as bs (part_at l x o (Some v)) mid c.note.new.self (missed mid 319 x) c.broken.result _ (c.in_ok-note-in-Some-Memory.ensures ∙ ap (missed mid 319) c.as_str.ensures) c.broken.ensures
     (part-memory l x bs mid (memory_of c.in-Some-Memory.field-0-0) o c.nothing.result c.nothing.ensures))
 
-pub returns-in-Some-Instance : goal.returns-in-Some-Instance
-returns-in-Some-Instance c = λ l t u h f a b.
+pub returns-in-Some-NoValue : goal.returns-in-Some-NoValue
+returns-in-Some-NoValue c = λ l t u h f a b.
     let x = c.args.name.now in let o = option_map range_of c.in_ok-bounds.bounds in let g = c.in_ok-bounds.ensures t u a b in let mid = c.bounds_of.new.faults in
-    let e = means-nothing c.args.look.now l h x (never-instance c.args.look.now x c.meaning.result c.meaning.ensures (c.in-Some-Instance.is ∙ ap Some c.in-Some-Instance.field-0-is)) in
+    let e = means-nothing c.args.look.now l h x (never-no_value c.args.look.now x c.meaning.result c.meaning.ensures (c.in-Some-NoValue.is ∙ ap Some c.in-Some-NoValue.field-0-is)) in
     let bs = part_broken x None t u in
-    part-done l x t u None o c.args.faults.now mid mid c.broken-in-Some-Instance.result e g.0 g.1
-    (select-as bs (part_at l x o None) mid mid mid c.broken-in-Some-Instance.result _ refl c.broken-in-Some-Instance.ensures (part-unknown l x bs o c.nothing-in-Some-Instance.result mid refl c.nothing-in-Some-Instance.ensures))
+    part-done l x t u None o c.args.faults.now mid mid c.broken-in-Some-NoValue.result e g.0 g.1
+    (select-as bs (part_at l x o None) mid mid mid c.broken-in-Some-NoValue.result _ refl c.broken-in-Some-NoValue.ensures (part-unknown l x bs o c.nothing-in-Some-NoValue.result mid refl c.nothing-in-Some-NoValue.ensures))
 
 pub returns-in-None : goal.returns-in-None
 returns-in-None c = λ l t u h f a b.
