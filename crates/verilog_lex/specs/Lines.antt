@@ -32,8 +32,8 @@ parts_of directive.Line = part.Space ∷ part.Digits ∷ part.Space ∷ part.Tex
 abbrev pub some_bytes : ℕ → Option ℕ
 some_bytes n = if n == 0 then None else Some n
 
--- how many bytes at the front of the line are this part: white space or nothing, white space, digits, lower-case letters, `/`,
--- `wire` or `none`, a string
+-- how many bytes at the front of the line are this part: white space or nothing, white space, digits,
+-- lower-case letters, `/`, `wire` or `none`, a string
 abbrev pub part_length : Part → List ℕ → Option ℕ
 part_length part.Gap line = Some (prefix_len is_blank line)
 part_length part.Space line = some_bytes (prefix_len is_blank line)

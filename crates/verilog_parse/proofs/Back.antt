@@ -93,7 +93,7 @@ joins_back l s op e = ap (at_level l) (binary_back op) ∙ level_back l (binary_
 
 mutual
   back_unary : {u : List Token} {a : ExprTree} → IsUnary u a → Back (λ v. IsUnary v a) (expr_pieces a)
-  back_unary (is_number n) = at_last (λ s. is_number (record { value = n.value; width = n.width; plain = n.plain; spot = s }))
+  back_unary (is_number n) = at_last (λ s. is_number (record { value = n.value; width = n.width; size = n.size; spot = s }))
   back_unary (is_name n) = at_last (λ s. is_name (record { name = n.name; spot = s }))
   back_unary (is_index n p q x) = at_token (λ s. at_token (λ o. at_part (back_expr x) (λ u y. at_last (λ r. is_index (record { name = n.name; spot = s }) o r y))))
   back_unary (is_part n x) = at_token (λ s. at_all (back_range x) (λ u y. is_part (record { name = n.name; spot = s }) y))

@@ -1,7 +1,7 @@
 -- The tokens of a text end with their one end, and can be written.
 use Rattle.std.proofs.Common.{◌≡◌, ℕ, zero, suc, ◌+◌, ◌-◌, ◌==◌, ◌&&◌, ◌||◌, ◌^◌, Bool, true, false, not, List, [], ◌∷◌, length, take, drop, codes, Option, Some, None, refl, sym, ap, subst, ◌∙◌, ◌≢◌, ◌<◌, ◌≤◌, cond, arith, rules, if◌then◌else◌}
 use Rattle.std.specs.Prelude.{Ok, Err, nat_lt, nat_le}
-use Rattle.std.specs.List.{starts_with}
+use Rattle.std.specs.List.{starts_with, list_any}
 use Rattle.std.specs.Char.{is_ascii_digit}
 use Rattle.cdc_base.specs.Bytes.{front, is_blank, is_word_start, in_class}
 use Rattle.cdc_base.specs.declared.bytes.Class.{Class}
@@ -16,21 +16,31 @@ use Rattle.verilog_lex.specs.declared.token.Token.{Token}
 use Rattle.verilog_lex.specs.declared.token.TokenKind.{TokenKind}
 use Rattle.verilog_lex.specs.declared.token.TokenKind.TheVariants as kind
 use Rattle.verilog_lex.specs.Laws.{AllOf}
-use Rattle.verilog_lex.specs.Marks.{is_directive, mark_of}
-use Rattle.verilog_lex.specs.Numbers.{value_in, small, width_of, allowed_width, based_value}
+use Rattle.verilog_lex.specs.Marks.{mark_of}
+use Rattle.verilog_lex.specs.Lines.{directive_of, is_form_of}
+use Rattle.verilog_lex.specs.declared.spans.Within.TheVariants.{Outside}
+use Rattle.cdc_base.specs.declared.size.NumberSize.TheVariants.{Plain, Unsized}
+use Rattle.verilog_lex.specs.Numbers.{value_in, small, closed_value, is_open, base_of, value_by, width_of, allowed_width, plain_of, unsized_of, sized_of, open_in, open_above, mask_or, mask_in, mask_of, based_of}
 use Rattle.verilog_lex.specs.Spans.{behind_comment, attribute_end}
-use Rattle.verilog_lex.specs.Pieces.{piece_of, run, word_or, word_piece, escaped_piece, plain_or, plain_piece, based_or, based_piece, number_piece, directive_piece, mark_or, mark_piece, closed, comment_piece, attribute_piece, is_event, extent}
+use Rattle.verilog_lex.specs.Pieces.{piece_of, run, word_or, word_piece, escaped_piece, number_or, plain_piece, based_piece, number_piece, directive_piece, mark_or, mark_piece, closed, comment_piece, attribute_piece, is_event, extent}
 use Rattle.verilog_lex.specs.Tokens.{tokens_from, tokens_of, joined, Lexed, next_place}
 use Rattle.verilog_reading.specs.Lexemes.{Spot, end_of, end_in}
 use Rattle.verilog_reading.specs.Refusals.{IsEnded}
 use Rattle.std.proofs.Math.Nat.{mod-lt}
 use Rattle.std.proofs.lemmas.Nat.{pow_pos}
-use Rattle.verilog_parse.specs.Written.{IsWritable}
 use Rattle.verilog_parse.proofs.Kept.{CanStand, Stand, s_end, s_more}
 
--- a token that begins a text can be written
+-- a token that begins a text can stand in it, and is no end
+abbrev pub IsRead : TokenKind → Type 0
+IsRead (kind.Word w) = Unit {0}
+IsRead (kind.Ident n) = CanStand (kind.Ident n)
+IsRead (kind.Number v w z) = CanStand (kind.Number v w z)
+IsRead (kind.Mask v x w) = Unit {0}
+IsRead (kind.Mark m) = Unit {0}
+IsRead kind.End = ⊥
+
 abbrev pub Holds : Piece → Type 0
-Holds (piece.Token k n) = IsWritable k
+Holds (piece.Token k n) = IsRead k
 Holds (piece.Blank n) = Unit {0}
 Holds (piece.Broken e w) = Unit {0}
 
@@ -98,18 +108,45 @@ escaped_hold text =
 less : (a b : ℕ) → nat_lt a b ≡ true → a < b
 less a b h = grind (arith, h)
 
-plain_hold : (v : Option ℕ) (n : ℕ) → Holds (plain_or v n)
-plain_hold None n = tt
-plain_hold (Some v) n = either_by (nat_lt v (2 ^ 31)) (piece.Token (kind.Number v 32 true) n) (piece.Broken 103 []) (λ e. (refl, less v (2 ^ 31) e)) (λ e. tt)
+abbrev HoldsIf : Option TokenKind → Type 0
+HoldsIf None = Unit {0}
+HoldsIf (Some k) = IsRead k
+
+number_hold : (k : Option TokenKind) (n : ℕ) → HoldsIf k → Holds (number_or k n)
+number_hold None n h = tt
+number_hold (Some k) n h = h
+
+choice : (c : Bool) (x y : Option TokenKind) → (c ≡ true → HoldsIf x) → (c ≡ false → HoldsIf y) → HoldsIf (if c then x else y)
+choice true x y f g = f refl
+choice false x y f g = g refl
+
+plain_hold : (v : Option ℕ) → HoldsIf (plain_of v)
+plain_hold None = tt
+plain_hold (Some v) = choice (nat_lt v (2 ^ 31)) (Some (kind.Number v 32 Plain)) None (λ e. (refl, less v (2 ^ 31) e)) (λ e. tt)
 
 plains_hold : (digits : List ℕ) → Holds (plain_piece digits)
 unfolding plain_piece
-plains_hold digits = plain_hold (small (value_in 10 0 digits)) (length digits)
+plains_hold digits = number_hold (plain_of (closed_value 10 digits)) (length digits) (plain_hold (closed_value 10 digits))
 
-based_hold : (w v : Option ℕ) (n : ℕ) → ((m : ℕ) → w ≡ Some m → (1 ≤ m) × (m ≤ 64)) → Holds (based_or w v n)
-based_hold None v n h = tt
-based_hold (Some w) None n h = tt
-based_hold (Some w) (Some v) n h = ((h w refl).0, (h w refl).1, mod-lt v (pow_pos w))
+unsized_hold : (v : Option ℕ) → HoldsIf (unsized_of v)
+unsized_hold None = tt
+unsized_hold (Some v) = choice (nat_lt v (2 ^ 32)) (Some (kind.Number v 32 Unsized)) None (λ e. (refl, less v (2 ^ 32) e)) (λ e. tt)
+
+sized_hold_of : (w v : Option ℕ) → ((m : ℕ) → w ≡ Some m → (1 ≤ m) × (m ≤ 64)) → HoldsIf (sized_of w v)
+sized_hold_of None v h = tt
+sized_hold_of (Some w) None h = tt
+sized_hold_of (Some w) (Some v) h = ((h w refl).0, (h w refl).1, mod-lt v (pow_pos w))
+
+mask_or_hold : (w : ℕ) (g v : Option ℕ) (bits : ℕ) → HoldsIf (mask_or w g v bits)
+mask_or_hold w None v bits = tt
+mask_or_hold w (Some g) None bits = tt
+mask_or_hold w (Some g) (Some v) bits = tt
+
+mask_hold : (w base : Option ℕ) (digits : List ℕ) → HoldsIf (mask_of w base digits)
+mask_hold None base digits = tt
+mask_hold (Some w) None digits = tt
+mask_hold (Some w) (Some base) digits = choice (base == 10) None (mask_in w base digits) (λ e. tt)
+    (λ e. mask_or_hold w (small (value_in base (base - 1) 0 digits)) (small (value_in base 0 0 digits)) (open_in base (open_above digits) digits))
 
 within : (m : ℕ) → (nat_le 1 m && nat_le m 64) ≡ true → (1 ≤ m) × (m ≤ 64)
 within m h = (grind (arith, h), grind (arith, h))
@@ -123,8 +160,17 @@ allowed (Some w) m e = by (nat_le 1 w && nat_le w 64) (λ h. within w h) e
     by false f e = absurd (search (rules, e))
 
 width_allowed : (size : List ℕ) (m : ℕ) → width_of size ≡ Some m → (1 ≤ m) × (m ≤ 64)
-width_allowed [] m e = let z : 32 ≡ m = search (rules, e) in subst (λ z. (1 ≤ z) × (z ≤ 64)) z (omega arith, omega arith)
-width_allowed (d ∷ ds) m e = allowed (small (value_in 10 0 (d ∷ ds))) m e
+width_allowed size m e = allowed (closed_value 10 size) m e
+
+based_hold : (size : List ℕ) (letter : ℕ) (figures : List ℕ) → HoldsIf (based_of size letter figures)
+based_hold size letter figures =
+    let value = value_by (base_of letter) figures in
+    let mask = mask_of (width_of size) (base_of letter) figures in
+    let sized = sized_of (width_of size) value in
+    let closed = if list_any is_open figures then mask else sized in
+    choice (length figures == 0 || front figures == 95) None (if length size == 0 then unsized_of value else closed) (λ e. tt)
+    (λ e. choice (length size == 0) (unsized_of value) closed (λ e. unsized_hold value)
+    (λ e. choice (list_any is_open figures) mask sized (λ e. mask_hold (width_of size) (base_of letter) figures) (λ e. sized_hold_of (width_of size) value (width_allowed size))))
 
 sized_hold : (size : List ℕ) (before : ℕ) (rest : List ℕ) → Holds (based_piece size before rest)
 unfolding based_piece
@@ -132,7 +178,7 @@ sized_hold size before rest =
     let blanks = run class.Blank (drop 2 rest) in
     let figures = drop blanks (drop 2 rest) in
     let count = run class.Figure figures in
-    based_hold (width_of size) (based_value (front (drop 1 rest)) (take count figures)) (before + 2 + blanks + count) (width_allowed size)
+    number_hold (based_of size (front (drop 1 rest)) (take count figures)) (before + 2 + blanks + count) (based_hold size (front (drop 1 rest)) (take count figures))
 
 numbers_hold : (text : List ℕ) → Holds (number_piece text)
 unfolding number_piece
@@ -146,8 +192,10 @@ numbers_hold text =
 directives_hold : (text : List ℕ) → Holds (directive_piece text)
 unfolding directive_piece
 directives_hold text =
-    let name = take (run class.Named (drop 1 text)) (drop 1 text) in
-    either (is_directive name) (piece.Blank (run class.InLine text)) (piece.Broken 104 name) tt tt
+    let line = take (run class.InLine text) text in
+    let count = run class.Named (drop 1 line) in
+    let name = take count (drop 1 line) in
+    either (is_form_of (directive_of name) (drop count (drop 1 line))) (piece.Blank (run class.InLine text)) (piece.Broken 104 name) tt tt
 
 mark_hold : (m : Option MarkKind) (n : ℕ) (p : Piece) → Holds p → Holds (mark_or m n p)
 mark_hold (Some m) n p x = tt
@@ -155,7 +203,10 @@ mark_hold None n p x = x
 
 marks_hold : (text : List ℕ) → Holds (mark_piece text)
 unfolding mark_piece
-marks_hold text = mark_hold (mark_of (take 2 text)) (length (take 2 text)) (mark_or (mark_of (take 1 text)) 1 (piece.Broken 101 [])) (mark_hold (mark_of (take 1 text)) 1 (piece.Broken 101 []) tt)
+marks_hold text =
+    let one = mark_or (mark_of (take 1 text)) 1 (piece.Broken 101 []) in
+    let two = mark_or (mark_of (take 2 text)) (length (take 2 text)) one in
+    mark_hold (mark_of (take 3 text)) (length (take 3 text)) two (mark_hold (mark_of (take 2 text)) (length (take 2 text)) one (mark_hold (mark_of (take 1 text)) 1 (piece.Broken 101 []) tt))
 
 closed_hold : (o : Option ℕ) → Holds (closed o)
 closed_hold None = tt
@@ -167,7 +218,7 @@ comments_hold text = closed_hold (behind_comment (drop 2 text))
 
 attributes_hold : (text : List ℕ) → Holds (attribute_piece text)
 unfolding attribute_piece
-attributes_hold text = closed_hold (attribute_end None (drop 2 text))
+attributes_hold text = closed_hold (attribute_end Outside (drop 2 text))
 
 -- the forms of a piece, each before those that are tried behind it
 abbrev attribute_or_mark : List ℕ → Piece
@@ -217,17 +268,19 @@ piece_hold text = either (is_blank (front text)) (piece.Blank (run class.Blank t
 one_before : (t : Token) (ts : List Token) → end_in t ≡ None → IsEnded ts → IsEnded (t ∷ ts)
 one_before t ts e w = (t ∷ w.0, w.1, ap (λ z. t ∷ z) w.2, (e, w.3))
 
-no_end : (k : TokenKind) (s : Spot) → IsWritable k → end_of k s ≡ None
+no_end : (k : TokenKind) (s : Spot) → IsRead k → end_of k s ≡ None
 no_end (kind.Word w) s h = refl
 no_end (kind.Ident n) s h = refl
-no_end (kind.Number v w plain) s h = refl
+no_end (kind.Number v w z) s h = refl
+no_end (kind.Mask v x w) s h = refl
 no_end (kind.Mark m) s h = refl
 no_end kind.End s h = absurd h
 
-can_stand : (k : TokenKind) → IsWritable k → CanStand k
+can_stand : (k : TokenKind) → IsRead k → CanStand k
 can_stand (kind.Word w) h = tt
 can_stand (kind.Ident n) h = h
-can_stand (kind.Number v w plain) h = h
+can_stand (kind.Number v w z) h = h
+can_stand (kind.Mask v x w) h = tt
 can_stand (kind.Mark m) h = tt
 can_stand kind.End h = tt
 

@@ -3,6 +3,7 @@ use Rattle.std.proofs.Common.{◌≡◌, ℕ, Bool, true, false, ◌+◌, ◌-�
 use Rattle.std.specs.Prelude.{not}
 use Rattle.std.specs.Fmt.{decimal}
 use Rattle.cdc_base.specs.declared.bytes.Class.TheVariants as class
+use Rattle.cdc_base.specs.declared.size.NumberSize.TheVariants.{Plain, Unsized, Sized}
 use Rattle.cdc_base.specs.declared.fault.Place.{Place}
 use Rattle.cdc_base.specs.Bytes.{front, is_blank}
 use Rattle.verilog_lex.specs.declared.token.Piece.{Piece}
@@ -15,10 +16,10 @@ use Rattle.verilog_lex.specs.Tokens.{tokens_from, next_place, place_behind, with
 use Rattle.verilog_lex.proofs.Fitting.{piece_fits}
 use Rattle.verilog_lex.proofs.Walks.{one_piece, at_end}
 use Rattle.verilog_reading.specs.Lexemes.{Spot, token_at, closing}
-use Rattle.verilog_parse.specs.Printed.{Printed, token, line_end, bytes_of, spelled}
-use Rattle.verilog_parse.specs.Written.{IsWritable, AreWritable, HasKinds, HasTokens}
+use Rattle.verilog_parse.specs.Printed.{Printed, token, line_end, bytes_of, spelled, spelled_number}
+use Rattle.verilog_parse.specs.Written.{IsWritable, is_unsized, begins_unsized, can_be_size, AreWritable, HasKinds, HasTokens}
 use Rattle.verilog_parse.proofs.Spelled.{Is, NoQuote, run_more, no_quote_behind, opens, with_blank, drop_front, both_true, if_true, mark_text, word_text, name_text}
-use Rattle.verilog_parse.proofs.NumberTexts.{below_word, plain_text, sized_text, number_opens}
+use Rattle.verilog_parse.proofs.NumberTexts.{plain_text, unsized_text, sized_text, plain_opens, sized_opens}
 
 -- white space is skipped byte by byte
 blank_first : (at : ℕ) (p : Place) (b : ℕ) (bs : List ℕ) → is_blank b ≡ true → tokens_from at p 0 (b ∷ bs) ≡ tokens_from (at + 1) (next_place p b) (run class.Blank bs) bs
@@ -48,29 +49,33 @@ no_quote_at [] h = refl
 no_quote_at (b ∷ bs) h = let i = both_true (not (is_blank b)) (not (b == 39)) h in
     subst (λ t. (front (drop (cond t (1 + run class.Blank bs) 0) (b ∷ bs)) == 39) ≡ false) (sym (not_true (is_blank b) i.0)) (not_true (b == 39) i.1)
 
-token_opens : (k : TokenKind) (rest : List ℕ) → IsWritable k → opens (front (with_blank (spelled k) rest)) ≡ true
-token_opens (kind.Word w) rest h = (word_text w rest).1
-token_opens (kind.Ident n) rest h = (name_text n rest h.0 h.1).1
-token_opens (kind.Number v w true) rest h = number_opens v w true rest (omega (arith, h.1)) (omega (arith, h.0))
-token_opens (kind.Number v w false) rest h = number_opens v w false rest (below_word v w h.2 h.1) (omega (arith, h.1))
-token_opens (kind.Mark s) rest h = (mark_text s rest).1
-token_opens kind.End rest h = absurd h
+token_opens : (k : TokenKind) (rest : List ℕ) → IsWritable k → is_unsized k ≡ false → opens (front (with_blank (spelled k) rest)) ≡ true
+token_opens (kind.Word w) rest h u = (word_text w rest).1
+token_opens (kind.Ident n) rest h u = (name_text n rest h.0 h.1).1
+token_opens (kind.Number v w Plain) rest h u = plain_opens v rest (omega (arith, h.1))
+token_opens (kind.Number v w Unsized) rest h u = absurd (search (rules, u))
+token_opens (kind.Number v w Sized) rest h u = sized_opens v w rest (omega (arith, h.1))
+token_opens (kind.Mask v b w) rest h u = absurd h
+token_opens (kind.Mark s) rest h u = (mark_text s rest).1
+token_opens kind.End rest h u = absurd h
 
 printed_first : (k : TokenKind) (ps : List Printed) → bytes_of (token k ∷ ps) ≡ with_blank (spelled k) (bytes_of ps)
 printed_first k ps = append_assoc (spelled k) (codes " ") (bytes_of ps)
 
-no_quote : (ps : List Printed) → AreWritable ps → NoQuote (bytes_of ps)
-no_quote [] h = refl
-no_quote (token k ∷ ps) h = subst NoQuote (sym (printed_first k ps)) (no_quote_at (with_blank (spelled k) (bytes_of ps)) (token_opens k (bytes_of ps) h.0))
-no_quote (line_end ∷ ps) h = no_quote_behind 10 (bytes_of ps) refl (no_quote ps h)
+no_quote : (ps : List Printed) → AreWritable ps → begins_unsized ps ≡ false → NoQuote (bytes_of ps)
+no_quote [] h u = refl
+no_quote (token k ∷ ps) h u = subst NoQuote (sym (printed_first k ps)) (no_quote_at (with_blank (spelled k) (bytes_of ps)) (token_opens k (bytes_of ps) h.0 u))
+no_quote (line_end ∷ ps) h u = no_quote_behind 10 (bytes_of ps) refl (no_quote ps h u)
 
-token_piece : (k : TokenKind) (rest : List ℕ) → IsWritable k → NoQuote rest → Is k (spelled k) rest
-token_piece (kind.Word w) rest h q = (word_text w rest).0
-token_piece (kind.Ident n) rest h q = (name_text n rest h.0 h.1).0
-token_piece (kind.Number v w true) rest h q = subst (λ z. Is (kind.Number v z true) (decimal v) rest) (sym h.0) (plain_text v rest h.1 q)
-token_piece (kind.Number v w false) rest h q = sized_text v w rest h.0 h.1 h.2
-token_piece (kind.Mark s) rest h q = (mark_text s rest).0
-token_piece kind.End rest h q = absurd h
+token_piece : (k : TokenKind) (ps : List Printed) → IsWritable k → (can_be_size k ≡ true → begins_unsized ps ≡ false) → AreWritable ps → Is k (spelled k) (bytes_of ps)
+token_piece (kind.Word w) ps h b a = (word_text w (bytes_of ps)).0
+token_piece (kind.Ident n) ps h b a = (name_text n (bytes_of ps) h.0 h.1).0
+token_piece (kind.Number v w Plain) ps h b a = subst (λ z. Is (kind.Number v z Plain) (decimal v) (bytes_of ps)) (sym h.0) (plain_text v (bytes_of ps) h.1 (no_quote ps a (b refl)))
+token_piece (kind.Number v w Unsized) ps h b a = subst (λ z. Is (kind.Number v z Unsized) (spelled_number v z Unsized) (bytes_of ps)) (sym h.0) (unsized_text v (bytes_of ps) h.1)
+token_piece (kind.Number v w Sized) ps h b a = sized_text v w (bytes_of ps) h.0 h.1 h.2
+token_piece (kind.Mask v x w) ps h b a = absurd h
+token_piece (kind.Mark s) ps h b a = (mark_text s (bytes_of ps)).0
+token_piece kind.End ps h b a = absurd h
 
 blank_fits : (text rest : List ℕ) → Fits (with_blank text rest) (piece_of (with_blank text rest))
 blank_fits [] rest = piece_fits 32 rest
@@ -97,12 +102,12 @@ record Lexes (at : ℕ) (p : Place) (ps : List Printed) : Type 0 where
 lexes : (at : ℕ) (p : Place) (ps : List Printed) → AreWritable ps → Lexes at p ps
 lexes at p [] h = record { tokens = []; end_spot = record { place = p; start = at; stop = at }; lexed = at_end at p; kinds = refl }
 lexes at p (token k ∷ ps) h = let text = spelled k in
-    let r = lexes (at + length text + 1) (next_place (place_behind p (take (length text) (with_blank text (bytes_of ps)))) 32) ps h.1 in
+    let r = lexes (at + length text + 1) (next_place (place_behind p (take (length text) (with_blank text (bytes_of ps)))) 32) ps h.2 in
     let s : Spot = record { place = p; start = at; stop = at + length text } in
     record {
       tokens = token_at k s ∷ r.tokens;
       end_spot = r.end_spot;
-      lexed = ap (tokens_from at p 0) (printed_first k ps) ∙ token_first at p k text (bytes_of ps) (token_piece k (bytes_of ps) h.0 (no_quote ps h.1)) ∙ ap (with_before (token_at k s ∷ [])) r.lexed;
+      lexed = ap (tokens_from at p 0) (printed_first k ps) ∙ token_first at p k text (bytes_of ps) (token_piece k ps h.0 h.1 h.2) ∙ ap (with_before (token_at k s ∷ [])) r.lexed;
       kinds = (s, r.tokens, refl, r.kinds);
     }
 lexes at p (line_end ∷ ps) h = let r = lexes (at + 1) (next_place p 10) ps h in

@@ -81,6 +81,10 @@ mark_text m.EqualEqual rest = (refl, refl)
 mark_text m.BangEqual rest = (refl, refl)
 mark_text m.AmpersandAmpersand rest = (refl, refl)
 mark_text m.BarBar rest = (refl, refl)
+mark_text m.LessLessLess rest = (refl, refl)
+mark_text m.AmpersandAmpersandAmpersand rest = (refl, refl)
+mark_text m.PlusColon rest = (refl, refl)
+mark_text m.MinusColon rest = (refl, refl)
 
 keyword : (w : Keyword) → (is_identifier (spelled_word w) ≡ true) × (keyword_of (spelled_word w) ≡ Some w)
 unfolding keyword_of

@@ -7,6 +7,7 @@ use Rattle.verilog_reading.specs.StmtTree.{StmtTree, stmt_trees_of, ArmTree, arm
 use Rattle.verilog_parse.specs.Pieces.{expr_pieces, each_expr, target_pieces, each_target, stmt_pieces, each_row, row_line, each_arm}
 use Rattle.verilog_parse.specs.Texts.{arm_pieces}
 use Rattle.verilog_parse.specs.Printed.{Printed, bytes_of, bytes_of_one, Adds, before_entry, behind, separated, in_turn, numeral, token}
+use Rattle.cdc_base.specs.declared.size.NumberSize.TheVariants.{Unsized, Sized}
 use Rattle.verilog_lex.specs.declared.token.TokenKind.TheVariants.{Number}
 use Rattle.std.specs.Fmt.{decimal, radix_digits}
 
@@ -38,8 +39,12 @@ ok_number (Ok x) a c text p e h = record { added = h ∙ ap (λ z. a ++ z) (sym 
 ok_number (Err e) a c text p q h = tt
 
 pub ok_sized : {A E : Type 0} (r : Result A E) (a c text : List ℕ) (value width : ℕ) → text ≡ decimal width ++ (codes "'h" ++ (radix_digits 16 false value ++ codes " "))
-    → IfOk r (λ _. c ≡ a ++ text) → IfOk r (λ _. Adds a (numeral value width false) c)
-ok_sized r a c text value width e h = ok_number r a c text (token (Number value width false)) (sized (decimal width) (radix_digits 16 false value) (codes " ") ∙ sym e) h
+    → IfOk r (λ _. c ≡ a ++ text) → IfOk r (λ _. Adds a (numeral value width Sized) c)
+ok_sized r a c text value width e h = ok_number r a c text (token (Number value width Sized)) (sized (decimal width) (radix_digits 16 false value) (codes " ") ∙ sym e) h
+
+pub ok_unsized : {A E : Type 0} (r : Result A E) (a c text : List ℕ) (value : ℕ) → text ≡ codes "'h" ++ (radix_digits 16 false value ++ codes " ")
+    → IfOk r (λ _. c ≡ a ++ text) → IfOk r (λ _. Adds a (numeral value 32 Unsized) c)
+ok_unsized r a c text value e h = ok_number r a c text (token (Number value 32 Unsized)) (append_assoc (codes "'h") (radix_digits 16 false value) (codes " ") ∙ sym e) h
 
 -- what is left of entries of which so many are printed
 abbrev pub left_of : ℕ → List Printed → List (List Printed) → List Printed

@@ -73,7 +73,7 @@ from_to left right = left ++ (mark m.Colon ++ right)
 -- an expression
 abbrev mutual
   pub expr_pieces : ExprTree → List Printed
-  expr_pieces (number value width plain) = numeral value width plain
+  expr_pieces (number value width size) = numeral value width size
   expr_pieces (name n) = ident n
   expr_pieces (index n i) = ident n ++ in_brackets (expr_pieces i)
   expr_pieces (part n left right) = ident n ++ in_brackets (from_to (expr_pieces left) (expr_pieces right))

@@ -1,13 +1,15 @@
 -- A printed text: tokens with a blank behind each, and the ends of lines.
-use Rattle.std.specs.Prelude.{ℕ, Bool, true, false, ◌≡◌, zero, suc, List, [], ◌∷◌, ◌++◌, codes, if◌then◌else◌}
+use Rattle.std.specs.Prelude.{ℕ, false, ◌≡◌, zero, suc, List, [], ◌∷◌, ◌++◌, codes, if◌then◌else◌}
 use Rattle.std.specs.Fmt.{decimal, radix_digits}
 use Rattle.cdc_base.specs.Words.{is_simple}
+use Rattle.cdc_base.specs.declared.size.NumberSize.{NumberSize}
+use Rattle.cdc_base.specs.declared.size.NumberSize.TheVariants.{Plain, Unsized, Sized}
 use Rattle.cdc_base.specs.declared.words.Keyword.{Keyword}
 use Rattle.cdc_base.specs.declared.words.Keyword.TheVariants as k
 use Rattle.verilog_lex.specs.declared.marks.MarkKind.{MarkKind}
 use Rattle.verilog_lex.specs.declared.marks.MarkKind.TheVariants as m
 use Rattle.verilog_lex.specs.declared.token.TokenKind.{TokenKind}
-use Rattle.verilog_lex.specs.declared.token.TokenKind.TheVariants.{Word, Ident, Number, Mark, End}
+use Rattle.verilog_lex.specs.declared.token.TokenKind.TheVariants.{Word, Ident, Number, Mask, Mark, End}
 
 pub data Printed : Type 0 where
   token : TokenKind → Printed
@@ -84,20 +86,27 @@ spelled_mark m.EqualEqual = codes "=="
 spelled_mark m.BangEqual = codes "!="
 spelled_mark m.AmpersandAmpersand = codes "&&"
 spelled_mark m.BarBar = codes "||"
+spelled_mark m.LessLessLess = codes "<<<"
+spelled_mark m.AmpersandAmpersandAmpersand = codes "&&&"
+spelled_mark m.PlusColon = codes "+:"
+spelled_mark m.MinusColon = codes "-:"
 
 -- a name as it is where it is an identifier and no word, and escaped else
 abbrev pub spelled_name : List ℕ → List ℕ
 spelled_name n = if is_simple n then n else 92 ∷ n
 
--- a plain number in decimal digits, any other with its width and in hexadecimal digits
-abbrev pub spelled_number : ℕ → ℕ → Bool → List ℕ
-spelled_number value width true = decimal value
-spelled_number value width false = decimal width ++ (codes "'h" ++ radix_digits 16 false value)
+-- a plain number in decimal digits, any other in hexadecimal digits, with its width where it has a size
+abbrev pub spelled_number : ℕ → ℕ → NumberSize → List ℕ
+spelled_number value width Plain = decimal value
+spelled_number value width Unsized = codes "'h" ++ radix_digits 16 false value
+spelled_number value width Sized = decimal width ++ (codes "'h" ++ radix_digits 16 false value)
 
+-- a token; a mask is none that is printed
 abbrev pub spelled : TokenKind → List ℕ
 spelled (Word w) = spelled_word w
 spelled (Ident n) = spelled_name n
-spelled (Number value width plain) = spelled_number value width plain
+spelled (Number value width size) = spelled_number value width size
+spelled (Mask value bits width) = []
 spelled (Mark s) = spelled_mark s
 spelled End = []
 
@@ -124,8 +133,8 @@ mark s = token (Mark s) ∷ []
 abbrev pub ident : List ℕ → List Printed
 ident n = token (Ident n) ∷ []
 
-abbrev pub numeral : ℕ → ℕ → Bool → List Printed
-numeral value width plain = token (Number value width plain) ∷ []
+abbrev pub numeral : ℕ → ℕ → NumberSize → List Printed
+numeral value width size = token (Number value width size) ∷ []
 
 abbrev pub new_line : List Printed
 new_line = line_end ∷ []

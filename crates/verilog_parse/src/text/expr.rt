@@ -15,11 +15,7 @@ pub fn put_expr(alloc: Global, out: &mut Vec<u8>, expr: &Expr) -> Result<(), NoM
     ensures { IfOk result (λ _. Adds out.old.items (printed_expr expr.now) out.new.items) }
 {
     match expr {
-        Expr::Number {
-            value,
-            width,
-            plain,
-        } => put_number(alloc, out, *value, *width, *plain),
+        Expr::Number { value, width, size } => put_number(alloc, out, *value, *width, *size),
         Expr::Ident(name) => put_name(out, name),
         Expr::At { name, index } => {
             put_name(out, name)?;

@@ -83,6 +83,10 @@ pub fn mark_text(mark: MarkKind) -> &'static [u8]
         MarkKind::BangEqual => b"!=",
         MarkKind::AmpersandAmpersand => b"&&",
         MarkKind::BarBar => b"||",
+        MarkKind::LessLessLess => b"<<<",
+        MarkKind::AmpersandAmpersandAmpersand => b"&&&",
+        MarkKind::PlusColon => b"+:",
+        MarkKind::MinusColon => b"-:",
     }
 }
 

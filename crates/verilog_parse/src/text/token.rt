@@ -1,5 +1,6 @@
 //! Single tokens as text.
-ghost use Rattle.std.specs.Prelude.{◌≡◌, ◌++◌, true, false, IfOk};
+ghost use Rattle.std.specs.Prelude.{◌≡◌, ◌++◌, IfOk};
+ghost use Rattle.cdc_base.specs.declared.size.NumberSize.TheVariants.{Plain, Unsized, Sized};
 ghost use Rattle.cdc_base.specs.declared.words.Keyword.TheVariants.{Or};
 ghost use Rattle.verilog_lex.specs.declared.marks.MarkKind.TheVariants.{Comma};
 ghost use Rattle.verilog_parse.specs.Printed as printed;
@@ -7,7 +8,7 @@ ghost use Rattle.verilog_parse.specs.Printed.{Adds};
 
 use crate::text::spelling::{mark_text, word_text};
 use cdc_base::words::is_simple;
-use cdc_base::{Name, NoMemory};
+use cdc_base::{Name, NoMemory, NumberSize};
 use std::alloc::Global;
 use verilog_lex::{Keyword, MarkKind};
 
@@ -66,25 +67,25 @@ pub fn put_name(out: &mut Vec<u8>, name: &Name) -> Result<(), NoMemory>
     put(out, b" ")
 }
 
-/// A plain number in decimal digits, any other with its width and in hexadecimal digits.
+/// A plain number in decimal digits, any other in hexadecimal digits, with its width where it has a size.
 pub fn put_number(
     alloc: Global,
     out: &mut Vec<u8>,
     value: u64,
     width: u8,
-    plain: bool,
+    size: NumberSize,
 ) -> Result<(), NoMemory>
-    ensures { IfOk result (λ _. Adds out.old.items (printed.numeral value width plain) out.new.items) }
+    ensures { IfOk result (λ _. Adds out.old.items (printed.numeral value width size) out.new.items) }
 {
-    if plain {
-        put_plain(alloc, out, value)
-    } else {
-        put_sized(alloc, out, value, width)
+    match size {
+        NumberSize::Plain => put_plain(alloc, out, value),
+        NumberSize::Unsized => put_unsized(alloc, out, value),
+        NumberSize::Sized => put_sized(alloc, out, value, width),
     }
 }
 
 fn put_plain(alloc: Global, out: &mut Vec<u8>, value: u64) -> Result<(), NoMemory>
-    ensures { IfOk result (λ _. Adds out.old.items (printed.numeral value 32 true) out.new.items) }
+    ensures { IfOk result (λ _. Adds out.old.items (printed.numeral value 32 Plain) out.new.items) }
 {
     match format!(in alloc; "{value} ") {
         Ok(text) => put(out, text.as_bytes()),
@@ -92,8 +93,17 @@ fn put_plain(alloc: Global, out: &mut Vec<u8>, value: u64) -> Result<(), NoMemor
     }
 }
 
+fn put_unsized(alloc: Global, out: &mut Vec<u8>, value: u64) -> Result<(), NoMemory>
+    ensures { IfOk result (λ _. Adds out.old.items (printed.numeral value 32 Unsized) out.new.items) }
+{
+    match format!(in alloc; "'h{value:x} ") {
+        Ok(text) => put(out, text.as_bytes()),
+        Err(_) => Err(NoMemory),
+    }
+}
+
 fn put_sized(alloc: Global, out: &mut Vec<u8>, value: u64, width: u8) -> Result<(), NoMemory>
-    ensures { IfOk result (λ _. Adds out.old.items (printed.numeral value width false) out.new.items) }
+    ensures { IfOk result (λ _. Adds out.old.items (printed.numeral value width Sized) out.new.items) }
 {
     match format!(in alloc; "{width}'h{value:x} ") {
         Ok(text) => put(out, text.as_bytes()),
