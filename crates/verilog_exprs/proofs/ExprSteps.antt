@@ -169,9 +169,9 @@ unary_is : (k : ℕ) (ts : List Token) → (readers k).binary 0 ts ≡ unary_at 
 unary_is k ts = ap (λ r. r.binary 0 ts) (readers_is k)
 
 abbrev read_number : Numeral → List Token → Outcome ExprTree
-read_number n = done (number n.value n.width n.plain)
+read_number n = done (number n.value n.width n.size)
 
-pub unary_number : (k : ℕ) (ts : List Token) (n : Numeral) (rest : List Token) (e : ExprTree) → Takes numeral_in n ts rest → e ≡ number n.value n.width n.plain → (readers k).binary 0 ts ≡ done e rest
+pub unary_number : (k : ℕ) (ts : List Token) (n : Numeral) (rest : List Token) (e : ExprTree) → Takes numeral_in n ts rest → e ≡ number n.value n.width n.size → (readers k).binary 0 ts ≡ done e rest
 unary_number k ts n rest e w q = unary_is k ts ∙ next_takes numeral_in read_number (next ident_in (in_name (downs k)) (operand_at (downs k))) n ts rest w ∙ ap (λ x. done x rest) (sym q)
 
 pub unary_named : (k : ℕ) (ts : List Token) (n : List ℕ) (s : Spot) (rest : List Token) → Lacks numeral_in ts → Takes ident_in (record { name = n; spot = s }) ts rest → (readers k).binary 0 ts ≡ named_at (downs k) n rest

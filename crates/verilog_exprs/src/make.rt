@@ -4,7 +4,7 @@ ghost use Rattle.verilog_exprs.specs.Selected.{selection_of};
 ghost use Rattle.verilog_reading.specs.ExprTree.{tree_of, trees_of, height, heights, number, name, unary, binary, choice, join, repeat, paren};
 ghost use Rattle.verilog_reading.specs.Reader.{selected, select_height};
 
-use cdc_base::{List, Name, NoMemory};
+use cdc_base::{List, Name, NoMemory, NumberSize};
 use std::alloc::Global;
 use verilog_ast::{BinaryOp, Expr, UnaryOp};
 
@@ -17,15 +17,11 @@ pub fn boxed(alloc: Global, expr: Expr) -> Result<Box<Expr>, NoMemory>
     }
 }
 
-pub fn make_number(value: u64, width: u8, plain: bool) -> Expr
-    ensures tree { tree_of result ≡ number value width plain }
+pub fn make_number(value: u64, width: u8, size: NumberSize) -> Expr
+    ensures tree { tree_of result ≡ number value width size }
     ensures tall { height (tree_of result) ≡ 0 }
 {
-    Expr::Number {
-        value,
-        width,
-        plain,
-    }
+    Expr::Number { value, width, size }
 }
 
 pub fn make_name(text: Name) -> Expr

@@ -35,7 +35,7 @@ fn binary_of(mark: MarkKind) -> Option<BinaryOp>
         MarkKind::Percent => Some(BinaryOp::Mod),
         MarkKind::Plus => Some(BinaryOp::Add),
         MarkKind::Minus => Some(BinaryOp::Sub),
-        MarkKind::ShiftLeft => Some(BinaryOp::Shl),
+        MarkKind::ShiftLeft | MarkKind::LessLessLess => Some(BinaryOp::Shl),
         MarkKind::ShiftRight => Some(BinaryOp::Shr),
         MarkKind::Less => Some(BinaryOp::Lt),
         MarkKind::LessEqual => Some(BinaryOp::Le),

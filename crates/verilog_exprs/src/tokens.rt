@@ -59,20 +59,15 @@ pub fn after_ident(tokens: &[Token]) -> Option<(&Name, &[Token])>
 
 /// The number that stands next, and the tokens behind it.
 pub fn after_number(tokens: &[Token]) -> Option<(Expr, &[Token])>
-    ensures found { IfSome result (λ p. (n : Numeral) × Takes numeral_in n tokens.now p.1.now × (tree_of p.0 ≡ number n.value n.width n.plain)) }
+    ensures found { IfSome result (λ p. (n : Numeral) × Takes numeral_in n tokens.now p.1.now × (tree_of p.0 ≡ number n.value n.width n.size)) }
     ensures free { IfNone result (Lacks numeral_in tokens.now) }
     ensures shorter { IfSome result (λ p. length p.1.now < length tokens.now) }
 {
     let (first, rest) = tokens.split_first()?;
-    let TokenKind::Number {
-        value,
-        width,
-        plain,
-    } = first.kind
-    else {
+    let TokenKind::Number { value, width, size } = first.kind else {
         return None;
     };
-    Some((make_number(value, width, plain), rest))
+    Some((make_number(value, width, size), rest))
 }
 
 /// Whether the tokens are at their end.

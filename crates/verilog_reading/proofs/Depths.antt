@@ -36,7 +36,7 @@ list_same [] = refl
 list_same (e ∷ es) = let h = e.1 in let i = list_same es in omega (arith, h, i)
 
 layer_same : (y : Expr-F ((e : Expr) × Same e)) → expr_step (map-Expr Expr ℕ expr_depth (map-Expr ((e : Expr) × Same e) Expr (λ e. e.0) y)) ≡ depth (expr_tree_step (map-Expr Expr ExprTree tree_of (map-Expr ((e : Expr) × Same e) Expr (λ e. e.0) y)))
-layer_same (Expr-F.Number value width plain) = refl
+layer_same (Expr-F.Number value width spelt) = refl
 layer_same (Expr-F.Ident n) = refl
 layer_same (Expr-F.At n i) = let h = i.value.1 in omega (arith, h)
 layer_same (Expr-F.Part n a b) = let h = a.value.1 in let j = b.value.1 in omega (arith, h, j)

@@ -1,14 +1,15 @@
 -- Examples: what the readers give for short lists.
 use Rattle.std.proofs.Common.{◌≡◌, ℕ, true, false, List, [], ◌∷◌, Option, Some, None, refl}
+use Rattle.cdc_base.specs.declared.size.NumberSize.TheVariants.{Plain}
 use Rattle.cdc_base.specs.declared.words.Keyword.TheVariants as k
 use Rattle.verilog_ast.specs.declared.BinaryOp.TheVariants as b
 use Rattle.verilog_ast.specs.declared.UnaryOp.TheVariants as u
 use Rattle.verilog_lex.specs.declared.token.Token.{Token}
 use Rattle.verilog_lex.specs.declared.token.TokenKind.{TokenKind}
-use Rattle.verilog_lex.specs.declared.token.TokenKind.TheVariants.{Word, Ident, Number, Mark, End}
+use Rattle.verilog_lex.specs.declared.token.TokenKind.TheVariants.{Word, Ident, Number, Mask, Mark, End}
 use Rattle.verilog_lex.specs.declared.marks.MarkKind.TheVariants as m
 use Rattle.verilog_reading.specs.Lexemes.{token_at}
-use Rattle.verilog_reading.specs.ExprTree.{name, number, unary, binary, choice, join, repeat, and_trees, no_trees}
+use Rattle.verilog_reading.specs.ExprTree.{name, number, unary, binary, choice, join, repeat, and_trees, no_trees, whole}
 use Rattle.verilog_reading.specs.Outcome.{done, stop}
 use Rattle.verilog_reading.specs.Reader.{read_expr, readers}
 use Rattle.verilog_reading.specs.TargetReader.{read_target}
@@ -18,7 +19,7 @@ use Rattle.verilog_reading.specs.ItemReader.{read_source, source}
 use Rattle.verilog_reading.specs.StmtReader.{lower}
 use Rattle.verilog_ast.specs.declared.DeclKind.TheVariants as kinds
 use Rattle.verilog_ast.specs.declared.GateKind.TheVariants as gates
-use Rattle.verilog_reading.specs.SourceTree.{Bounds, gate, instance, ordered, named}
+use Rattle.verilog_reading.specs.SourceTree.{Bounds, decl, assign, gate, instance, ordered, named}
 use Rattle.verilog_reading.proofs.Tests.{nowhere}
 
 abbrev t : TokenKind → Token
@@ -31,10 +32,10 @@ abbrev i : ℕ → Token
 i x = t (Ident (x ∷ []))
 
 abbrev d : ℕ → Token
-d x = t (Number x 32 true)
+d x = t (Number x 32 Plain)
 
 abbrev bounds : ℕ → ℕ → Option Bounds
-bounds x y = Some (record { left = number x 32 true; right = number y 32 true })
+bounds x y = Some (record { left = number x 32 Plain; right = number y 32 Plain })
 
 -- a + b * c
 tighter_first : read_expr 5 (i 97 ∷ (t (Mark m.Plus) ∷ (i 98 ∷ (t (Mark m.Star) ∷ (i 99 ∷ (t End ∷ []))))))
@@ -53,10 +54,21 @@ from_the_left : read_expr 2 (i 97 ∷ (t (Mark m.Minus) ∷ (i 98 ∷ (t (Mark m
 unfolding readers read_target read_stmt read_source
 from_the_left = refl
 
+-- a << 1 <<< 2: the two are one operator
+shifts_to_the_left : read_expr 5 (i 97 ∷ (t (Mark m.ShiftLeft) ∷ (d 1 ∷ (t (Mark m.LessLessLess) ∷ (d 2 ∷ (t End ∷ []))))))
+    ≡ done (binary b.Shl (binary b.Shl (name (n 97)) (number 1 32 Plain)) (number 2 32 Plain)) (t End ∷ [])
+unfolding readers read_target read_stmt read_source
+shifts_to_the_left = refl
+
+-- a mask begins no expression
+mask_is_none : read_expr 5 (t (Mask 0 1 4) ∷ (t End ∷ [])) ≡ stop false (t (Mask 0 1 4) ∷ (t End ∷ []))
+unfolding readers read_target read_stmt read_source
+mask_is_none = refl
+
 -- ~&a | b ? {c, d} : {2{e}}
 choice_of_braces : read_expr 9 (t (Mark m.TildeAmpersand) ∷ (i 97 ∷ (t (Mark m.Bar) ∷ (i 98 ∷ (t (Mark m.Question) ∷ (t (Mark m.BraceOpen) ∷ (i 99 ∷ (t (Mark m.Comma) ∷ (i 100 ∷ (t (Mark m.BraceClose) ∷ (t (Mark m.Colon) ∷
-    (t (Mark m.BraceOpen) ∷ (t (Number 2 32 true) ∷ (t (Mark m.BraceOpen) ∷ (i 101 ∷ (t (Mark m.BraceClose) ∷ (t (Mark m.BraceClose) ∷ (t End ∷ []))))))))))))))))))
-    ≡ done (choice (binary b.Or (unary u.Nand (name (n 97))) (name (n 98))) (join (and_trees (name (n 99)) (and_trees (name (n 100)) no_trees))) (repeat (number 2 32 true) (and_trees (name (n 101)) no_trees))) (t End ∷ [])
+    (t (Mark m.BraceOpen) ∷ (t (Number 2 32 Plain) ∷ (t (Mark m.BraceOpen) ∷ (i 101 ∷ (t (Mark m.BraceClose) ∷ (t (Mark m.BraceClose) ∷ (t End ∷ []))))))))))))))))))
+    ≡ done (choice (binary b.Or (unary u.Nand (name (n 97))) (name (n 98))) (join (and_trees (name (n 99)) (and_trees (name (n 100)) no_trees))) (repeat (number 2 32 Plain) (and_trees (name (n 101)) no_trees))) (t End ∷ [])
 unfolding readers read_target read_stmt read_source
 choice_of_braces = refl
 
@@ -108,13 +120,57 @@ short_entries : source (lower 255) (t (Word k.Module) ∷ (i 109 ∷ (t (Mark m.
       place = nowhere.place;
       name = n 109;
       ansi = true;
-      params = record { local = false; range = bounds 1 0; name = n 65; value = number 1 32 true } ∷ record { local = false; range = bounds 1 0; name = n 66; value = number 2 32 true } ∷ [];
+      params = record { local = false; range = bounds 1 0; name = n 65; value = number 1 32 Plain } ∷ record { local = false; range = bounds 1 0; name = n 66; value = number 2 32 Plain } ∷ [];
       ports = record { name = n 99; decl = Some (record { kind = kinds.OutputReg; range = bounds 3 0; name = n 99; init = None; array = None }) }
-          ∷ record { name = n 100; decl = Some (record { kind = kinds.OutputReg; range = bounds 3 0; name = n 100; init = Some (number 1 32 true); array = None }) } ∷ [];
+          ∷ record { name = n 100; decl = Some (record { kind = kinds.OutputReg; range = bounds 3 0; name = n 100; init = Some (number 1 32 Plain); array = None }) } ∷ [];
       items = [];
     } ∷ []) []
 unfolding readers read_target read_stmt read_source
 short_entries = refl
+
+-- module m #(parameter A = 1, localparam [1:0] B = 2, C = 3); endmodule: a short entry takes the word as well
+short_entry_is_local : source (lower 255) (t (Word k.Module) ∷ (i 109 ∷ (t (Mark m.Hash) ∷ (t (Mark m.ParenOpen) ∷ (t (Word k.Parameter) ∷ (i 65 ∷ (t (Mark m.Equals) ∷ (d 1 ∷ (t (Mark m.Comma) ∷ (t (Word k.LocalParam) ∷ (t (Mark m.BracketOpen) ∷ (d 1 ∷ (t (Mark m.Colon) ∷ (d 0 ∷ (t (Mark m.BracketClose) ∷ (i 66 ∷ (t (Mark m.Equals) ∷ (d 2 ∷ (t (Mark m.Comma) ∷ (i 67 ∷ (t (Mark m.Equals) ∷ (d 3 ∷ (t (Mark m.ParenClose) ∷ (t (Mark m.Semicolon) ∷ (t (Word k.EndModule) ∷ (t End ∷ []))))))))))))))))))))))))))
+    ≡ done (record { place = nowhere.place; name = n 109; ansi = false; params = record { local = false; range = None; name = n 65; value = number 1 32 Plain } ∷ record { local = true; range = bounds 1 0; name = n 66; value = number 2 32 Plain } ∷ record { local = true; range = bounds 1 0; name = n 67; value = number 3 32 Plain } ∷ []; ports = []; items = [] } ∷ []) []
+unfolding readers read_target read_stmt read_source
+short_entry_is_local = refl
+
+-- module m #(A = 1: the first entry is not short
+first_entry_has_a_word : source (lower 255) (t (Word k.Module) ∷ (i 109 ∷ (t (Mark m.Hash) ∷ (t (Mark m.ParenOpen) ∷ (i 65 ∷ (t (Mark m.Equals) ∷ (d 1 ∷ (t (Mark m.ParenClose) ∷ (t (Mark m.Semicolon) ∷ (t (Word k.EndModule) ∷ (t End ∷ [])))))))))))
+    ≡ stop false (i 65 ∷ (t (Mark m.Equals) ∷ (d 1 ∷ (t (Mark m.ParenClose) ∷ (t (Mark m.Semicolon) ∷ (t (Word k.EndModule) ∷ (t End ∷ [])))))))
+unfolding readers read_target read_stmt read_source
+first_entry_has_a_word = refl
+
+-- module m; wire [1:0] #5 a; assign #z q = d; and #(1, z) (a); and #(2) g(a); endmodule
+delays_leave_no_trace : source (lower 255) (t (Word k.Module) ∷ (i 109 ∷ (t (Mark m.Semicolon) ∷ (t (Word k.Wire) ∷ (t (Mark m.BracketOpen) ∷ (d 1 ∷ (t (Mark m.Colon) ∷ (d 0 ∷ (t (Mark m.BracketClose) ∷ (t (Mark m.Hash) ∷ (d 5 ∷ (i 97 ∷ (t (Mark m.Semicolon) ∷ (t (Word k.Assign) ∷ (t (Mark m.Hash) ∷ (i 122 ∷ (i 113 ∷ (t (Mark m.Equals) ∷ (i 100 ∷ (t (Mark m.Semicolon) ∷ (t (Word k.And) ∷ (t (Mark m.Hash) ∷ (t (Mark m.ParenOpen) ∷ (d 1 ∷ (t (Mark m.Comma) ∷ (i 122 ∷ (t (Mark m.ParenClose) ∷ (t (Mark m.ParenOpen) ∷ (i 97 ∷ (t (Mark m.ParenClose) ∷ (t (Mark m.Semicolon) ∷ (t (Word k.And) ∷ (t (Mark m.Hash) ∷ (t (Mark m.ParenOpen) ∷ (d 2 ∷ (t (Mark m.ParenClose) ∷ (i 103 ∷ (t (Mark m.ParenOpen) ∷ (i 97 ∷ (t (Mark m.ParenClose) ∷ (t (Mark m.Semicolon) ∷ (t (Word k.EndModule) ∷ (t End ∷ [])))))))))))))))))))))))))))))))))))))))))))
+    ≡ done (record {
+      place = nowhere.place;
+      name = n 109;
+      ansi = false;
+      params = [];
+      ports = [];
+      items = record { place = nowhere.place; body = decl (record { kind = kinds.Wire; range = bounds 1 0; name = n 97; init = None; array = None }) } ∷ record { place = nowhere.place; body = assign (whole (n 113)) (name (n 100)) }
+          ∷ record { place = nowhere.place; body = gate gates.And (name (n 97) ∷ []) } ∷ record { place = nowhere.place; body = gate gates.And (name (n 97) ∷ []) } ∷ [];
+    } ∷ []) []
+unfolding readers read_target read_stmt read_source
+delays_leave_no_trace = refl
+
+-- module m; assign #(1, 2, 3): a delay has two values at most
+third_delay : source (lower 255) (t (Word k.Module) ∷ (i 109 ∷ (t (Mark m.Semicolon) ∷ (t (Word k.Assign) ∷ (t (Mark m.Hash) ∷ (t (Mark m.ParenOpen) ∷ (d 1 ∷ (t (Mark m.Comma) ∷ (d 2 ∷ (t (Mark m.Comma) ∷ (d 3 ∷ (t (Mark m.ParenClose) ∷ (i 113 ∷ (t (Mark m.Equals) ∷ (i 100 ∷ (t (Mark m.Semicolon) ∷ (t (Word k.EndModule) ∷ (t End ∷ []))))))))))))))))))
+    ≡ stop false (t (Mark m.Comma) ∷ (d 3 ∷ (t (Mark m.ParenClose) ∷ (i 113 ∷ (t (Mark m.Equals) ∷ (i 100 ∷ (t (Mark m.Semicolon) ∷ (t (Word k.EndModule) ∷ (t End ∷ [])))))))))
+unfolding readers read_target read_stmt read_source
+third_delay = refl
+
+-- module m; assign #1 #2: one delay stands there at most
+second_delay_mark : source (lower 255) (t (Word k.Module) ∷ (i 109 ∷ (t (Mark m.Semicolon) ∷ (t (Word k.Assign) ∷ (t (Mark m.Hash) ∷ (d 1 ∷ (t (Mark m.Hash) ∷ (d 2 ∷ (i 113 ∷ (t (Mark m.Equals) ∷ (i 100 ∷ (t (Mark m.Semicolon) ∷ (t (Word k.EndModule) ∷ (t End ∷ []))))))))))))))
+    ≡ stop false (t (Mark m.Hash) ∷ (d 2 ∷ (i 113 ∷ (t (Mark m.Equals) ∷ (i 100 ∷ (t (Mark m.Semicolon) ∷ (t (Word k.EndModule) ∷ (t End ∷ []))))))))
+unfolding readers read_target read_stmt read_source
+second_delay_mark = refl
+
+-- module m; reg #1 r: only a wire has a delay
+reg_without_delay : source (lower 255) (t (Word k.Module) ∷ (i 109 ∷ (t (Mark m.Semicolon) ∷ (t (Word k.Reg) ∷ (t (Mark m.Hash) ∷ (d 1 ∷ (i 114 ∷ (t (Mark m.Semicolon) ∷ (t (Word k.EndModule) ∷ (t End ∷ []))))))))))
+    ≡ stop false (t (Mark m.Hash) ∷ (d 1 ∷ (i 114 ∷ (t (Mark m.Semicolon) ∷ (t (Word k.EndModule) ∷ (t End ∷ []))))))
+unfolding readers read_target read_stmt read_source
+reg_without_delay = refl
 
 -- module m; and g(a, b), (c); u #(1) v(), w(.p()); endmodule: each entry is an item of its own
 entries_are_items : source (lower 255) (t (Word k.Module) ∷ (i 109 ∷ (t (Mark m.Semicolon) ∷ (t (Word k.And) ∷ (i 103 ∷ (t (Mark m.ParenOpen) ∷ (i 97 ∷ (t (Mark m.Comma) ∷ (i 98 ∷ (t (Mark m.ParenClose) ∷ (t (Mark m.Comma) ∷ (t (Mark m.ParenOpen) ∷ (i 99 ∷ (t (Mark m.ParenClose) ∷ (t (Mark m.Semicolon) ∷
@@ -127,8 +183,8 @@ entries_are_items : source (lower 255) (t (Word k.Module) ∷ (i 109 ∷ (t (Mar
       params = [];
       ports = [];
       items = record { place = nowhere.place; body = gate gates.And (name (n 97) ∷ name (n 98) ∷ []) } ∷ record { place = nowhere.place; body = gate gates.And (name (n 99) ∷ []) }
-          ∷ record { place = nowhere.place; body = instance (n 117) (ordered (Some (number 1 32 true) ∷ [])) (n 118) (ordered []) }
-          ∷ record { place = nowhere.place; body = instance (n 117) (ordered (Some (number 1 32 true) ∷ [])) (n 119) (named (record { name = n 112; value = None } ∷ [])) } ∷ [];
+          ∷ record { place = nowhere.place; body = instance (n 117) (ordered (Some (number 1 32 Plain) ∷ [])) (n 118) (ordered []) }
+          ∷ record { place = nowhere.place; body = instance (n 117) (ordered (Some (number 1 32 Plain) ∷ [])) (n 119) (named (record { name = n 112; value = None } ∷ [])) } ∷ [];
     } ∷ []) []
 unfolding readers read_target read_stmt read_source
 entries_are_items = refl

@@ -73,7 +73,7 @@ above_in_unary r r2 h p ts = above_then (r.binary zero ts) (r2.binary zero ts) (
     (λ a rest _. above_done (unary p.op a) rest) (λ a. local_done (unary p.op a))
 
 above_unary : (k : ℕ) (down : Option Readers) (r2 : Readers) → AboveDown k down r2 → LocalAll r2 → (ts : List Token) → Above (unary_at down ts) (unary_at (Some r2) ts)
-above_unary k down r2 D l = above_next numeral_in (λ n. done (number n.value n.width n.plain)) (λ n. done (number n.value n.width n.plain)) _ _ (λ n. above_done (number n.value n.width n.plain))
+above_unary k down r2 D l = above_next numeral_in (λ n. done (number n.value n.width n.size)) (λ n. done (number n.value n.width n.size)) _ _ (λ n. above_done (number n.value n.width n.size))
     (above_next ident_in (in_name down) (in_name (Some r2)) _ _ (above_name k down r2 D l)
     (above_enter down r2 prefix_in in_unary in_unary _ _ (λ r e p. above_in_unary r r2 (D r e).3 p) (λ p. local_in_unary r2 l p)
     (above_enter down r2 (mark_in ParenOpen) in_paren in_paren _ _ (λ r e p. above_paren r r2 (D r e).3 p) (λ p. local_in_paren r2 l p)

@@ -160,7 +160,7 @@ behind_exprs (one_more p {u} {v} {a} {bs} x y) rest s = before_comma p ((u ++ v)
 unary_of_readers : (k : ℕ) (ts : List Token) → (readers k).binary zero ts ≡ unary_at (downs k) ts
 unary_of_readers k ts = ap (λ r. r.binary zero ts) (readers_is k)
 
-number_reads : (k : ℕ) (n : Numeral) (rest : List Token) → (readers k).binary zero (numeral n ∷ rest) ≡ done (number n.value n.width n.plain) rest
+number_reads : (k : ℕ) (n : Numeral) (rest : List Token) → (readers k).binary zero (numeral n ∷ rest) ≡ done (number n.value n.width n.size) rest
 number_reads k n rest = unary_of_readers k (numeral n ∷ rest)
 
 name_reads : (k : ℕ) (n : Named) (rest : List Token) → Free (mark_in BracketOpen) rest → (readers k).binary zero (ident n ∷ rest) ≡ done (name n.name) rest

@@ -61,7 +61,7 @@ pub local_braces : (r : Readers) → LocalAll r → (p : Spot) → Local (in_bra
 local_braces r l p = local_then r.expr (behind_first r) l.expr (local_first r l)
 
 pub local_unary : (down : Option Readers) → LocalDown down → Local (unary_at down)
-local_unary down D = local_next numeral_in (λ n. done (number n.value n.width n.plain)) _ (λ n. local_done (number n.value n.width n.plain))
+local_unary down D = local_next numeral_in (λ n. done (number n.value n.width n.size)) _ (λ n. local_done (number n.value n.width n.size))
     (local_next ident_in (in_name down) _ (local_name down D)
     (local_enter down prefix_in in_unary _ (λ r e. local_in_unary r (D r e))
     (local_enter down (mark_in ParenOpen) in_paren _ (λ r e. local_in_paren r (D r e))

@@ -1,5 +1,6 @@
 -- What the reader of expressions gives is read, and what it refuses can be completed up to there.
-use Rattle.std.proofs.Common.{true, false, ◌≡◌, ℕ, zero, suc, ◌≤◌, ◌<◌, List, [], ◌∷◌, ◌++◌, Option, Some, None, refl, sym, subst, append_assoc, append-nil, arith, rules}
+use Rattle.std.proofs.Common.{false, ◌≡◌, ℕ, zero, suc, ◌≤◌, ◌<◌, List, [], ◌∷◌, ◌++◌, Option, Some, None, refl, sym, subst, append_assoc, append-nil, arith, rules}
+use Rattle.cdc_base.specs.declared.size.NumberSize.TheVariants.{Plain}
 use Rattle.verilog_lex.specs.declared.token.Token.{Token}
 use Rattle.verilog_lex.specs.declared.marks.MarkKind.TheVariants.{ParenOpen, ParenClose, BracketOpen, BracketClose, BraceOpen, BraceClose, Comma, Colon, Question}
 use Rattle.verilog_reading.specs.Lexemes.{Spot, mark, mark_in, Named, ident, ident_in, Numeral, numeral, numeral_in}
@@ -25,10 +26,10 @@ ExprIn = Within IsExpr height
 
 -- the least expression
 abbrev pub zero_numeral : Numeral
-zero_numeral = record { value = 0; width = 32; plain = true; spot = nowhere }
+zero_numeral = record { value = 0; width = 32; size = Plain; spot = nowhere }
 
 abbrev pub zero_tree : ExprTree
-zero_tree = number 0 32 true
+zero_tree = number 0 32 Plain
 
 pub zero_unary : IsUnary (numeral zero_numeral ∷ []) zero_tree
 zero_unary = is_number zero_numeral
@@ -114,7 +115,7 @@ says_braces k r j e s p ts =
 pub says_unary : (k : ℕ) (down : Option Readers) → SaysDown k down → (ts : List Token) → Says (UnaryIn k) ts (unary_at down ts)
 says_unary k down D =
     let P = UnaryIn k in let e : P (numeral zero_numeral ∷ []) zero_tree = (zero_unary, omega arith) in
-    says_next P numeral_in numeral numeral_is (λ n. done (number n.value n.width n.plain)) _ (λ n. says_done (λ v. P (numeral n ∷ v)) (number n.value n.width n.plain) (is_number n, omega arith))
+    says_next P numeral_in numeral numeral_is (λ n. done (number n.value n.width n.size)) _ (λ n. says_done (λ v. P (numeral n ∷ v)) (number n.value n.width n.size) (is_number n, omega arith))
     (says_next P ident_in ident ident_is (in_name down) _ (says_name k down D)
     (says_enter P down prefix_in prefix prefix_is in_unary _ (numeral zero_numeral ∷ []) zero_tree e
     (λ r q p f ts. let d = D r q in says_then (BinaryIn zero d.0) (λ v. P (prefix p ∷ v)) ts (r.binary zero ts) (d.2.binary zero ts) (λ a. done (unary p.op a))

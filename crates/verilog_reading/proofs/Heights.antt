@@ -6,7 +6,7 @@ use Rattle.verilog_reading.specs.ExprTree.{ExprTree, height, target_height}
 use Rattle.verilog_reading.specs.Lists.{AreMore, no_more, one_more, AreMany, none_of, one_of}
 use Rattle.verilog_reading.specs.Laws.{Within}
 use Rattle.verilog_reading.specs.SourceTree.{Bounds, most, in_option, bounds_height, param_height, port_height, joined}
-use Rattle.verilog_reading.specs.ItemReading.{IsList, is_list, Setting, Var, Driven, Pdecl, range_from, params_from, Shape, Entry, shape_from, ports_from, entries}
+use Rattle.verilog_reading.specs.ItemReading.{IsList, is_list, Setting, Var, Driven, ParamForm, Pdecl, form_from, params_from, Shape, Entry, shape_from, ports_from, entries}
 
 abbrev pub range_height : Option Bounds → ℕ
 range_height = in_option bounds_height
@@ -23,8 +23,11 @@ var_height x = max (range_height x.array) (init_height x.init)
 abbrev pub driven_height : Driven → ℕ
 driven_height d = max (target_height d.target) (height d.value)
 
+abbrev pub form_height : ParamForm → ℕ
+form_height f = range_height f.range
+
 abbrev pub pdecl_height : Pdecl → ℕ
-pdecl_height a = max (if a.long then range_height a.range else 0) (height a.setting.value)
+pdecl_height a = max (in_option form_height a.form) (height a.setting.value)
 
 abbrev pub shape_height : Shape → ℕ
 shape_height s = range_height s.range
@@ -64,25 +67,25 @@ entries_most (None ∷ (e ∷ es)) = refl
 entries_most (Some e ∷ es) = refl
 
 -- headers
-range_low : (k : ℕ) (before : Option Bounds) (r : Option Bounds) (b : Bool) → range_height before ≤ k → (if b then range_height r else 0) ≤ k → range_height (if b then r else before) ≤ k
-range_low k before r true i j = j
-range_low k before r false i j = i
+form_low : (k : ℕ) (before : ParamForm) (f : Option ParamForm) → form_height before ≤ k → in_option form_height f ≤ k → form_height (form_from before f) ≤ k
+form_low k before None i j = i
+form_low k before (Some f) i j = j
 
-pub params_low : (k : ℕ) (before : Option Bounds) (bs : List Pdecl) → range_height before ≤ k → most pdecl_height bs ≤ k → most param_height (params_from before bs) ≤ k
+pub params_low : (k : ℕ) (before : ParamForm) (bs : List Pdecl) → form_height before ≤ k → most pdecl_height bs ≤ k → most param_height (params_from before bs) ≤ k
 params_low k before [] i j = omega arith
 params_low k before (a ∷ bs) i j =
-    let r = range_low k before a.range a.long i (omega (arith, j)) in
-    let z = params_low k (range_from before a) bs r (omega (arith, j)) in omega (arith, j, r, z)
+    let r = form_low k before a.form i (omega (arith, j)) in
+    let z = params_low k (form_from before a.form) bs r (omega (arith, j)) in omega (arith, j, r, z)
 
-low_range : (k : ℕ) (before : Option Bounds) (r : Option Bounds) (b : Bool) → range_height (if b then r else before) ≤ k → (if b then range_height r else 0) ≤ k
-low_range k before r true i = i
-low_range k before r false i = omega arith
+low_form : (k : ℕ) (before : ParamForm) (f : Option ParamForm) → form_height (form_from before f) ≤ k → in_option form_height f ≤ k
+low_form k before None i = omega arith
+low_form k before (Some f) i = i
 
-pub low_params : (k : ℕ) (before : Option Bounds) (bs : List Pdecl) → most param_height (params_from before bs) ≤ k → most pdecl_height bs ≤ k
+pub low_params : (k : ℕ) (before : ParamForm) (bs : List Pdecl) → most param_height (params_from before bs) ≤ k → most pdecl_height bs ≤ k
 low_params k before [] i = omega arith
 low_params k before (a ∷ bs) i =
-    let r = low_range k before a.range a.long (omega (arith, i)) in
-    let z = low_params k (range_from before a) bs (omega (arith, i)) in omega (arith, i, r, z)
+    let r = low_form k before a.form (omega (arith, i)) in
+    let z = low_params k (form_from before a.form) bs (omega (arith, i)) in omega (arith, i, r, z)
 
 shape_low : (k : ℕ) (before : Shape) (s : Option Shape) → shape_height before ≤ k → in_option shape_height s ≤ k → shape_height (shape_from before s) ≤ k
 shape_low k before None i j = i

@@ -7,6 +7,7 @@ use Rattle.verilog_lex.specs.declared.marks.MarkKind.{MarkKind}
 use Rattle.verilog_lex.specs.declared.marks.MarkKind.TheVariants.{ParenOpen, ParenClose, BracketOpen, BracketClose, Comma, Colon, Semicolon, Dot, Hash, At, Equals, Star}
 use Rattle.verilog_ast.specs.declared.DeclKind.{DeclKind}
 use Rattle.verilog_ast.specs.declared.DeclKind.TheVariants.{Input, Output, OutputReg, Wire, Reg}
+use Rattle.verilog_ast.specs.declared.GateKind.{GateKind}
 use Rattle.verilog_ast.specs.declared.Event.TheVariants as events
 use Rattle.verilog_ast.specs.declared.EdgeKind.{EdgeKind}
 use Rattle.verilog_ast.specs.declared.EdgeKind.TheVariants.{Pos, Neg, Level}
@@ -16,15 +17,15 @@ use Rattle.verilog_reading.specs.Lists.{more, many}
 use Rattle.verilog_reading.specs.Reader.{closed}
 use Rattle.verilog_reading.specs.StmtReader.{Lower, lower}
 use Rattle.verilog_reading.specs.SourceTree.{ordered, named, joined}
-use Rattle.verilog_reading.specs.ItemReading.{edge_of, params_from, has_start}
+use Rattle.verilog_reading.specs.ItemReading.{edge_of, params_from, first_form, has_start, has_delay}
 use Rattle.verilog_reading.specs.ItemReader as reader
-use Rattle.verilog_reading.specs.ItemReader.{GateWord, gate_in, separator_in}
+use Rattle.verilog_reading.specs.ItemReader.{GateWord, gate_in, separator_in, dval_in}
 use Rattle.verilog_reading.specs.Laws.{Above, Local}
 use Rattle.verilog_reading.proofs.Local.{local_done, local_closed, Eats}
 use Rattle.verilog_reading.proofs.Above.{above_then, above_next, above_done, above_expect, above_closed, above_peek, above_if, above_more, above_many}
 use Rattle.verilog_reading.proofs.StmtLocal.{LocalLower, local_lower}
 use Rattle.verilog_reading.proofs.StmtAbove.{AboveLower, above_exprs, above_aims, above_stmts}
-use Rattle.verilog_reading.proofs.ItemLocal.{local_then_done, local_list_more, local_listed, local_edge, local_bare, local_at_right, local_init, local_setting, local_var, local_at_driven, local_driven, local_gate, local_value, local_conn, local_placed, local_decls, local_item, local_pdecl, local_behind_range, local_behind_direction, local_entry, local_behind_ports, local_behind_header, local_module, eats_items}
+use Rattle.verilog_reading.proofs.ItemLocal.{local_then_done, local_list_more, local_listed, local_edge, local_bare, local_at_right, local_init, local_setting, local_var, local_at_driven, local_driven, local_gate, local_value, local_conn, local_placed, local_vars, local_assigns, local_gates, local_decls, local_item, local_pdecl, local_behind_range, local_behind_direction, local_entry, local_behind_ports, local_behind_header, local_module, eats_items}
 
 above_then_done : {A B : Type 0} (f : A → B) (r r2 : List Token → Outcome A) (ts : List Token) → Above (r ts) (r2 ts) → Above (reader.then_done f r ts) (reader.then_done f r2 ts)
 above_then_done f r r2 ts h = above_then (r ts) (r2 ts) h (λ a. done (f a)) (λ a. done (f a)) (λ a rest _. above_done (f a) rest) (λ a. local_done (f a))
@@ -32,6 +33,9 @@ above_then_done f r r2 ts h = above_then (r ts) (r2 ts) h (λ a. done (f a)) (λ
 above_then_both : {A B D : Type 0} (f : A → B → D) (r r2 : List Token → Outcome A) (s s2 : List Token → Outcome B) (ts : List Token) → Above (r ts) (r2 ts) → ((xs : List Token) → Above (s xs) (s2 xs)) → Local s2
     → Above (reader.then_both f r s ts) (reader.then_both f r2 s2 ts)
 above_then_both f r r2 s s2 ts h i l = above_then (r ts) (r2 ts) h (λ a. reader.then_done (f a) s) (λ a. reader.then_done (f a) s2) (λ a rest _. above_then_done (f a) s s2 rest (i rest)) (λ a. local_then_done (f a) s2 l)
+
+above_past : {A B : Type 0} (r r2 : List Token → Outcome A) (s s2 : List Token → Outcome B) (ts : List Token) → Above (r ts) (r2 ts) → ((xs : List Token) → Above (s xs) (s2 xs)) → Local s2 → Above (reader.past r s ts) (reader.past r2 s2 ts)
+above_past r r2 s s2 ts h i l = above_then (r ts) (r2 ts) h (λ _. s) (λ _. s2) (λ a rest _. i rest) (λ _. l)
 
 above_list : {A B : Type 0} (test : Token → Option B) (m : MarkKind) (first first2 item item2 : List Token → Outcome A) → ((ts : List Token) → Above (first ts) (first2 ts)) → ((ts : List Token) → Above (item ts) (item2 ts)) → Local item2
     → (ts : List Token) → Above (reader.list test m first item ts) (reader.list test m first2 item2 ts)
@@ -66,6 +70,16 @@ above_event = above_expect (mark_in At) (λ _. reader.at_event) (λ _. reader.at
     (reader.then_done events.Edges (reader.list separator_in ParenClose reader.edge reader.edge)) (reader.then_done events.Edges (reader.list separator_in ParenClose reader.edge reader.edge)) (λ _. above_closed ParenClose events.Star)
     (λ ts. above_then_done events.Edges (reader.list separator_in ParenClose reader.edge reader.edge) (reader.list separator_in ParenClose reader.edge reader.edge) ts (above_list separator_in ParenClose reader.edge reader.edge reader.edge reader.edge above_edge above_edge local_edge ts)))))
 
+above_delay : (ts : List Token) → Above (reader.maybe_delay ts) (reader.maybe_delay ts)
+above_delay = above_next (mark_in Hash) reader.in_delay reader.in_delay (done tt) (done tt) (λ _. above_next (mark_in ParenOpen) reader.in_delays reader.in_delays (expect dval_in (λ _. done tt)) (expect dval_in (λ _. done tt))
+    (λ _. above_expect dval_in (λ _. next (mark_in Comma) reader.second_delay reader.delay_end) (λ _. next (mark_in Comma) reader.second_delay reader.delay_end)
+    (λ _. above_next (mark_in Comma) reader.second_delay reader.second_delay reader.delay_end reader.delay_end
+    (λ _. above_expect dval_in (λ _. reader.delay_end) (λ _. reader.delay_end) (λ _. above_closed ParenClose tt)) (above_closed ParenClose tt)))
+    (above_expect dval_in (λ _. done tt) (λ _. done tt) (λ _. above_done tt))) (above_done tt)
+
+above_delay_of : (kind : DeclKind) (ts : List Token) → Above (reader.delay_of kind ts) (reader.delay_of kind ts)
+above_delay_of kind = above_if (has_delay kind) reader.maybe_delay reader.maybe_delay (done tt) (done tt) above_delay (above_done tt)
+
 above_bare : (ts : List Token) → Above (reader.bare_name ts) (reader.bare_name ts)
 above_bare = above_expect ident_in (λ n. done n.name) (λ n. done n.name) (λ n. above_done n.name)
 
@@ -87,6 +101,10 @@ module _ (l l2 : Lower) (h : AboveLower l l2) (i : LocalLower l2) where
 
   above_var : (ts : List Token) → Above (reader.var l ts) (reader.var l2 ts)
   above_var = above_expect ident_in (reader.in_var l) (reader.in_var l2) (λ n ts. above_then_both (reader.var_of n.name) (reader.maybe_range l) (reader.maybe_range l2) (reader.init l) (reader.init l2) ts (above_range ts) above_init (local_init l2 i))
+
+  above_vars : (kind : DeclKind) (ts : List Token) → Above (reader.vars l kind ts) (reader.vars l2 kind ts)
+  above_vars kind ts = above_past (reader.delay_of kind) (reader.delay_of kind) (reader.listed Semicolon (reader.var l)) (reader.listed Semicolon (reader.var l2)) ts (above_delay_of kind ts)
+      (above_listed Semicolon (reader.var l) (reader.var l2) above_var (local_var l2 i)) (local_listed Semicolon (reader.var l2) (local_var l2 i))
 
   above_driven : (ts : List Token) → Above (reader.driven l ts) (reader.driven l2 ts)
   above_driven ts = above_then (l.target ts) (l2.target ts) (h.target ts) (reader.at_driven l) (reader.at_driven l2)
@@ -120,8 +138,15 @@ module _ (l l2 : Lower) (h : AboveLower l l2) (i : LocalLower l2) where
 
   -- items
   above_decls : (p : Place) (kind : DeclKind) (ts : List Token) → Above (reader.decls l p kind ts) (reader.decls l2 p kind ts)
-  above_decls p kind ts = above_then_both (reader.decl_items p kind) (reader.maybe_range l) (reader.maybe_range l2) (reader.listed Semicolon (reader.var l)) (reader.listed Semicolon (reader.var l2)) ts (above_range ts)
-      (above_listed Semicolon (reader.var l) (reader.var l2) above_var (local_var l2 i)) (local_listed Semicolon (reader.var l2) (local_var l2 i))
+  above_decls p kind ts = above_then_both (reader.decl_items p kind) (reader.maybe_range l) (reader.maybe_range l2) (reader.vars l kind) (reader.vars l2 kind) ts (above_range ts) (above_vars kind) (local_vars l2 i kind)
+
+  above_assigns : (p : Place) (ts : List Token) → Above (reader.past reader.maybe_delay (reader.then_done (reader.assign_items p) (reader.listed Semicolon (reader.driven l))) ts) (reader.past reader.maybe_delay (reader.then_done (reader.assign_items p) (reader.listed Semicolon (reader.driven l2))) ts)
+  above_assigns p ts = above_past reader.maybe_delay reader.maybe_delay (reader.then_done (reader.assign_items p) (reader.listed Semicolon (reader.driven l))) (reader.then_done (reader.assign_items p) (reader.listed Semicolon (reader.driven l2))) ts (above_delay ts)
+      (λ xs. above_then_done (reader.assign_items p) (reader.listed Semicolon (reader.driven l)) (reader.listed Semicolon (reader.driven l2)) xs (above_listed Semicolon (reader.driven l) (reader.driven l2) above_driven (local_driven l2 i) xs)) (local_assigns l2 i p)
+
+  above_gates : (p : Place) (kind : GateKind) (ts : List Token) → Above (reader.past reader.maybe_delay (reader.then_done (reader.gate_items p kind) (reader.listed Semicolon (reader.gate l))) ts) (reader.past reader.maybe_delay (reader.then_done (reader.gate_items p kind) (reader.listed Semicolon (reader.gate l2))) ts)
+  above_gates p kind ts = above_past reader.maybe_delay reader.maybe_delay (reader.then_done (reader.gate_items p kind) (reader.listed Semicolon (reader.gate l))) (reader.then_done (reader.gate_items p kind) (reader.listed Semicolon (reader.gate l2))) ts (above_delay ts)
+      (λ xs. above_then_done (reader.gate_items p kind) (reader.listed Semicolon (reader.gate l)) (reader.listed Semicolon (reader.gate l2)) xs (above_listed Semicolon (reader.gate l) (reader.gate l2) above_gate (local_gate l2 i) xs)) (local_gates l2 i p kind)
 
   above_params : (b : Bool) (p : Spot) (ts : List Token) → Above (reader.in_params l b p ts) (reader.in_params l2 b p ts)
   above_params b p ts = above_then_both (reader.param_items p.place b) (reader.maybe_range l) (reader.maybe_range l2) (reader.listed Semicolon (reader.setting l)) (reader.listed Semicolon (reader.setting l2)) ts (above_range ts)
@@ -134,28 +159,30 @@ module _ (l l2 : Lower) (h : AboveLower l l2) (i : LocalLower l2) where
       (above_next (word_in k.Reg) (λ p. reader.decls l p.place Reg) (λ p. reader.decls l2 p.place Reg) _ _ (λ p. above_decls p.place Reg)
       (above_next (word_in k.Parameter) (reader.in_params l false) (reader.in_params l2 false) _ _ (above_params false)
       (above_next (word_in k.LocalParam) (reader.in_params l true) (reader.in_params l2 true) _ _ (above_params true)
-      (above_next (word_in k.Assign) (reader.in_assigns l) (reader.in_assigns l2) _ _ (λ p ts. above_then_done (reader.assign_items p.place) (reader.listed Semicolon (reader.driven l)) (reader.listed Semicolon (reader.driven l2)) ts (above_listed Semicolon (reader.driven l) (reader.driven l2) above_driven (local_driven l2 i) ts))
-      (above_next gate_in (reader.in_gates l) (reader.in_gates l2) _ _ (λ g ts. above_then_done (reader.gate_items g.spot.place g.kind) (reader.listed Semicolon (reader.gate l)) (reader.listed Semicolon (reader.gate l2)) ts (above_listed Semicolon (reader.gate l) (reader.gate l2) above_gate (local_gate l2 i) ts))
+      (above_next (word_in k.Assign) (reader.in_assigns l) (reader.in_assigns l2) _ _ (λ p. above_assigns p.place)
+      (above_next gate_in (reader.in_gates l) (reader.in_gates l2) _ _ (λ g. above_gates g.spot.place g.kind)
       (above_next ident_in (reader.in_instances l) (reader.in_instances l2) _ _ (λ n ts. above_then_both (reader.instance_items n.spot.place n.name) (reader.overrides l) (reader.overrides l2) (reader.listed Semicolon (reader.placed l)) (reader.listed Semicolon (reader.placed l2)) ts (above_overrides ts)
       (above_listed Semicolon (reader.placed l) (reader.placed l2) above_placed (local_placed l2 i)) (local_listed Semicolon (reader.placed l2) (local_placed l2 i)))
       (above_next (word_in k.Always) (reader.in_always l) (reader.in_always l2) _ _ (λ p ts. above_then_both (reader.always_items p.place) reader.event reader.event l.stmt l2.stmt ts (above_event ts) h.stmt i.stmt)
       (above_expect (word_in k.Initial) (reader.in_initial l) (reader.in_initial l2) (λ p ts. above_then_done (reader.initial_items p.place) l.stmt l2.stmt ts (h.stmt ts))))))))))))
 
   -- headers
-  above_in_long : (p : Spot) (ts : List Token) → Above (reader.in_long l p ts) (reader.in_long l2 p ts)
-  above_in_long p ts = above_then_both reader.long_of (reader.maybe_range l) (reader.maybe_range l2) (reader.setting l) (reader.setting l2) ts (above_range ts) above_setting (local_setting l2 i)
+  above_in_long : (b : Bool) (ts : List Token) → Above (reader.in_long l b ts) (reader.in_long l2 b ts)
+  above_in_long b ts = above_then_both (reader.long_of b) (reader.maybe_range l) (reader.maybe_range l2) (reader.setting l) (reader.setting l2) ts (above_range ts) above_setting (local_setting l2 i)
 
   above_long : (ts : List Token) → Above (reader.long_pdecl l ts) (reader.long_pdecl l2 ts)
-  above_long = above_expect (word_in k.Parameter) (reader.in_long l) (reader.in_long l2) above_in_long
+  above_long = above_next (word_in k.Parameter) (λ _. reader.in_long l false) (λ _. reader.in_long l2 false) _ _ (λ _. above_in_long false)
+      (above_expect (word_in k.LocalParam) (λ _. reader.in_long l true) (λ _. reader.in_long l2 true) (λ _. above_in_long true))
 
   above_pdecl : (ts : List Token) → Above (reader.pdecl l ts) (reader.pdecl l2 ts)
-  above_pdecl = above_next (word_in k.Parameter) (reader.in_long l) (reader.in_long l2) (reader.then_done reader.short_of (reader.setting l)) (reader.then_done reader.short_of (reader.setting l2)) above_in_long
-      (λ ts. above_then_done reader.short_of (reader.setting l) (reader.setting l2) ts (above_setting ts))
+  above_pdecl = above_next (word_in k.Parameter) (λ _. reader.in_long l false) (λ _. reader.in_long l2 false) _ _ (λ _. above_in_long false)
+      (above_next (word_in k.LocalParam) (λ _. reader.in_long l true) (λ _. reader.in_long l2 true) (reader.then_done reader.short_of (reader.setting l)) (reader.then_done reader.short_of (reader.setting l2)) (λ _. above_in_long true)
+      (λ ts. above_then_done reader.short_of (reader.setting l) (reader.setting l2) ts (above_setting ts)))
 
   above_header : (ts : List Token) → Above (reader.header l ts) (reader.header l2 ts)
   above_header = above_next (mark_in Hash) (reader.in_header l) (reader.in_header l2) (done []) (done [])
-      (λ p. above_expect (mark_in ParenOpen) (λ _. reader.then_done (params_from None) (reader.list (mark_in Comma) ParenClose (reader.long_pdecl l) (reader.pdecl l))) (λ _. reader.then_done (params_from None) (reader.list (mark_in Comma) ParenClose (reader.long_pdecl l2) (reader.pdecl l2)))
-      (λ _ ts. above_then_done (params_from None) (reader.list (mark_in Comma) ParenClose (reader.long_pdecl l) (reader.pdecl l)) (reader.list (mark_in Comma) ParenClose (reader.long_pdecl l2) (reader.pdecl l2)) ts
+      (λ p. above_expect (mark_in ParenOpen) (λ _. reader.then_done (params_from first_form) (reader.list (mark_in Comma) ParenClose (reader.long_pdecl l) (reader.pdecl l))) (λ _. reader.then_done (params_from first_form) (reader.list (mark_in Comma) ParenClose (reader.long_pdecl l2) (reader.pdecl l2)))
+      (λ _ ts. above_then_done (params_from first_form) (reader.list (mark_in Comma) ParenClose (reader.long_pdecl l) (reader.pdecl l)) (reader.list (mark_in Comma) ParenClose (reader.long_pdecl l2) (reader.pdecl l2)) ts
       (above_list (mark_in Comma) ParenClose (reader.long_pdecl l) (reader.long_pdecl l2) (reader.pdecl l) (reader.pdecl l2) above_long above_pdecl (local_pdecl l2 i) ts)))
       (above_done [])
 

@@ -24,7 +24,7 @@ use Rattle.verilog_reading.specs.Lists.{many, AreMore, no_more, one_more, AreMan
 use Rattle.verilog_reading.specs.Reading.{IsExpr, IsRange, is_range}
 use Rattle.verilog_reading.specs.StmtReader.{Lower, lower}
 use Rattle.verilog_reading.specs.SourceTree.{Bounds, ParamTree, ConnTree, ConnsTree, ordered, named, ItemTree, ModuleTree, most, param_height, port_height, conn_height, conns_height, item_height, module_height, source_height}
-use Rattle.verilog_reading.specs.ItemReading.{IsList, is_list, IsListed, IsMaybeRange, no_range, a_range, IsInit, no_init, an_init, Setting, IsSetting, is_setting, MayBeWord, no_word, the_word, IsDirection, is_input, is_output, is_output_reg, IsKind, is_direction, is_wire, is_reg, Var, IsVar, is_var, Driven, IsDriven, is_driven, gate_of, IsGate, plain_gate, named_gate, IsValue, no_value, a_value, IsConn, is_conn, IsConns, is_ordered, is_named, IsOverrides, no_overrides, overrides, Placed, IsPlaced, is_placed, IsEdge, is_positive, is_negative, is_level, Separator, separator, IsEvent, is_star, is_star_in, is_edges, decl_item, param_item, assign_item, gate_item, instance_item, param_word, IsItem, is_decls, is_params, is_assigns, is_gates, is_instances, is_always, is_initial, Pdecl, IsLongPdecl, is_long, IsPdecl, long_pdecl, short_pdecl, params_from, IsHeader, no_header, a_header, has_start, IsStart, no_start, a_start, Entry, IsAdecl, is_adecl, IsEntry, long_entry, short_entry, first_shape, IsName, a_name, Ports, IsPorts, no_ports, empty_ports, old_ports, ansi_ports, IsModule, is_module, IsSource, is_source}
+use Rattle.verilog_reading.specs.ItemReading.{IsList, is_list, IsListed, IsMaybeRange, no_range, a_range, IsInit, no_init, an_init, Setting, IsSetting, is_setting, MayBeWord, no_word, the_word, IsDirection, is_input, is_output, is_output_reg, IsKind, is_direction, is_wire, is_reg, Var, IsVar, is_var, Dval, by_number, by_name, IsDelay, no_delay, bare_delay, one_delay, two_delays, has_delay, IsDelayOf, not_delayed, may_delay, IsVars, are_vars, Driven, IsDriven, is_driven, gate_of, IsGate, plain_gate, named_gate, IsValue, no_value, a_value, IsConn, is_conn, IsConns, is_ordered, is_named, IsOverrides, no_overrides, overrides, Placed, IsPlaced, is_placed, IsEdge, is_positive, is_negative, is_level, Separator, separator, IsEvent, is_star, is_star_in, is_edges, decl_item, param_item, assign_item, gate_item, instance_item, param_word, IsItem, is_decls, is_params, is_assigns, is_gates, is_instances, is_always, is_initial, Pdecl, IsLongPdecl, is_long, IsPdecl, long_pdecl, short_pdecl, params_from, first_form, IsHeader, no_header, a_header, has_start, IsStart, no_start, a_start, Entry, IsAdecl, is_adecl, IsEntry, long_entry, short_entry, first_shape, IsName, a_name, Ports, IsPorts, no_ports, empty_ports, old_ports, ansi_ports, IsModule, is_module, IsSource, is_source}
 use Rattle.verilog_reading.specs.ItemReader as reader
 use Rattle.verilog_reading.specs.ItemReader.{separator_in}
 use Rattle.verilog_reading.specs.Laws.{Within, Free}
@@ -33,7 +33,7 @@ use Rattle.verilog_reading.proofs.Complete.{next_free, next_found, peek_found, p
 use Rattle.verilog_reading.proofs.ExprComplete.{c_expr, behind_paren, behind_bracket, before_comma, before_colon}
 use Rattle.verilog_reading.proofs.Targets.{c_target}
 use Rattle.verilog_reading.proofs.StmtComplete.{c_stmt, before_semicolon}
-use Rattle.verilog_reading.proofs.Starts.{expr_starts, dot_no_start, IsNoStart}
+use Rattle.verilog_reading.proofs.Starts.{expr_starts, target_starts, dot_no_start, hash_no_start, IsNoStart}
 use Rattle.verilog_reading.proofs.Tests.{same_words}
 use Rattle.verilog_reading.proofs.ItemLocal.{eats_items, eats_modules}
 use Rattle.verilog_reading.proofs.Heights.{range_height, init_height, setting_height, var_height, driven_height, pdecl_height, entry_height, map_most, joined_most, entries_most, low_params, low_ports, more_within, many_within}
@@ -119,6 +119,37 @@ direction_reads (is_input p h) rest f g = wire_reads Input h rest f
 direction_reads (is_output p h) rest f g = output_reads h rest f g
 direction_reads (is_output_reg p q) rest f g = refl
 
+-- the one or the other reader
+chosen : {A : Type 0} (b : Bool) (r s : List Token → Outcome A) → b ≡ true → (ts : List Token) → (if b then r else s) ts ≡ r ts
+chosen true r s e ts = refl
+chosen false r s e ts = absurd (search (rules, e))
+
+other : {A : Type 0} (b : Bool) (r s : List Token → Outcome A) → b ≡ false → (ts : List Token) → (if b then r else s) ts ≡ s ts
+other true r s e ts = absurd (search (rules, e))
+other false r s e ts = refl
+
+-- delays
+delay_reads : {u : List Token} → IsDelay u → (rest : List Token) → Free (mark_in Hash) rest → reader.maybe_delay (u ++ rest) ≡ done tt rest
+delay_reads no_delay rest f = next_free (mark_in Hash) reader.in_delay (done tt) rest f
+delay_reads (bare_delay p (by_number n)) rest f = refl
+delay_reads (bare_delay p (by_name n)) rest f = refl
+delay_reads (one_delay p q r (by_number n)) rest f = refl
+delay_reads (one_delay p q r (by_name n)) rest f = refl
+delay_reads (two_delays p q o r (by_number n) (by_number m)) rest f = refl
+delay_reads (two_delays p q o r (by_number n) (by_name m)) rest f = refl
+delay_reads (two_delays p q o r (by_name n) (by_number m)) rest f = refl
+delay_reads (two_delays p q o r (by_name n) (by_name m)) rest f = refl
+
+delay_of_reads : {kind : DeclKind} {u : List Token} → IsDelayOf kind u → (rest : List Token) → Free (mark_in Hash) rest → reader.delay_of kind (u ++ rest) ≡ done tt rest
+delay_of_reads {kind} (not_delayed e) rest f = other (has_delay kind) reader.maybe_delay (done tt) e rest
+delay_of_reads {kind} (may_delay {u = u} e d) rest f = chosen (has_delay kind) reader.maybe_delay (done tt) e (u ++ rest) ∙ delay_reads d rest f
+
+delay_starts : {B : Type 0} (test : Token → Option B) → ((p : Spot) → test (mark Hash p) ≡ None) → {u : List Token} → IsDelay u → (ts : List Token) → Free test ts → Free test (u ++ ts)
+delay_starts test h no_delay ts f = f
+delay_starts test h (bare_delay p d) ts f = h p
+delay_starts test h (one_delay p q r d) ts f = h p
+delay_starts test h (two_delays p q o r d e) ts f = h p
+
 -- events
 edge_reads : (n : ℕ) → ReadsAll n IsEdge flat Anything reader.edge
 edge_reads n u a x j rest ok = go x
@@ -203,6 +234,23 @@ module _ (n : ℕ) where
       go (is_var m {u} {v} {r} {e} x y) j = ap (reader.in_var l m) (append_assoc u v rest)
           ∙ ap (λ o. then_read o (λ r. reader.then_done (reader.var_of m.name r) (reader.init l))) (range_reads u r x (omega (arith, j)) (v ++ rest) (init_bracket y rest f))
           ∙ ap (λ o. then_read o (λ e. done (reader.var_of m.name r e))) (init_reads v e y (omega (arith, j)) rest f)
+
+  -- what begins with a name
+  vars_start : {B : Type 0} (test : Token → Option B) → ((m : Named) → test (ident m) ≡ None) → {u : List Token} {xs : List Var} → IsListed Semicolon IsVar u xs → (rest : List Token) → Free test (u ++ rest)
+  vars_start test e (is_list q (is_var m x y) z) rest = e m
+
+  -- or else with a delay
+  all_start : {B : Type 0} (test : Token → Option B) → ((m : Named) → test (ident m) ≡ None) → ((p : Spot) → test (mark Hash p) ≡ None) → {kind : DeclKind} {u : List Token} {xs : List Var} → IsVars kind u xs → (rest : List Token) → Free test (u ++ rest)
+  all_start test e h (are_vars {u = u} {v = v} d x) rest = subst (Free test) (sym (append_assoc u v rest)) (go d)
+    where
+      go : {kind : DeclKind} {u : List Token} → IsDelayOf kind u → Free test (u ++ (v ++ rest))
+      go (not_delayed i) = vars_start test e x rest
+      go (may_delay i y) = delay_starts test h y (v ++ rest) (vars_start test e x rest)
+
+  all_read : {kind : DeclKind} {u : List Token} {xs : List Var} → IsVars kind u xs → most var_height xs ≤ n → (rest : List Token) → reader.vars l kind (u ++ rest) ≡ done xs rest
+  all_read {kind} (are_vars {u = u} {v = v} d x) j rest = ap (reader.vars l kind) (append_assoc u v rest)
+      ∙ ap (λ o. then_read o (λ _. reader.listed Semicolon (reader.var l))) (delay_of_reads d (v ++ rest) (vars_start (mark_in Hash) (λ m. refl) x rest))
+      ∙ listed_reads Semicolon (λ p. refl) (λ p. refl) IsVar var_height InitOk init_comma init_semicolon (reader.var l) var_reads x j rest
 
   driven_reads : ReadsAll n IsDriven driven_height Stands (reader.driven l)
   driven_reads u b x j rest f = go x j
@@ -292,10 +340,6 @@ module _ (n : ℕ) where
       → reader.then_both f r s ((u ++ v) ++ rest) ≡ done (f a b) rest
   both_read f r s u v rest a b h i = ap (reader.then_both f r s) (append_assoc u v rest) ∙ ap (λ o. then_read o (λ a. reader.then_done (f a) s)) h ∙ ap (λ o. then_read o (λ b. done (f a b))) i
 
-  -- what begins with a name
-  vars_start : {B : Type 0} (test : Token → Option B) → ((m : Named) → test (ident m) ≡ None) → {u : List Token} {xs : List Var} → IsListed Semicolon IsVar u xs → (rest : List Token) → Free test (u ++ rest)
-  vars_start test e (is_list q (is_var m x y) z) rest = e m
-
   settings_start : {B : Type 0} (test : Token → Option B) → ((m : Named) → test (ident m) ≡ None) → {u : List Token} {xs : List Setting} → IsListed Semicolon IsSetting u xs → (rest : List Token) → Free test (u ++ rest)
   settings_start test e (is_list q (is_setting m p x) z) rest = e m
 
@@ -310,14 +354,17 @@ module _ (n : ℕ) where
       go : {v : List Token} {a b : ExprTree} → IsRange v a b → Free (word_in w) (v ++ ts)
       go (is_range p o q x y) = refl
 
-  decls_read : (p : Place) (kind : DeclKind) {v w : List Token} {b : Option Bounds} {xs : List Var} → IsMaybeRange v b → IsListed Semicolon IsVar w xs → most item_height (map (decl_item p kind b) xs) ≤ n → (rest : List Token)
-      → reader.decls l p kind ((v ++ w) ++ rest) ≡ done (map (decl_item p kind b) xs) rest
-  decls_read p kind {v} {w} {b} {xs} x y j rest = both_read (reader.decl_items p kind) (reader.maybe_range l) (reader.listed Semicolon (reader.var l)) v w rest b xs
-      (range_reads v b x (first_low (mark Comma) Semicolon IsVar IsVar y item_height (decl_item p kind b) (range_height b) n (λ a i. omega (arith, i)) j) (w ++ rest) (vars_start (mark_in BracketOpen) (λ m. refl) y rest))
-      (listed_reads Semicolon (λ p. refl) (λ p. refl) IsVar var_height InitOk init_comma init_semicolon (reader.var l) var_reads y (map_most var_height item_height (decl_item p kind b) n (λ a i. omega (arith, i)) xs j) rest)
+  vars_low : {C : Type 0} {kind : DeclKind} {u : List Token} {xs : List Var} → IsVars kind u xs → (g : C → ℕ) (f : Var → C) (c : ℕ) → ((a : Var) → g (f a) ≤ n → c ≤ n) → most g (map f xs) ≤ n → c ≤ n
+  vars_low (are_vars d x) g f c e j = first_low (mark Comma) Semicolon IsVar IsVar x g f c n e j
 
-  decl_start : (t : Keyword) {v w : List Token} {b : Option Bounds} {xs : List Var} → IsMaybeRange v b → IsListed Semicolon IsVar w xs → (rest : List Token) → Free (word_in t) ((v ++ w) ++ rest)
-  decl_start t {v} {w} x y rest = subst (Free (word_in t)) (sym (append_assoc v w rest)) (range_start t x (w ++ rest) (vars_start (word_in t) (λ m. refl) y rest))
+  decls_read : (p : Place) (kind : DeclKind) {v w : List Token} {b : Option Bounds} {xs : List Var} → IsMaybeRange v b → IsVars kind w xs → most item_height (map (decl_item p kind b) xs) ≤ n → (rest : List Token)
+      → reader.decls l p kind ((v ++ w) ++ rest) ≡ done (map (decl_item p kind b) xs) rest
+  decls_read p kind {v} {w} {b} {xs} x y j rest = both_read (reader.decl_items p kind) (reader.maybe_range l) (reader.vars l kind) v w rest b xs
+      (range_reads v b x (vars_low y item_height (decl_item p kind b) (range_height b) (λ a i. omega (arith, i)) j) (w ++ rest) (all_start (mark_in BracketOpen) (λ m. refl) (λ q. refl) y rest))
+      (all_read y (map_most var_height item_height (decl_item p kind b) n (λ a i. omega (arith, i)) xs j) rest)
+
+  decl_start : (t : Keyword) {kind : DeclKind} {v w : List Token} {b : Option Bounds} {xs : List Var} → IsMaybeRange v b → IsVars kind w xs → (rest : List Token) → Free (word_in t) ((v ++ w) ++ rest)
+  decl_start t {v} {w} x y rest = subst (Free (word_in t)) (sym (append_assoc v w rest)) (range_start t x (w ++ rest) (all_start (word_in t) (λ m. refl) (λ q. refl) y rest))
 
   -- the word of a direction or kind leads to its declarations
   direction_enters : {p : Spot} {u : List Token} {kind : DeclKind} → IsDirection p u kind → (ts : List Token) → Free (word_in k.Wire) ts → Free (word_in k.Reg) ts → reader.item l (u ++ ts) ≡ reader.decls l p.place kind ts
@@ -348,6 +395,23 @@ module _ (n : ℕ) where
   gates_enter k.Not p kind ts e = gate_is k.Not p g.Not kind ts e
   gates_enter w p kind ts e = absurd (search (rules, e))
 
+  driven_start : {v : List Token} {xs : List Driven} → IsListed Semicolon IsDriven v xs → (rest : List Token) → Free (mark_in Hash) (v ++ rest)
+  driven_start (is_list q {u} {v} x y) rest = subst (Free (mark_in Hash)) (sym (append_assoc u (v ++ mark Semicolon q ∷ []) rest)) (go x ((v ++ mark Semicolon q ∷ []) ++ rest))
+    where
+      go : {u : List Token} {d : Driven} → IsDriven u d → (ts : List Token) → Free (mark_in Hash) (u ++ ts)
+      go (is_driven p {u} {v} x y) ts = subst (Free (mark_in Hash)) (sym (append_assoc u (mark Equals p ∷ v) ts)) (target_starts (mark_in Hash) hash_no_start x (mark Equals p ∷ (v ++ ts)))
+
+  gates_start : {v : List Token} {xs : List (List ExprTree)} → IsListed Semicolon IsGate v xs → (rest : List Token) → Free (mark_in Hash) (v ++ rest)
+  gates_start (is_list q (plain_gate p x) y) rest = refl
+  gates_start (is_list q (named_gate m p x) y) rest = refl
+
+  -- assignments and gates behind their delay
+  abbrev assigns : Place → List Token → Outcome (List ItemTree)
+  assigns p = reader.then_done (reader.assign_items p) (reader.listed Semicolon (reader.driven l))
+
+  abbrev gates : Place → GateKind → List Token → Outcome (List ItemTree)
+  gates p kind = reader.then_done (reader.gate_items p kind) (reader.listed Semicolon (reader.gate l))
+
   pub item_reads : ReadsAll n IsItem (most item_height) (Free (word_in k.Else)) (reader.item l)
   item_reads u b x j rest f = go x j
     where
@@ -358,9 +422,11 @@ module _ (n : ℕ) where
           ∙ both_read (reader.param_items p.place b) (reader.maybe_range l) (reader.listed Semicolon (reader.setting l)) u v rest a xs
           (range_reads u a x (first_low (mark Comma) Semicolon IsSetting IsSetting y item_height (param_item p.place b a) (range_height a) n (λ z i. omega (arith, i)) j) (v ++ rest) (settings_start (mark_in BracketOpen) (λ m. refl) y rest))
           (listed_reads Semicolon (λ p. refl) (λ p. refl) IsSetting setting_height Stands before_comma before_semicolon (reader.setting l) setting_reads y (map_most setting_height item_height (param_item p.place b a) n (λ z i. omega (arith, i)) xs j) rest)
-      go (is_assigns p {u} {xs} x) j = ap (λ o. then_read o (λ xs. done (reader.assign_items p.place xs)))
+      go (is_assigns p {u} {v} {xs} d x) j = ap (reader.past reader.maybe_delay (assigns p.place)) (append_assoc u v rest)
+          ∙ ap (λ o. then_read o (λ _. assigns p.place)) (delay_reads d (v ++ rest) (driven_start x rest)) ∙ ap (λ o. then_read o (λ xs. done (reader.assign_items p.place xs)))
           (listed_reads Semicolon (λ p. refl) (λ p. refl) IsDriven driven_height Stands before_comma before_semicolon (reader.driven l) driven_reads x (map_most driven_height item_height (assign_item p.place) n (λ z i. i) xs j) rest)
-      go (is_gates w p {kind} {u} {xs} e x) j = gates_enter w p kind (u ++ rest) e ∙ ap (λ o. then_read o (λ xs. done (reader.gate_items p.place kind xs)))
+      go (is_gates w p {kind} {u} {v} {xs} e d x) j = gates_enter w p kind ((u ++ v) ++ rest) e ∙ ap (reader.past reader.maybe_delay (gates p.place kind)) (append_assoc u v rest)
+          ∙ ap (λ o. then_read o (λ _. gates p.place kind)) (delay_reads d (v ++ rest) (gates_start x rest)) ∙ ap (λ o. then_read o (λ xs. done (reader.gate_items p.place kind xs)))
           (listed_reads Semicolon (λ p. refl) (λ p. refl) IsGate (most height) Anything (λ p ts. tt) (λ p ts. tt) (reader.gate l) gate_reads x (map_most (most height) item_height (gate_item p.place kind) n (λ z i. i) xs j) rest)
       go (is_instances m {u} {v} {c} {xs} x y) j = both_read (reader.instance_items m.spot.place m.name) (reader.overrides l) (reader.listed Semicolon (reader.placed l)) u v rest c xs
           (overrides_reads u c x (first_low (mark Comma) Semicolon IsPlaced IsPlaced y item_height (instance_item m.spot.place m.name c) (conns_height c) n (λ z i. omega (arith, i)) j) (v ++ rest) (placed_start y rest))
@@ -369,17 +435,23 @@ module _ (n : ℕ) where
       go (is_initial p {u} {s} x) j = ap (λ o. then_read o (λ s. done (reader.initial_items p.place s))) (c_stmt x n (omega (arith, j)) rest (λ _. f))
 
   -- headers
+  long_enters : (b : Bool) (p : Spot) (ts : List Token) → reader.long_pdecl l (word (param_word b) p ∷ ts) ≡ reader.in_long l b ts
+  long_enters true p ts = refl
+  long_enters false p ts = refl
+
   long_reads : ReadsAll n IsLongPdecl pdecl_height Stands (reader.long_pdecl l)
   long_reads u b x j rest f = go x j
     where
       go : {u : List Token} {b : Pdecl} → IsLongPdecl u b → pdecl_height b ≤ n → reader.long_pdecl l (u ++ rest) ≡ done b rest
-      go (is_long p {u} {v} {r = a} {s} x y) j = both_read reader.long_of (reader.maybe_range l) (reader.setting l) u v rest a s (range_reads u a x (omega (arith, j)) (v ++ rest) (starts y)) (setting_reads v s y (omega (arith, j)) rest f)
+      go (is_long b p {u} {v} {r = a} {s} x y) j = long_enters b p ((u ++ v) ++ rest)
+          ∙ both_read (reader.long_of b) (reader.maybe_range l) (reader.setting l) u v rest a s (range_reads u a x (omega (arith, j)) (v ++ rest) (starts y)) (setting_reads v s y (omega (arith, j)) rest f)
         where
           starts : {v : List Token} {s : Setting} → IsSetting v s → Free (mark_in BracketOpen) (v ++ rest)
           starts (is_setting m q x) = refl
 
   long_same : {u : List Token} {b : Pdecl} → IsLongPdecl u b → (rest : List Token) → reader.pdecl l (u ++ rest) ≡ reader.long_pdecl l (u ++ rest)
-  long_same (is_long p x y) rest = refl
+  long_same (is_long true p x y) rest = refl
+  long_same (is_long false p x y) rest = refl
 
   short_same : {u : List Token} {s : Setting} → IsSetting u s → (rest : List Token) → reader.pdecl l (u ++ rest) ≡ reader.then_done reader.short_of (reader.setting l) (u ++ rest)
   short_same (is_setting m p x) rest = refl
@@ -396,23 +468,15 @@ module _ (n : ℕ) where
     where
       go : {u : List Token} {b : List ParamTree} → IsHeader u b → most param_height b ≤ n → reader.header l (u ++ rest) ≡ done b rest
       go no_header j = next_free (mark_in Hash) (reader.in_header l) (done []) rest f
-      go (a_header p q {u} {bs} x) j = ap (λ o. then_read o (λ bs. done (params_from None bs)))
-          (list_reads (mark_in Comma) (mark Comma) (λ p. refl) ParenClose (λ p. refl) (λ p. refl) n IsLongPdecl IsPdecl pdecl_height Stands before_comma behind_paren (reader.long_pdecl l) (reader.pdecl l) long_reads pdecl_reads x (low_params n None bs j) rest)
+      go (a_header p q {u} {bs} x) j = ap (λ o. then_read o (λ bs. done (params_from first_form bs)))
+          (list_reads (mark_in Comma) (mark Comma) (λ p. refl) ParenClose (λ p. refl) (λ p. refl) n IsLongPdecl IsPdecl pdecl_height Stands before_comma behind_paren (reader.long_pdecl l) (reader.pdecl l) long_reads pdecl_reads x (low_params n first_form bs j) rest)
 
   start_reads : (kind : DeclKind) (u : List Token) (e : Option ExprTree) → IsStart kind u e → init_height e ≤ n → (rest : List Token) → InitOk rest → reader.start l kind (u ++ rest) ≡ done e rest
   start_reads kind u e x j rest f = go x j
     where
-      without : (b : Bool) → b ≡ false → (ts : List Token) → (if b then reader.init l else done None) ts ≡ done None ts
-      without true e ts = absurd (search (rules, e))
-      without false e ts = refl
-
-      with : (b : Bool) → b ≡ true → (ts : List Token) → (if b then reader.init l else done None) ts ≡ reader.init l ts
-      with true e ts = refl
-      with false e ts = absurd (search (rules, e))
-
       go : {kind : DeclKind} {u : List Token} {e : Option ExprTree} → IsStart kind u e → init_height e ≤ n → reader.start l kind (u ++ rest) ≡ done e rest
-      go {kind} (no_start e) j = without (has_start kind) e rest
-      go {kind} (a_start {u = u} {e = a} e x) j = with (has_start kind) e (u ++ rest) ∙ init_reads u a x j rest f
+      go {kind} (no_start e) j = other (has_start kind) (reader.init l) (done None) e rest
+      go {kind} (a_start {u = u} {e = a} e x) j = chosen (has_start kind) (reader.init l) (done None) e (u ++ rest) ∙ init_reads u a x j rest f
 
   adecl_reads : ReadsAll n IsAdecl entry_height InitOk (reader.adecl l)
   adecl_reads u b x j rest f = go x j
@@ -498,8 +562,8 @@ module _ (n : ℕ) where
   no_else (is_decls {u = u} {v = v} {w = w} h x y) rest = subst (Free (word_in k.Else)) (sym (append_assoc u (v ++ w) rest)) (kind_starts h k.Else refl refl refl refl ((v ++ w) ++ rest))
   no_else (is_params true p x y) rest = refl
   no_else (is_params false p x y) rest = refl
-  no_else (is_assigns p x) rest = refl
-  no_else (is_gates w p {kind} e x) rest = no_gate k.Else w kind p refl e
+  no_else (is_assigns p d x) rest = refl
+  no_else (is_gates w p {kind} e d x) rest = no_gate k.Else w kind p refl e
   no_else (is_instances m x y) rest = refl
   no_else (is_always p x y) rest = refl
   no_else (is_initial p x) rest = refl
@@ -508,8 +572,8 @@ module _ (n : ℕ) where
   no_end (is_decls {u = u} {v = v} {w = w} h x y) rest = subst (Free (word_in k.EndModule)) (sym (append_assoc u (v ++ w) rest)) (kind_starts h k.EndModule refl refl refl refl ((v ++ w) ++ rest))
   no_end (is_params true p x y) rest = refl
   no_end (is_params false p x y) rest = refl
-  no_end (is_assigns p x) rest = refl
-  no_end (is_gates w p {kind} e x) rest = no_gate k.EndModule w kind p refl e
+  no_end (is_assigns p d x) rest = refl
+  no_end (is_gates w p {kind} e d x) rest = no_gate k.EndModule w kind p refl e
   no_end (is_instances m x y) rest = refl
   no_end (is_always p x y) rest = refl
   no_end (is_initial p x) rest = refl

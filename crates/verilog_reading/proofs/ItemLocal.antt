@@ -7,6 +7,7 @@ use Rattle.verilog_lex.specs.declared.marks.MarkKind.{MarkKind}
 use Rattle.verilog_lex.specs.declared.marks.MarkKind.TheVariants.{ParenOpen, ParenClose, BracketOpen, BracketClose, Comma, Colon, Semicolon, Dot, Hash, At, Equals, Star}
 use Rattle.verilog_ast.specs.declared.DeclKind.{DeclKind}
 use Rattle.verilog_ast.specs.declared.DeclKind.TheVariants.{Input, Output, OutputReg, Wire, Reg}
+use Rattle.verilog_ast.specs.declared.GateKind.{GateKind}
 use Rattle.verilog_ast.specs.declared.Event.TheVariants as events
 use Rattle.verilog_ast.specs.declared.EdgeKind.{EdgeKind}
 use Rattle.verilog_ast.specs.declared.EdgeKind.TheVariants.{Pos, Neg, Level}
@@ -17,9 +18,9 @@ use Rattle.verilog_reading.specs.Lists.{more, many}
 use Rattle.verilog_reading.specs.Reader.{closed}
 use Rattle.verilog_reading.specs.StmtReader.{Lower, lower}
 use Rattle.verilog_reading.specs.SourceTree.{Bounds, ParamTree, ordered, named, ItemTree, ModuleTree, joined}
-use Rattle.verilog_reading.specs.ItemReading.{IsItem, is_decls, is_params, is_assigns, is_gates, is_instances, is_always, is_initial, IsKind, is_direction, is_wire, is_reg, IsDirection, is_input, is_output, is_output_reg, IsModule, is_module, edge_of, params_from, has_start, Ports}
+use Rattle.verilog_reading.specs.ItemReading.{IsItem, is_decls, is_params, is_assigns, is_gates, is_instances, is_always, is_initial, IsKind, is_direction, is_wire, is_reg, IsDirection, is_input, is_output, is_output_reg, IsModule, is_module, edge_of, params_from, first_form, has_start, has_delay, Ports}
 use Rattle.verilog_reading.specs.ItemReader as reader
-use Rattle.verilog_reading.specs.ItemReader.{GateWord, gate_in, separator_in}
+use Rattle.verilog_reading.specs.ItemReader.{GateWord, gate_in, separator_in, dval_in}
 use Rattle.verilog_reading.specs.Laws.{Local}
 use Rattle.verilog_reading.proofs.Local.{local_done, local_then, local_next, local_expect, local_closed, local_peek, local_if, local_more, local_many, Eats}
 use Rattle.verilog_reading.proofs.StmtLocal.{LocalLower, local_lower, says_lower, eats_by}
@@ -30,6 +31,9 @@ local_then_done f r l = local_then r (λ a. done (f a)) l (λ a. local_done (f a
 
 pub local_then_both : {A B D : Type 0} (f : A → B → D) (r : List Token → Outcome A) (s : List Token → Outcome B) → Local r → Local s → Local (reader.then_both f r s)
 local_then_both f r s l m = local_then r (λ a. reader.then_done (f a) s) l (λ a. local_then_done (f a) s m)
+
+pub local_past : {A B : Type 0} (r : List Token → Outcome A) (s : List Token → Outcome B) → Local r → Local s → Local (reader.past r s)
+local_past r s l m = local_then r (λ _. s) l (λ _. m)
 
 pub local_list_more : {A B : Type 0} (test : Token → Option B) (m : MarkKind) (item : List Token → Outcome A) → Local item → (a : A) → Local (reader.list_more test m item a)
 local_list_more test m item l a = local_then (more test item) (reader.list_end m a) (local_more test item l) (λ bs. local_closed m (a ∷ bs))
@@ -62,6 +66,15 @@ local_event = local_expect (mark_in At) (λ _. reader.at_event) (λ _. local_nex
     (local_expect (mark_in ParenOpen) (λ _. reader.in_event) (λ _. local_next (mark_in Star) (λ _. closed ParenClose events.Star) (reader.then_done events.Edges (reader.list separator_in ParenClose reader.edge reader.edge))
     (λ _. local_closed ParenClose events.Star) (local_then_done events.Edges (reader.list separator_in ParenClose reader.edge reader.edge) (local_list separator_in ParenClose reader.edge reader.edge local_edge local_edge)))))
 
+pub local_delay : Local reader.maybe_delay
+local_delay = local_next (mark_in Hash) reader.in_delay (done tt) (λ _. local_next (mark_in ParenOpen) reader.in_delays (expect dval_in (λ _. done tt))
+    (λ _. local_expect dval_in (λ _. next (mark_in Comma) reader.second_delay reader.delay_end) (λ _. local_next (mark_in Comma) reader.second_delay reader.delay_end
+    (λ _. local_expect dval_in (λ _. reader.delay_end) (λ _. local_closed ParenClose tt)) (local_closed ParenClose tt)))
+    (local_expect dval_in (λ _. done tt) (λ _. local_done tt))) (local_done tt)
+
+pub local_delay_of : (kind : DeclKind) → Local (reader.delay_of kind)
+local_delay_of kind = local_if (has_delay kind) reader.maybe_delay (done tt) local_delay (local_done tt)
+
 pub local_bare : Local reader.bare_name
 local_bare = local_expect ident_in (λ n. done n.name) (λ n. local_done n.name)
 
@@ -90,17 +103,26 @@ module _ (l : Lower) (i : LocalLower l) where
   pub local_var : Local (reader.var l)
   local_var = local_expect ident_in (reader.in_var l) local_in_var
 
+  pub local_vars : (kind : DeclKind) → Local (reader.vars l kind)
+  local_vars kind = local_past (reader.delay_of kind) (reader.listed Semicolon (reader.var l)) (local_delay_of kind) (local_listed Semicolon (reader.var l) local_var)
+
   pub local_at_driven : (t : TargetTree) → Local (reader.at_driven l t)
   local_at_driven t = local_expect (mark_in Equals) (λ _. reader.then_done (reader.drive t) l.exprs.expr) (λ _. local_then_done (reader.drive t) l.exprs.expr i.exprs.expr)
 
   pub local_driven : Local (reader.driven l)
   local_driven = local_then l.target (reader.at_driven l) i.target local_at_driven
 
+  pub local_assigns : (p : Place) → Local (reader.then_done (reader.assign_items p) (reader.listed Semicolon (reader.driven l)))
+  local_assigns p = local_then_done (reader.assign_items p) (reader.listed Semicolon (reader.driven l)) (local_listed Semicolon (reader.driven l) local_driven)
+
   pub local_terminals : Local (reader.terminals l)
   local_terminals = local_expect (mark_in ParenOpen) (λ _. reader.listed ParenClose l.exprs.expr) (λ _. local_listed ParenClose l.exprs.expr i.exprs.expr)
 
   pub local_gate : Local (reader.gate l)
   local_gate = local_next ident_in (λ _. reader.terminals l) (reader.terminals l) (λ _. local_terminals) local_terminals
+
+  pub local_gates : (p : Place) (kind : GateKind) → Local (reader.then_done (reader.gate_items p kind) (reader.listed Semicolon (reader.gate l)))
+  local_gates p kind = local_then_done (reader.gate_items p kind) (reader.listed Semicolon (reader.gate l)) (local_listed Semicolon (reader.gate l) local_gate)
 
   pub local_value : Local (reader.value l)
   local_value = local_peek reader.value_end (done None) (reader.then_done Some l.exprs.expr) (local_done None) (local_then_done Some l.exprs.expr i.exprs.expr)
@@ -127,7 +149,7 @@ module _ (l : Lower) (i : LocalLower l) where
 
   -- items
   pub local_decls : (p : Place) (kind : DeclKind) → Local (reader.decls l p kind)
-  local_decls p kind = local_then_both (reader.decl_items p kind) (reader.maybe_range l) (reader.listed Semicolon (reader.var l)) local_maybe_range (local_listed Semicolon (reader.var l) local_var)
+  local_decls p kind = local_then_both (reader.decl_items p kind) (reader.maybe_range l) (reader.vars l kind) local_maybe_range (local_vars kind)
 
   pub local_item : Local (reader.item l)
   local_item = local_next (word_in k.Input) (reader.in_input l) _ (λ p. local_then (reader.maybe_wire Input) (reader.decls l p.place) (local_wire Input) (local_decls p.place))
@@ -136,8 +158,8 @@ module _ (l : Lower) (i : LocalLower l) where
       (local_next (word_in k.Reg) (λ p. reader.decls l p.place Reg) _ (λ p. local_decls p.place Reg)
       (local_next (word_in k.Parameter) (reader.in_params l false) _ (local_params false)
       (local_next (word_in k.LocalParam) (reader.in_params l true) _ (local_params true)
-      (local_next (word_in k.Assign) (reader.in_assigns l) _ (λ p. local_then_done (reader.assign_items p.place) (reader.listed Semicolon (reader.driven l)) (local_listed Semicolon (reader.driven l) local_driven))
-      (local_next gate_in (reader.in_gates l) _ (λ g. local_then_done (reader.gate_items g.spot.place g.kind) (reader.listed Semicolon (reader.gate l)) (local_listed Semicolon (reader.gate l) local_gate))
+      (local_next (word_in k.Assign) (reader.in_assigns l) _ (λ p. local_past reader.maybe_delay (reader.then_done (reader.assign_items p.place) (reader.listed Semicolon (reader.driven l))) local_delay (local_assigns p.place))
+      (local_next gate_in (reader.in_gates l) _ (λ g. local_past reader.maybe_delay (reader.then_done (reader.gate_items g.spot.place g.kind) (reader.listed Semicolon (reader.gate l))) local_delay (local_gates g.spot.place g.kind))
       (local_next ident_in (reader.in_instances l) _ (λ n. local_then_both (reader.instance_items n.spot.place n.name) (reader.overrides l) (reader.listed Semicolon (reader.placed l)) local_overrides (local_listed Semicolon (reader.placed l) local_placed))
       (local_next (word_in k.Always) (reader.in_always l) _ (λ p. local_then_both (reader.always_items p.place) reader.event l.stmt local_event i.stmt)
       (local_expect (word_in k.Initial) (reader.in_initial l) (λ p. local_then_done (reader.initial_items p.place) l.stmt i.stmt)))))))))))
@@ -146,18 +168,19 @@ module _ (l : Lower) (i : LocalLower l) where
       local_params b p = local_then_both (reader.param_items p.place b) (reader.maybe_range l) (reader.listed Semicolon (reader.setting l)) local_maybe_range (local_listed Semicolon (reader.setting l) local_setting)
 
   -- headers
-  pub local_in_long : (p : Spot) → Local (reader.in_long l p)
-  local_in_long p = local_then_both reader.long_of (reader.maybe_range l) (reader.setting l) local_maybe_range local_setting
+  pub local_in_long : (b : Bool) → Local (reader.in_long l b)
+  local_in_long b = local_then_both (reader.long_of b) (reader.maybe_range l) (reader.setting l) local_maybe_range local_setting
 
   pub local_long : Local (reader.long_pdecl l)
-  local_long = local_expect (word_in k.Parameter) (reader.in_long l) local_in_long
+  local_long = local_next (word_in k.Parameter) (λ _. reader.in_long l false) _ (λ _. local_in_long false) (local_expect (word_in k.LocalParam) (λ _. reader.in_long l true) (λ _. local_in_long true))
 
   pub local_pdecl : Local (reader.pdecl l)
-  local_pdecl = local_next (word_in k.Parameter) (reader.in_long l) (reader.then_done reader.short_of (reader.setting l)) local_in_long (local_then_done reader.short_of (reader.setting l) local_setting)
+  local_pdecl = local_next (word_in k.Parameter) (λ _. reader.in_long l false) _ (λ _. local_in_long false)
+      (local_next (word_in k.LocalParam) (λ _. reader.in_long l true) (reader.then_done reader.short_of (reader.setting l)) (λ _. local_in_long true) (local_then_done reader.short_of (reader.setting l) local_setting))
 
   pub local_in_header : (p : Spot) → Local (reader.in_header l p)
-  local_in_header p = local_expect (mark_in ParenOpen) (λ _. reader.then_done (params_from None) (reader.list (mark_in Comma) ParenClose (reader.long_pdecl l) (reader.pdecl l)))
-      (λ _. local_then_done (params_from None) (reader.list (mark_in Comma) ParenClose (reader.long_pdecl l) (reader.pdecl l)) (local_list (mark_in Comma) ParenClose (reader.long_pdecl l) (reader.pdecl l) local_long local_pdecl))
+  local_in_header p = local_expect (mark_in ParenOpen) (λ _. reader.then_done (params_from first_form) (reader.list (mark_in Comma) ParenClose (reader.long_pdecl l) (reader.pdecl l)))
+      (λ _. local_then_done (params_from first_form) (reader.list (mark_in Comma) ParenClose (reader.long_pdecl l) (reader.pdecl l)) (local_list (mark_in Comma) ParenClose (reader.long_pdecl l) (reader.pdecl l) local_long local_pdecl))
 
   pub local_header : Local (reader.header l)
   local_header = local_next (mark_in Hash) (reader.in_header l) (done []) local_in_header (local_done [])
@@ -220,8 +243,8 @@ kind_has_token (is_reg p) v = omega arith
 item_has_token : {u : List Token} {xs : List ItemTree} → IsItem u xs → 1 ≤ length u
 item_has_token (is_decls {u = u} {v = v} {w = w} h x y) = kind_has_token h (v ++ w)
 item_has_token (is_params b p x y) = omega arith
-item_has_token (is_assigns p x) = omega arith
-item_has_token (is_gates w p e x) = omega arith
+item_has_token (is_assigns p d x) = omega arith
+item_has_token (is_gates w p e d x) = omega arith
 item_has_token (is_instances n x y) = omega arith
 item_has_token (is_always p x y) = omega arith
 item_has_token (is_initial p x) = omega arith

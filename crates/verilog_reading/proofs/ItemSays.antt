@@ -4,7 +4,7 @@ use Rattle.cdc_base.specs.declared.words.Keyword.{Keyword}
 use Rattle.cdc_base.specs.declared.words.Keyword.TheVariants as k
 use Rattle.verilog_lex.specs.declared.token.Token.{Token}
 use Rattle.verilog_lex.specs.declared.token.TokenKind.{TokenKind}
-use Rattle.verilog_lex.specs.declared.token.TokenKind.TheVariants.{Word, Mark}
+use Rattle.verilog_lex.specs.declared.token.TokenKind.TheVariants.{Word, Ident, Number, Mark}
 use Rattle.verilog_lex.specs.declared.marks.MarkKind.{MarkKind}
 use Rattle.verilog_lex.specs.declared.marks.MarkKind.TheVariants.{ParenOpen, ParenClose, BracketOpen, BracketClose, Comma, Colon, Semicolon, Dot, Hash, At, Equals, Star}
 use Rattle.verilog_ast.specs.declared.DeclKind.{DeclKind}
@@ -22,9 +22,9 @@ use Rattle.verilog_reading.specs.Reading.{IsExpr, is_range}
 use Rattle.verilog_reading.specs.Reader.{closed}
 use Rattle.verilog_reading.specs.StmtReader.{Lower, lower}
 use Rattle.verilog_reading.specs.SourceTree.{Bounds, ordered, named, ItemTree, ModuleTree, most, param_height, port_height, conn_height, conns_height, item_height, module_height, source_height, joined}
-use Rattle.verilog_reading.specs.ItemReading.{IsList, is_list, IsListed, IsMaybeRange, no_range, a_range, IsInit, no_init, an_init, Setting, IsSetting, is_setting, MayBeWord, no_word, the_word, IsDirection, is_input, is_output, is_output_reg, IsKind, is_direction, is_wire, is_reg, IsVar, is_var, IsDriven, is_driven, gate_of, IsGate, plain_gate, named_gate, IsValue, no_value, a_value, IsConn, is_conn, IsConns, is_ordered, is_named, IsOverrides, no_overrides, overrides, Placed, IsPlaced, is_placed, edge_of, IsEdge, is_positive, is_negative, is_level, Separator, separator, IsEvent, is_star, is_star_in, is_edges, decl_item, param_item, assign_item, gate_item, instance_item, param_word, IsItem, is_decls, is_params, is_assigns, is_gates, is_instances, is_always, is_initial, Pdecl, IsLongPdecl, is_long, IsPdecl, long_pdecl, short_pdecl, params_from, IsHeader, no_header, a_header, has_start, IsStart, no_start, a_start, IsAdecl, is_adecl, IsEntry, long_entry, short_entry, first_shape, IsName, a_name, bare, Ports, IsPorts, no_ports, empty_ports, old_ports, ansi_ports, IsModule, is_module, IsSource, is_source}
+use Rattle.verilog_reading.specs.ItemReading.{IsList, is_list, IsListed, IsMaybeRange, no_range, a_range, IsInit, no_init, an_init, Setting, IsSetting, is_setting, MayBeWord, no_word, the_word, IsDirection, is_input, is_output, is_output_reg, IsKind, is_direction, is_wire, is_reg, IsVar, is_var, Dval, by_number, by_name, dval, IsDelay, no_delay, bare_delay, one_delay, two_delays, has_delay, IsDelayOf, not_delayed, may_delay, IsVars, are_vars, IsDriven, is_driven, gate_of, IsGate, plain_gate, named_gate, IsValue, no_value, a_value, IsConn, is_conn, IsConns, is_ordered, is_named, IsOverrides, no_overrides, overrides, Placed, IsPlaced, is_placed, edge_of, IsEdge, is_positive, is_negative, is_level, Separator, separator, IsEvent, is_star, is_star_in, is_edges, decl_item, param_item, assign_item, gate_item, instance_item, param_word, IsItem, is_decls, is_params, is_assigns, is_gates, is_instances, is_always, is_initial, Pdecl, IsLongPdecl, is_long, IsPdecl, long_pdecl, short_pdecl, params_from, first_form, IsHeader, no_header, a_header, has_start, IsStart, no_start, a_start, IsAdecl, is_adecl, IsEntry, long_entry, short_entry, first_shape, IsName, a_name, bare, Ports, IsPorts, no_ports, empty_ports, old_ports, ansi_ports, IsModule, is_module, IsSource, is_source}
 use Rattle.verilog_reading.specs.ItemReader as reader
-use Rattle.verilog_reading.specs.ItemReader.{GateWord, gate_word, gate_word_of, gate_in, as_gate, separator_in, separator_of}
+use Rattle.verilog_reading.specs.ItemReader.{GateWord, gate_word, gate_word_of, gate_in, as_gate, separator_in, separator_of, dval_in, dval_of}
 use Rattle.verilog_reading.specs.Laws.{Says, Within}
 use Rattle.verilog_reading.proofs.Tests.{nowhere, mark_is, word_is, ident_is, end_is, token_is}
 use Rattle.verilog_reading.proofs.Says.{says_done, says_then, says_next, says_found, says_mark, says_word, says_must, says_expect, says_closed, says_peek, says_map}
@@ -58,6 +58,14 @@ separator_kind x s g e = absurd (search (rules, e))
 pub separator_is : (t : Token) (g : Separator) → separator_in t ≡ Some g → t ≡ separator g
 separator_is t g e = separator_kind t.kind (spot_of t) g e
 
+dval_kind : (x : TokenKind) (s : Spot) (d : Dval) → dval_of x s ≡ Some d → token_at x s ≡ dval d
+dval_kind (Number v w z) s d e = let h : by_number (record { value = v; width = w; size = z; spot = s }) ≡ d = search (rules, e) in ap dval h
+dval_kind (Ident n) s d e = let h : by_name (record { name = n; spot = s }) ≡ d = search (rules, e) in ap dval h
+dval_kind x s d e = absurd (search (rules, e))
+
+pub dval_is : (t : Token) (d : Dval) → dval_in t ≡ Some d → t ≡ dval d
+dval_is t d e = dval_kind t.kind (spot_of t) d e
+
 -- sequences and lists
 pub says_then_done : {A B : Type 0} (P : List Token → A → Type 0) (Q : List Token → B → Type 0) (f : A → B) (r : List Token → Outcome A) (ts : List Token) → Says P ts (r ts)
     → ((u : List Token) (a : A) → P u a → Q u (f a)) → Says Q ts (reader.then_done f r ts)
@@ -66,6 +74,11 @@ says_then_done P Q f r ts s g = says_then P Q ts (r ts) s (λ a. done (f a)) (λ
 pub says_then_both : {A B D : Type 0} (P : List Token → A → Type 0) (O : List Token → B → Type 0) (Q : List Token → D → Type 0) (f : A → B → D) (r : List Token → Outcome A) (s : List Token → Outcome B) (ts : List Token)
     → Says P ts (r ts) → ((xs : List Token) → Says O xs (s xs)) → ((u v : List Token) (a : A) (b : B) → P u a → O v b → Q (u ++ v) (f a b)) → Says Q ts (reader.then_both f r s ts)
 says_then_both P O Q f r s ts h i g = says_then P Q ts (r ts) h (λ a. reader.then_done (f a) s) (λ u a p xs. says_then_done O (λ v. Q (u ++ v)) (f a) s xs (i xs) (λ v b q. g u v a b p q))
+
+-- behind what has no meaning
+pub says_past : {A B : Type 0} (P : List Token → A → Type 0) (O Q : List Token → B → Type 0) (r : List Token → Outcome A) (s : List Token → Outcome B) (ts : List Token)
+    → Says P ts (r ts) → ((xs : List Token) → Says O xs (s xs)) → ((u v : List Token) (a : A) (b : B) → P u a → O v b → Q (u ++ v) b) → Says Q ts (reader.past r s ts)
+says_past P O Q r s ts h i g = says_then P Q ts (r ts) h (λ _. s) (λ u a p xs. says_map O (λ v b. Q (u ++ v) b) (λ v b o. g u v a b p o) xs (s xs) (i xs))
 
 pub says_list : {A B : Type 0} (test : Token → Option B) (tok : B → Token) (is : (t : Token) (b : B) → test t ≡ Some b → t ≡ tok b) (m : MarkKind) (F R : List Token → A → Type 0) (h : A → ℕ) (n : ℕ)
     (first item : List Token → Outcome A) → ((ts : List Token) → Says (Within F h n) ts (first ts)) → ((ts : List Token) → Says (Within R h n) ts (item ts))
@@ -86,6 +99,31 @@ says_word_must P w = says_must P (word_in w) (word w) (word_is w) nowhere
 
 says_ident : {A : Type 0} (P : List Token → A → Type 0) (f : Named → List Token → Outcome A) → ((n : Named) (ts : List Token) → Says (λ v. P (ident n ∷ v)) ts (f n ts)) → (ts : List Token) → Says P ts (expect ident_in f ts)
 says_ident P = says_must P ident_in ident ident_is some_name
+
+says_dval : {A : Type 0} (P : List Token → A → Type 0) (f : Dval → List Token → Outcome A) → ((d : Dval) (ts : List Token) → Says (λ v. P (dval d ∷ v)) ts (f d ts)) → (ts : List Token) → Says P ts (expect dval_in f ts)
+says_dval P = says_must P dval_in dval dval_is (by_name some_name)
+
+-- delays
+abbrev Delays : List Token → Unit {0} → Type 0
+Delays u _ = IsDelay u
+
+says_delay : (ts : List Token) → Says Delays ts (reader.maybe_delay ts)
+says_delay = says_mark Delays Hash reader.in_delay (done tt)
+    (λ p. says_mark (λ v. Delays (mark Hash p ∷ v)) ParenOpen reader.in_delays (expect dval_in (λ _. done tt))
+    (λ q. says_dval (λ v. Delays (mark Hash p ∷ (mark ParenOpen q ∷ v))) (λ _. next (mark_in Comma) reader.second_delay reader.delay_end)
+    (λ d. says_mark (λ v. Delays (mark Hash p ∷ (mark ParenOpen q ∷ (dval d ∷ v)))) Comma reader.second_delay reader.delay_end
+    (λ o. says_dval (λ v. Delays (mark Hash p ∷ (mark ParenOpen q ∷ (dval d ∷ (mark Comma o ∷ v))))) (λ _. reader.delay_end)
+    (λ e. says_closed (λ v. Delays (mark Hash p ∷ (mark ParenOpen q ∷ (dval d ∷ (mark Comma o ∷ (dval e ∷ v)))))) ParenClose tt (λ r. two_delays p q o r d e)))
+    (says_closed (λ v. Delays (mark Hash p ∷ (mark ParenOpen q ∷ (dval d ∷ v)))) ParenClose tt (λ r. one_delay p q r d))))
+    (says_dval (λ v. Delays (mark Hash p ∷ v)) (λ _. done tt) (λ d. says_done (λ v. Delays (mark Hash p ∷ (dval d ∷ v))) tt (bare_delay p d))))
+    (says_done Delays tt no_delay)
+
+abbrev DelaysOf : DeclKind → List Token → Unit {0} → Type 0
+DelaysOf kind u _ = IsDelayOf kind u
+
+says_delay_of : (kind : DeclKind) (b : Bool) → has_delay kind ≡ b → (ts : List Token) → Says (DelaysOf kind) ts ((if b then reader.maybe_delay else done tt) ts)
+says_delay_of kind true e ts = says_map Delays (DelaysOf kind) (λ u a h. may_delay e h) ts (reader.maybe_delay ts) (says_delay ts)
+says_delay_of kind false e ts = says_done (DelaysOf kind) tt (not_delayed e) ts
 
 -- without expressions in it
 abbrev flat : {A : Type 0} → A → ℕ
@@ -156,6 +194,10 @@ module _ (n : ℕ) (l : Lower) (s : SaysLower n l) where
       says_ident P (reader.in_var l) (λ m ts. says_then_both (Within IsMaybeRange range_height n) (Within IsInit init_height n) (λ v. P (ident m ∷ v)) (reader.var_of m.name) (reader.maybe_range l) (reader.init l) ts (says_range ts) says_init
       (λ u v a b p q. (is_var m p.0 q.0, omega (arith, p.1, q.1))))
 
+  says_vars : (kind : DeclKind) (ts : List Token) → Says (Within (IsVars kind) (most var_height) n) ts (reader.vars l kind ts)
+  says_vars kind ts = says_past (DelaysOf kind) (Within (IsListed Semicolon IsVar) (most var_height) n) (Within (IsVars kind) (most var_height) n) (reader.delay_of kind) (reader.listed Semicolon (reader.var l)) ts
+      (says_delay_of kind (has_delay kind) refl ts) (says_listed Semicolon IsVar var_height n (reader.var l) says_var) (λ u v a xs d h. (are_vars d h.0, h.1))
+
   says_driven : (ts : List Token) → Says (Within IsDriven driven_height n) ts (reader.driven l ts)
   says_driven ts = let P = Within IsDriven driven_height n in
       says_then (TargetIn n) P ts (l.target ts) (s.1 ts) (reader.at_driven l)
@@ -205,8 +247,8 @@ module _ (n : ℕ) (l : Lower) (s : SaysLower n l) where
   ItemIn = Within IsItem (most item_height) n
 
   says_decls : (p : Spot) (kind : DeclKind) (u : List Token) → IsKind p u kind → (ts : List Token) → Says (λ v. ItemIn (u ++ v)) ts (reader.decls l p.place kind ts)
-  says_decls p kind u i ts = says_then_both (Within IsMaybeRange range_height n) (Within (IsListed Semicolon IsVar) (most var_height) n) (λ v. ItemIn (u ++ v)) (reader.decl_items p.place kind) (reader.maybe_range l) (reader.listed Semicolon (reader.var l)) ts
-      (says_range ts) (says_listed Semicolon IsVar var_height n (reader.var l) says_var)
+  says_decls p kind u i ts = says_then_both (Within IsMaybeRange range_height n) (Within (IsVars kind) (most var_height) n) (λ v. ItemIn (u ++ v)) (reader.decl_items p.place kind) (reader.maybe_range l) (reader.vars l kind) ts
+      (says_range ts) (says_vars kind)
       (λ v w a xs h g. (is_decls i h.0 g.0, most_map var_height item_height (decl_item p.place kind a) n (λ x j. let z = h.1 in omega (arith, j, z)) xs g.1))
 
   says_input : (p : Spot) (ts : List Token) → Says (λ v. ItemIn (word k.Input p ∷ v)) ts (reader.in_input l p ts)
@@ -223,12 +265,14 @@ module _ (n : ℕ) (l : Lower) (s : SaysLower n l) where
       (λ v w a xs h g. (is_params local p h.0 g.0, most_map setting_height item_height (param_item p.place local a) n (λ x j. let z = h.1 in omega (arith, j, z)) xs g.1))
 
   says_assigns : (p : Spot) (ts : List Token) → Says (λ v. ItemIn (word k.Assign p ∷ v)) ts (reader.in_assigns l p ts)
-  says_assigns p ts = says_then_done (Within (IsListed Semicolon IsDriven) (most driven_height) n) (λ v. ItemIn (word k.Assign p ∷ v)) (reader.assign_items p.place) (reader.listed Semicolon (reader.driven l)) ts
-      (says_listed Semicolon IsDriven driven_height n (reader.driven l) says_driven ts) (λ u xs h. (is_assigns p h.0, most_map driven_height item_height (assign_item p.place) n (λ x j. j) xs h.1))
+  says_assigns p ts = says_then Delays (λ v. ItemIn (word k.Assign p ∷ v)) ts (reader.maybe_delay ts) (says_delay ts) (λ _. reader.then_done (reader.assign_items p.place) (reader.listed Semicolon (reader.driven l)))
+      (λ u _ d xs. says_then_done (Within (IsListed Semicolon IsDriven) (most driven_height) n) (λ v. ItemIn (word k.Assign p ∷ (u ++ v))) (reader.assign_items p.place) (reader.listed Semicolon (reader.driven l)) xs
+      (says_listed Semicolon IsDriven driven_height n (reader.driven l) says_driven xs) (λ v xs h. (is_assigns p d h.0, most_map driven_height item_height (assign_item p.place) n (λ x j. j) xs h.1)))
 
   says_gates : (g : GateWord) → gate_of g.sign ≡ Some g.kind → (ts : List Token) → Says (λ v. ItemIn (gate_word g ∷ v)) ts (reader.in_gates l g ts)
-  says_gates g e ts = says_then_done (Within (IsListed Semicolon IsGate) (most (most height)) n) (λ v. ItemIn (gate_word g ∷ v)) (reader.gate_items g.spot.place g.kind) (reader.listed Semicolon (reader.gate l)) ts
-      (says_listed Semicolon IsGate (most height) n (reader.gate l) says_gate ts) (λ u xs h. (is_gates g.sign g.spot e h.0, most_map (most height) item_height (gate_item g.spot.place g.kind) n (λ x j. j) xs h.1))
+  says_gates g e ts = says_then Delays (λ v. ItemIn (gate_word g ∷ v)) ts (reader.maybe_delay ts) (says_delay ts) (λ _. reader.then_done (reader.gate_items g.spot.place g.kind) (reader.listed Semicolon (reader.gate l)))
+      (λ u _ d xs. says_then_done (Within (IsListed Semicolon IsGate) (most (most height)) n) (λ v. ItemIn (gate_word g ∷ (u ++ v))) (reader.gate_items g.spot.place g.kind) (reader.listed Semicolon (reader.gate l)) xs
+      (says_listed Semicolon IsGate (most height) n (reader.gate l) says_gate xs) (λ v xs h. (is_gates g.sign g.spot e d h.0, most_map (most height) item_height (gate_item g.spot.place g.kind) n (λ x j. j) xs h.1)))
 
   says_instances : (m : Named) (ts : List Token) → Says (λ v. ItemIn (ident m ∷ v)) ts (reader.in_instances l m ts)
   says_instances m ts = says_then_both (Within IsOverrides conns_height n) (Within (IsListed Semicolon IsPlaced) (most placed_height) n) (λ v. ItemIn (ident m ∷ v)) (reader.instance_items m.spot.place m.name) (reader.overrides l) (reader.listed Semicolon (reader.placed l)) ts
@@ -256,24 +300,27 @@ module _ (n : ℕ) (l : Lower) (s : SaysLower n l) where
       (says_word_must ItemIn k.Initial (reader.in_initial l) says_initial))))))))))
 
   -- headers
-  says_in_long : (P : List Token → Pdecl → Type 0) (p : Spot) → ((u v : List Token) (a : Option Bounds) (b : Setting) → Within IsMaybeRange range_height n u a → Within IsSetting setting_height n v b → P (word k.Parameter p ∷ (u ++ v)) (reader.long_of a b))
-      → (ts : List Token) → Says (λ v. P (word k.Parameter p ∷ v)) ts (reader.in_long l p ts)
-  says_in_long P p g ts = says_then_both (Within IsMaybeRange range_height n) (Within IsSetting setting_height n) (λ v. P (word k.Parameter p ∷ v)) reader.long_of (reader.maybe_range l) (reader.setting l) ts (says_range ts) says_setting g
+  says_in_long : (P : List Token → Pdecl → Type 0) (local : Bool) (p : Spot) → ((u v : List Token) (a : Option Bounds) (b : Setting) → Within IsMaybeRange range_height n u a → Within IsSetting setting_height n v b
+      → P (word (param_word local) p ∷ (u ++ v)) (reader.long_of local a b)) → (ts : List Token) → Says (λ v. P (word (param_word local) p ∷ v)) ts (reader.in_long l local ts)
+  says_in_long P local p g ts = says_then_both (Within IsMaybeRange range_height n) (Within IsSetting setting_height n) (λ v. P (word (param_word local) p ∷ v)) (reader.long_of local) (reader.maybe_range l) (reader.setting l) ts (says_range ts) says_setting g
 
   says_long : (ts : List Token) → Says (Within IsLongPdecl pdecl_height n) ts (reader.long_pdecl l ts)
-  says_long = says_word_must (Within IsLongPdecl pdecl_height n) k.Parameter (reader.in_long l) (λ p. says_in_long (Within IsLongPdecl pdecl_height n) p (λ u v a b h g. (is_long p h.0 g.0, omega (arith, h.1, g.1))))
+  says_long = let P = Within IsLongPdecl pdecl_height n in
+      says_word P k.Parameter (λ _. reader.in_long l false) _ (λ p. says_in_long P false p (λ u v a b h g. (is_long false p h.0 g.0, omega (arith, h.1, g.1))))
+      (says_word_must P k.LocalParam (λ _. reader.in_long l true) (λ p. says_in_long P true p (λ u v a b h g. (is_long true p h.0 g.0, omega (arith, h.1, g.1)))))
 
   says_pdecl : (ts : List Token) → Says (Within IsPdecl pdecl_height n) ts (reader.pdecl l ts)
   says_pdecl = let P = Within IsPdecl pdecl_height n in
-      says_word P k.Parameter (reader.in_long l) (reader.then_done reader.short_of (reader.setting l)) (λ p. says_in_long P p (λ u v a b h g. (long_pdecl (is_long p h.0 g.0), omega (arith, h.1, g.1))))
-      (λ ts. says_then_done (Within IsSetting setting_height n) P reader.short_of (reader.setting l) ts (says_setting ts) (λ u a h. (short_pdecl h.0, omega (arith, h.1))))
+      says_word P k.Parameter (λ _. reader.in_long l false) _ (λ p. says_in_long P false p (λ u v a b h g. (long_pdecl (is_long false p h.0 g.0), omega (arith, h.1, g.1))))
+      (says_word P k.LocalParam (λ _. reader.in_long l true) (reader.then_done reader.short_of (reader.setting l)) (λ p. says_in_long P true p (λ u v a b h g. (long_pdecl (is_long true p h.0 g.0), omega (arith, h.1, g.1))))
+      (λ ts. says_then_done (Within IsSetting setting_height n) P reader.short_of (reader.setting l) ts (says_setting ts) (λ u a h. (short_pdecl h.0, omega (arith, h.1)))))
 
   says_header : (ts : List Token) → Says (Within IsHeader (most param_height) n) ts (reader.header l ts)
   says_header = let P = Within IsHeader (most param_height) n in
-      says_mark P Hash (reader.in_header l) (done []) (λ p. says_expect (λ v. P (mark Hash p ∷ v)) ParenOpen (λ _. reader.then_done (params_from None) (reader.list (mark_in Comma) ParenClose (reader.long_pdecl l) (reader.pdecl l)))
-      (λ q ts. says_then_done (Within (IsList (mark Comma) ParenClose IsLongPdecl IsPdecl) (most pdecl_height) n) (λ v. P (mark Hash p ∷ (mark ParenOpen q ∷ v))) (params_from None) (reader.list (mark_in Comma) ParenClose (reader.long_pdecl l) (reader.pdecl l)) ts
+      says_mark P Hash (reader.in_header l) (done []) (λ p. says_expect (λ v. P (mark Hash p ∷ v)) ParenOpen (λ _. reader.then_done (params_from first_form) (reader.list (mark_in Comma) ParenClose (reader.long_pdecl l) (reader.pdecl l)))
+      (λ q ts. says_then_done (Within (IsList (mark Comma) ParenClose IsLongPdecl IsPdecl) (most pdecl_height) n) (λ v. P (mark Hash p ∷ (mark ParenOpen q ∷ v))) (params_from first_form) (reader.list (mark_in Comma) ParenClose (reader.long_pdecl l) (reader.pdecl l)) ts
       (says_list (mark_in Comma) (mark Comma) (mark_is Comma) ParenClose IsLongPdecl IsPdecl pdecl_height n (reader.long_pdecl l) (reader.pdecl l) says_long says_pdecl ts)
-      (λ u bs h. (a_header p q h.0, params_low n None bs (omega arith) h.1))))
+      (λ u bs h. (a_header p q h.0, params_low n first_form bs (omega arith) h.1))))
       (says_done P [] (no_header, omega arith))
 
   says_start : (kind : DeclKind) (b : Bool) → has_start kind ≡ b → (ts : List Token) → Says (Within (IsStart kind) init_height n) ts ((if b then reader.init l else done None) ts)

@@ -14,7 +14,7 @@ use Rattle.verilog_reading.specs.Lists.{AreMore, no_more, one_more, AreMany, non
 use Rattle.verilog_reading.specs.Reading.{IsUnary, IsBinary, IsExpr, AreMoreExprs, IsRange, is_number, is_name, is_index, is_part, is_paren, is_join, is_repeat, is_unary, is_single, is_tighter, is_binary, is_plain, is_choice, no_exprs, more_exprs, is_range, IsTarget, is_whole, is_index_of, is_part_of, is_join_of, AreMoreTargets, no_targets, more_targets}
 use Rattle.verilog_reading.specs.StmtReading.{IsStmt, AreStmts, AreItems, MayBe, is_absent, is_present, IsLabel, no_label, a_label, assign_mark, is_null, is_set, is_when, is_either, is_case, is_block, no_stmts, more_stmts, no_items, is_arm, is_default}
 use Rattle.verilog_reading.specs.SourceTree.{Bounds, ParamTree, ConnTree, ConnsTree, ItemTree, ModuleTree}
-use Rattle.verilog_reading.specs.ItemReading.{IsList, is_list, IsListed, IsMaybeRange, no_range, a_range, IsInit, no_init, an_init, Setting, IsSetting, is_setting, MayBeWord, no_word, the_word, IsDirection, is_input, is_output, is_output_reg, IsKind, is_direction, is_wire, is_reg, Var, IsVar, is_var, Driven, IsDriven, is_driven, IsGate, plain_gate, named_gate, IsValue, no_value, a_value, IsConn, is_conn, IsConns, is_ordered, is_named, IsOverrides, no_overrides, overrides, Placed, IsPlaced, is_placed, IsEdge, is_positive, is_negative, is_level, separator, separator_at, IsEvent, is_star, is_star_in, is_edges, IsItem, is_decls, is_params, is_assigns, is_gates, is_instances, is_always, is_initial, Pdecl, IsLongPdecl, is_long, IsPdecl, long_pdecl, short_pdecl, IsHeader, no_header, a_header, IsStart, no_start, a_start, Entry, IsAdecl, is_adecl, IsEntry, long_entry, short_entry, IsName, a_name, Ports, IsPorts, no_ports, empty_ports, old_ports, ansi_ports, IsModule, is_module}
+use Rattle.verilog_reading.specs.ItemReading.{IsList, is_list, IsListed, IsMaybeRange, no_range, a_range, IsInit, no_init, an_init, Setting, IsSetting, is_setting, MayBeWord, no_word, the_word, IsDirection, is_input, is_output, is_output_reg, IsKind, is_direction, is_wire, is_reg, Var, IsVar, is_var, Dval, by_number, by_name, dval, IsDelay, no_delay, bare_delay, one_delay, two_delays, IsDelayOf, not_delayed, may_delay, IsVars, are_vars, Driven, IsDriven, is_driven, IsGate, plain_gate, named_gate, IsValue, no_value, a_value, IsConn, is_conn, IsConns, is_ordered, is_named, IsOverrides, no_overrides, overrides, Placed, IsPlaced, is_placed, IsEdge, is_positive, is_negative, is_level, separator, separator_at, IsEvent, is_star, is_star_in, is_edges, IsItem, is_decls, is_params, is_assigns, is_gates, is_instances, is_always, is_initial, Pdecl, IsLongPdecl, is_long, IsPdecl, long_pdecl, short_pdecl, IsHeader, no_header, a_header, IsStart, no_start, a_start, Entry, IsAdecl, is_adecl, IsEntry, long_entry, short_entry, IsName, a_name, Ports, IsPorts, no_ports, empty_ports, old_ports, ansi_ports, IsModule, is_module}
 use Rattle.verilog_reading.specs.Refusals.{NoEnd}
 
 pub both : (u v : List Token) → NoEnd u → NoEnd v → NoEnd (u ++ v)
@@ -150,6 +150,23 @@ var_end u x h = go h
     go : {u : List Token} {x : Var} → IsVar u x → NoEnd u
     go (is_var n {u} {v} x y) = (refl, both u v (maybe_range_end x) (init_end y))
 
+dval_end : (d : Dval) → end_in (dval d) ≡ None
+dval_end (by_number n) = refl
+dval_end (by_name n) = refl
+
+delay_end : {u : List Token} → IsDelay u → NoEnd u
+delay_end no_delay = tt
+delay_end (bare_delay p d) = (refl, (dval_end d, tt))
+delay_end (one_delay p q r d) = (refl, (refl, (dval_end d, (refl, tt))))
+delay_end (two_delays p q o r d e) = (refl, (refl, (dval_end d, (refl, (dval_end e, (refl, tt))))))
+
+delay_of_end : {kind : DeclKind} {u : List Token} → IsDelayOf kind u → NoEnd u
+delay_of_end (not_delayed e) = tt
+delay_of_end (may_delay e x) = delay_end x
+
+vars_end : {kind : DeclKind} {u : List Token} {xs : List Var} → IsVars kind u xs → NoEnd u
+vars_end (are_vars {u = u} {v = v} x y) = both u v (delay_of_end x) (listed_end Semicolon IsVar var_end y)
+
 driven_end : (u : List Token) (d : Driven) → IsDriven u d → NoEnd u
 driven_end u d h = go h
   where
@@ -211,10 +228,10 @@ item_end : (u : List Token) (xs : List ItemTree) → IsItem u xs → NoEnd u
 item_end u xs h = go h
   where
     go : {u : List Token} {xs : List ItemTree} → IsItem u xs → NoEnd u
-    go (is_decls {u = u} {v = v} {w = w} h x y) = both u (v ++ w) (kind_end h) (both v w (maybe_range_end x) (listed_end Semicolon IsVar var_end y))
+    go (is_decls {u = u} {v = v} {w = w} h x y) = both u (v ++ w) (kind_end h) (both v w (maybe_range_end x) (vars_end y))
     go (is_params b p {u} {v} x y) = (refl, both u v (maybe_range_end x) (listed_end Semicolon IsSetting setting_end y))
-    go (is_assigns p x) = (refl, listed_end Semicolon IsDriven driven_end x)
-    go (is_gates w p e x) = (refl, listed_end Semicolon IsGate gate_end x)
+    go (is_assigns p {u} {v} d x) = (refl, both u v (delay_end d) (listed_end Semicolon IsDriven driven_end x))
+    go (is_gates w p {u = u} {v = v} e d x) = (refl, both u v (delay_end d) (listed_end Semicolon IsGate gate_end x))
     go (is_instances n {u} {v} x y) = (refl, both u v (overrides_end x) (listed_end Semicolon IsPlaced placed_end y))
     go (is_always p {u} {v} x y) = (refl, both u v (event_end x) (stmt_end y))
     go (is_initial p x) = (refl, stmt_end x)
@@ -224,7 +241,7 @@ long_end : (u : List Token) (a : Pdecl) → IsLongPdecl u a → NoEnd u
 long_end u a h = go h
   where
     go : {u : List Token} {a : Pdecl} → IsLongPdecl u a → NoEnd u
-    go (is_long p {u} {v} {s = s} x y) = (refl, both u v (maybe_range_end x) (setting_end v s y))
+    go (is_long b p {u} {v} {s = s} x y) = (refl, both u v (maybe_range_end x) (setting_end v s y))
 
 pdecl_end : (u : List Token) (a : Pdecl) → IsPdecl u a → NoEnd u
 pdecl_end u a h = go h

@@ -2,7 +2,7 @@
 use Rattle.std.proofs.Common.{◌≡◌, ℕ, List, ◌∷◌, ◌++◌, Option, Some, None, refl, sym, subst, append_assoc, rules}
 use Rattle.cdc_base.specs.declared.words.Keyword.{Keyword}
 use Rattle.verilog_lex.specs.declared.token.Token.{Token}
-use Rattle.verilog_lex.specs.declared.marks.MarkKind.TheVariants.{ParenOpen, BraceOpen, Comma, ParenClose, Dot}
+use Rattle.verilog_lex.specs.declared.marks.MarkKind.TheVariants.{ParenOpen, BraceOpen, Comma, ParenClose, Dot, Hash}
 use Rattle.verilog_lex.specs.declared.marks.MarkKind.{MarkKind}
 use Rattle.verilog_reading.specs.Lexemes.{Spot, mark, mark_in, word_in, Named, ident, Numeral, numeral}
 use Rattle.verilog_reading.specs.Operators.{Prefix, prefix, unary_of, joint}
@@ -60,11 +60,18 @@ no_prefix_dot : (m : MarkKind) (p : Prefix) → m ≡ p.sign → unary_of m ≡ 
 no_prefix_dot Dot p f e = absurd (search (rules, e))
 no_prefix_dot m p f e = refl
 
+no_prefix_hash : (m : MarkKind) (p : Prefix) → m ≡ p.sign → unary_of m ≡ Some p.op → mark_in Hash (mark m p.spot) ≡ None
+no_prefix_hash Hash p f e = absurd (search (rules, e))
+no_prefix_hash m p f e = refl
+
 pub comma_no_start : IsNoStart (mark_in Comma)
 comma_no_start = record { numeral = λ n. refl; ident = λ n. refl; prefix = λ p e. no_prefix_comma p.sign p refl e; paren = λ p. refl; brace = λ p. refl }
 
 pub close_no_start : IsNoStart (mark_in ParenClose)
 close_no_start = record { numeral = λ n. refl; ident = λ n. refl; prefix = λ p e. no_prefix_close p.sign p refl e; paren = λ p. refl; brace = λ p. refl }
+
+pub hash_no_start : IsNoStart (mark_in Hash)
+hash_no_start = record { numeral = λ n. refl; ident = λ n. refl; prefix = λ p e. no_prefix_hash p.sign p refl e; paren = λ p. refl; brace = λ p. refl }
 
 pub dot_no_start : IsNoStart (mark_in Dot)
 dot_no_start = record { numeral = λ n. refl; ident = λ n. refl; prefix = λ p e. no_prefix_dot p.sign p refl e; paren = λ p. refl; brace = λ p. refl }

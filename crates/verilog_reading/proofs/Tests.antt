@@ -53,13 +53,13 @@ ident_kind k s n e = absurd (search (rules, e))
 pub ident_is : (t : Token) (n : Named) → ident_in t ≡ Some n → t ≡ ident n
 ident_is t n e = let h = ident_kind t.kind (spot_of t) n e in token_is t (Ident n.name) n.spot h.0 h.1
 
-numeral_kind : (k : TokenKind) (s : Spot) (n : Numeral) → numeral_of k s ≡ Some n → (k ≡ Number n.value n.width n.plain) × (s ≡ n.spot)
-numeral_kind (Number v w p) s n e = let h : record { value = v; width = w; plain = p; spot = s } ≡ n = search (rules, e) in
-    (ap (λ x. Number x.value x.width x.plain) h, ap (λ x. x.spot) h)
+numeral_kind : (k : TokenKind) (s : Spot) (n : Numeral) → numeral_of k s ≡ Some n → (k ≡ Number n.value n.width n.size) × (s ≡ n.spot)
+numeral_kind (Number v w p) s n e = let h : record { value = v; width = w; size = p; spot = s } ≡ n = search (rules, e) in
+    (ap (λ x. Number x.value x.width x.size) h, ap (λ x. x.spot) h)
 numeral_kind k s n e = absurd (search (rules, e))
 
 pub numeral_is : (t : Token) (n : Numeral) → numeral_in t ≡ Some n → t ≡ numeral n
-numeral_is t n e = let h = numeral_kind t.kind (spot_of t) n e in token_is t (Number n.value n.width n.plain) n.spot h.0 h.1
+numeral_is t n e = let h = numeral_kind t.kind (spot_of t) n e in token_is t (Number n.value n.width n.size) n.spot h.0 h.1
 
 end_kind : (k : TokenKind) (s p : Spot) → end_of k s ≡ Some p → (k ≡ End) × (s ≡ p)
 end_kind End s p e = (refl, search (rules, e))

@@ -5,7 +5,7 @@ use Rattle.cdc_base.specs.declared.words.Keyword.{Keyword}
 use Rattle.cdc_base.specs.declared.words.Keyword.TheVariants as k
 use Rattle.verilog_lex.specs.declared.token.Token.{Token}
 use Rattle.verilog_lex.specs.declared.token.TokenKind.{TokenKind}
-use Rattle.verilog_lex.specs.declared.token.TokenKind.TheVariants.{Word, Mark}
+use Rattle.verilog_lex.specs.declared.token.TokenKind.TheVariants.{Word, Ident, Number, Mark}
 use Rattle.verilog_lex.specs.declared.marks.MarkKind.{MarkKind}
 use Rattle.verilog_lex.specs.declared.marks.MarkKind.TheVariants.{ParenOpen, ParenClose, BracketOpen, BracketClose, Comma, Colon, Semicolon, Dot, Hash, At, Equals, Star}
 use Rattle.verilog_ast.specs.declared.DeclKind.{DeclKind}
@@ -24,7 +24,7 @@ use Rattle.verilog_reading.specs.Lists.{more, many}
 use Rattle.verilog_reading.specs.Reader.{closed}
 use Rattle.verilog_reading.specs.StmtReader.{Lower, lower}
 use Rattle.verilog_reading.specs.SourceTree.{Bounds, ParamTree, ConnTree, ConnsTree, ordered, named, always, initial, ItemTree, ModuleTree, joined}
-use Rattle.verilog_reading.specs.ItemReading.{Setting, Var, Driven, gate_of, entries, Placed, edge_of, Separator, item_at, decl_item, param_item, assign_item, gate_item, instance_item, Pdecl, params_from, has_start, Entry, ports_from, first_shape, bare, Ports}
+use Rattle.verilog_reading.specs.ItemReading.{Setting, Var, Dval, by_number, by_name, has_delay, Driven, gate_of, entries, Placed, edge_of, Separator, item_at, decl_item, param_item, assign_item, gate_item, instance_item, Pdecl, params_from, first_form, has_start, Entry, ports_from, first_shape, bare, Ports}
 
 -- `x { , x }` and the mark that closes it
 abbrev pub list_end : {A : Type 0} → MarkKind → A → List A → List Token → Outcome (List A)
@@ -96,6 +96,41 @@ in_var l n = then_both (var_of n.name) (maybe_range l) (init l)
 
 abbrev pub var : Lower → List Token → Outcome Var
 var l = expect ident_in (in_var l)
+
+-- a reader behind what has no meaning
+abbrev pub past : {A B : Type 0} → (List Token → Outcome A) → (List Token → Outcome B) → List Token → Outcome B
+past r s ts = then_read (r ts) (λ _. s)
+
+-- `[delay]`
+abbrev pub dval_of : TokenKind → Spot → Option Dval
+dval_of (Number v w z) s = Some (by_number (record { value = v; width = w; size = z; spot = s }))
+dval_of (Ident n) s = Some (by_name (record { name = n; spot = s }))
+dval_of x s = None
+
+abbrev pub dval_in : Token → Option Dval
+dval_in t = dval_of t.kind (spot_of t)
+
+abbrev pub delay_end : List Token → Outcome (Unit {0})
+delay_end = closed ParenClose tt
+
+abbrev pub second_delay : Spot → List Token → Outcome (Unit {0})
+second_delay _ = expect dval_in (λ _. delay_end)
+
+abbrev pub in_delays : Spot → List Token → Outcome (Unit {0})
+in_delays _ = expect dval_in (λ _. next (mark_in Comma) second_delay delay_end)
+
+abbrev pub in_delay : Spot → List Token → Outcome (Unit {0})
+in_delay _ = next (mark_in ParenOpen) in_delays (expect dval_in (λ _. done tt))
+
+abbrev pub maybe_delay : List Token → Outcome (Unit {0})
+maybe_delay = next (mark_in Hash) in_delay (done tt)
+
+abbrev pub delay_of : DeclKind → List Token → Outcome (Unit {0})
+delay_of kind = if has_delay kind then maybe_delay else done tt
+
+-- `[delay] var { , var } ;`
+abbrev pub vars : Lower → DeclKind → List Token → Outcome (List Var)
+vars l kind = past (delay_of kind) (listed Semicolon (var l))
 
 -- `target = expr`
 abbrev pub drive : TargetTree → ExprTree → Driven
@@ -207,7 +242,7 @@ abbrev pub decl_items : Place → DeclKind → Option Bounds → List Var → Li
 decl_items p kind r xs = map (decl_item p kind r) xs
 
 abbrev pub decls : Lower → Place → DeclKind → List Token → Outcome (List ItemTree)
-decls l p kind = then_both (decl_items p kind) (maybe_range l) (listed Semicolon (var l))
+decls l p kind = then_both (decl_items p kind) (maybe_range l) (vars l kind)
 
 abbrev pub in_input : Lower → Spot → List Token → Outcome (List ItemTree)
 in_input l p ts = then_read (maybe_wire Input ts) (decls l p.place)
@@ -225,13 +260,13 @@ abbrev pub assign_items : Place → List Driven → List ItemTree
 assign_items p xs = map (assign_item p) xs
 
 abbrev pub in_assigns : Lower → Spot → List Token → Outcome (List ItemTree)
-in_assigns l p = then_done (assign_items p.place) (listed Semicolon (driven l))
+in_assigns l p = past maybe_delay (then_done (assign_items p.place) (listed Semicolon (driven l)))
 
 abbrev pub gate_items : Place → GateKind → List (List ExprTree) → List ItemTree
 gate_items p kind xs = map (gate_item p kind) xs
 
 abbrev pub in_gates : Lower → GateWord → List Token → Outcome (List ItemTree)
-in_gates l g = then_done (gate_items g.spot.place g.kind) (listed Semicolon (gate l))
+in_gates l g = past maybe_delay (then_done (gate_items g.spot.place g.kind) (listed Semicolon (gate l)))
 
 abbrev pub instance_items : Place → List ℕ → ConnsTree → List Placed → List ItemTree
 instance_items p n c xs = map (instance_item p n c) xs
@@ -257,23 +292,23 @@ item l = next (word_in k.Input) (in_input l) (next (word_in k.Output) (in_output
     (next ident_in (in_instances l) (next (word_in k.Always) (in_always l) (expect (word_in k.Initial) (in_initial l)))))))))))
 
 -- headers
-abbrev pub long_of : Option Bounds → Setting → Pdecl
-long_of r s = record { long = true; range = r; setting = s }
+abbrev pub long_of : Bool → Option Bounds → Setting → Pdecl
+long_of local r s = record { form = Some (record { local = local; range = r }); setting = s }
 
 abbrev pub short_of : Setting → Pdecl
-short_of s = record { long = false; range = None; setting = s }
+short_of s = record { form = None; setting = s }
 
-abbrev pub in_long : Lower → Spot → List Token → Outcome Pdecl
-in_long l _ = then_both long_of (maybe_range l) (setting l)
+abbrev pub in_long : Lower → Bool → List Token → Outcome Pdecl
+in_long l local = then_both (long_of local) (maybe_range l) (setting l)
 
 abbrev pub long_pdecl : Lower → List Token → Outcome Pdecl
-long_pdecl l = expect (word_in k.Parameter) (in_long l)
+long_pdecl l = next (word_in k.Parameter) (λ _. in_long l false) (expect (word_in k.LocalParam) (λ _. in_long l true))
 
 abbrev pub pdecl : Lower → List Token → Outcome Pdecl
-pdecl l = next (word_in k.Parameter) (in_long l) (then_done short_of (setting l))
+pdecl l = next (word_in k.Parameter) (λ _. in_long l false) (next (word_in k.LocalParam) (λ _. in_long l true) (then_done short_of (setting l)))
 
 abbrev pub in_header : Lower → Spot → List Token → Outcome (List ParamTree)
-in_header l _ = expect (mark_in ParenOpen) (λ _. then_done (params_from None) (list (mark_in Comma) ParenClose (long_pdecl l) (pdecl l)))
+in_header l _ = expect (mark_in ParenOpen) (λ _. then_done (params_from first_form) (list (mark_in Comma) ParenClose (long_pdecl l) (pdecl l)))
 
 abbrev pub header : Lower → List Token → Outcome (List ParamTree)
 header l = next (mark_in Hash) (in_header l) (done [])

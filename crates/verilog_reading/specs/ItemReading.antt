@@ -15,7 +15,7 @@ use Rattle.verilog_ast.specs.declared.Event.TheVariants as event
 use Rattle.verilog_ast.specs.declared.Edge.{Edge}
 use Rattle.verilog_ast.specs.declared.EdgeKind.{EdgeKind}
 use Rattle.verilog_ast.specs.declared.EdgeKind.TheVariants.{Pos, Neg, Level}
-use Rattle.verilog_reading.specs.Lexemes.{Spot, mark, word, Named, ident, closing}
+use Rattle.verilog_reading.specs.Lexemes.{Spot, mark, word, Named, ident, Numeral, numeral, closing}
 use Rattle.verilog_reading.specs.ExprTree.{ExprTree, TargetTree}
 use Rattle.verilog_reading.specs.StmtTree.{StmtTree}
 use Rattle.verilog_reading.specs.Lists.{AreMore, AreMany}
@@ -74,6 +74,35 @@ pub record Var : Type 0 where
 
 pub data IsVar : List Token → Var → Type 0 where
   is_var : (n : Named) {u v : List Token} {r : Option Bounds} {e : Option ExprTree} → IsMaybeRange u r → IsInit v e → IsVar (ident n ∷ (u ++ v)) (record { name = n.name; array = r; init = e })
+
+-- `dval = number | id`
+pub data Dval : Type 0 where
+  by_number : Numeral → Dval
+  by_name : Named → Dval
+
+abbrev pub dval : Dval → Token
+dval (by_number n) = numeral n
+dval (by_name n) = ident n
+
+-- `[ # dval | # "(" dval [ , dval ] ")" ]`, which has no meaning
+pub data IsDelay : List Token → Type 0 where
+  no_delay : IsDelay []
+  bare_delay : (p : Spot) (d : Dval) → IsDelay (mark Hash p ∷ (dval d ∷ []))
+  one_delay : (p q r : Spot) (d : Dval) → IsDelay (mark Hash p ∷ (mark ParenOpen q ∷ (dval d ∷ (mark ParenClose r ∷ []))))
+  two_delays : (p q o r : Spot) (d e : Dval) → IsDelay (mark Hash p ∷ (mark ParenOpen q ∷ (dval d ∷ (mark Comma o ∷ (dval e ∷ (mark ParenClose r ∷ []))))))
+
+-- of the declarations only a `wire` may have a delay
+abbrev pub has_delay : DeclKind → Bool
+has_delay Wire = true
+has_delay kind = false
+
+pub data IsDelayOf : DeclKind → List Token → Type 0 where
+  not_delayed : {kind : DeclKind} → has_delay kind ≡ false → IsDelayOf kind []
+  may_delay : {kind : DeclKind} {u : List Token} → has_delay kind ≡ true → IsDelay u → IsDelayOf kind u
+
+-- `[delay] var { , var } ;`
+pub data IsVars : DeclKind → List Token → List Var → Type 0 where
+  are_vars : {kind : DeclKind} {u v : List Token} {xs : List Var} → IsDelayOf kind u → IsListed Semicolon IsVar v xs → IsVars kind (u ++ v) xs
 
 -- `target = expr`
 pub record Driven : Type 0 where
@@ -185,42 +214,56 @@ param_word false = k.Parameter
 
 -- `item`: declarations, parameters, assignments, gates, instances, `always event stmt` or `initial stmt`
 pub data IsItem : List Token → List ItemTree → Type 0 where
-  is_decls : {p : Spot} {u v w : List Token} {kind : DeclKind} {r : Option Bounds} {xs : List Var} → IsKind p u kind → IsMaybeRange v r → IsListed Semicolon IsVar w xs
+  is_decls : {p : Spot} {u v w : List Token} {kind : DeclKind} {r : Option Bounds} {xs : List Var} → IsKind p u kind → IsMaybeRange v r → IsVars kind w xs
       → IsItem (u ++ (v ++ w)) (map (decl_item p.place kind r) xs)
   is_params : (local : Bool) (p : Spot) {u v : List Token} {r : Option Bounds} {xs : List Setting} → IsMaybeRange u r → IsListed Semicolon IsSetting v xs
       → IsItem (word (param_word local) p ∷ (u ++ v)) (map (param_item p.place local r) xs)
-  is_assigns : (p : Spot) {u : List Token} {xs : List Driven} → IsListed Semicolon IsDriven u xs → IsItem (word k.Assign p ∷ u) (map (assign_item p.place) xs)
-  is_gates : (w : Keyword) (p : Spot) {kind : GateKind} {u : List Token} {xs : List (List ExprTree)} → gate_of w ≡ Some kind → IsListed Semicolon IsGate u xs
-      → IsItem (word w p ∷ u) (map (gate_item p.place kind) xs)
+  is_assigns : (p : Spot) {u v : List Token} {xs : List Driven} → IsDelay u → IsListed Semicolon IsDriven v xs → IsItem (word k.Assign p ∷ (u ++ v)) (map (assign_item p.place) xs)
+  is_gates : (w : Keyword) (p : Spot) {kind : GateKind} {u v : List Token} {xs : List (List ExprTree)} → gate_of w ≡ Some kind → IsDelay u → IsListed Semicolon IsGate v xs
+      → IsItem (word w p ∷ (u ++ v)) (map (gate_item p.place kind) xs)
   is_instances : (n : Named) {u v : List Token} {c : ConnsTree} {xs : List Placed} → IsOverrides u c → IsListed Semicolon IsPlaced v xs
       → IsItem (ident n ∷ (u ++ v)) (map (instance_item n.spot.place n.name c) xs)
   is_always : (p : Spot) {u v : List Token} {e : Event} {s : StmtTree} → IsEvent u e → IsStmt v s → IsItem (word k.Always p ∷ (u ++ v)) (item_at p.place (always e s) ∷ [])
   is_initial : (p : Spot) {u : List Token} {s : StmtTree} → IsStmt u s → IsItem (word k.Initial p ∷ u) (item_at p.place (initial s) ∷ [])
 
--- `pdecl = parameter [range] id = expr | id = expr`: a short one has the range of the entry before it
-pub record Pdecl : Type 0 where
-  pub long : Bool
+-- a parameter of a header; a short one has the word and range of the entry before it
+pub record ParamForm : Type 0 where
+  pub local : Bool
   pub range : Option Bounds
+
+pub record Pdecl : Type 0 where
+  pub form : Option ParamForm
   pub setting : Setting
 
+-- `( parameter | localparam ) [range] id = expr`
 pub data IsLongPdecl : List Token → Pdecl → Type 0 where
-  is_long : (p : Spot) {u v : List Token} {r : Option Bounds} {s : Setting} → IsMaybeRange u r → IsSetting v s → IsLongPdecl (word k.Parameter p ∷ (u ++ v)) (record { long = true; range = r; setting = s })
+  is_long : (local : Bool) (p : Spot) {u v : List Token} {r : Option Bounds} {s : Setting} → IsMaybeRange u r → IsSetting v s
+      → IsLongPdecl (word (param_word local) p ∷ (u ++ v)) (record { form = Some (record { local = local; range = r }); setting = s })
 
+-- `pdecl = ( parameter | localparam ) [range] id = expr | id = expr`
 pub data IsPdecl : List Token → Pdecl → Type 0 where
   long_pdecl : {u : List Token} {a : Pdecl} → IsLongPdecl u a → IsPdecl u a
-  short_pdecl : {u : List Token} {s : Setting} → IsSetting u s → IsPdecl u (record { long = false; range = None; setting = s })
+  short_pdecl : {u : List Token} {s : Setting} → IsSetting u s → IsPdecl u (record { form = None; setting = s })
 
-abbrev pub range_from : Option Bounds → Pdecl → Option Bounds
-range_from before a = if a.long then a.range else before
+abbrev pub form_from : ParamForm → Option ParamForm → ParamForm
+form_from before None = before
+form_from before (Some f) = f
 
-abbrev pub params_from : Option Bounds → List Pdecl → List ParamTree
+abbrev pub param_by : ParamForm → Setting → ParamTree
+param_by f s = record { local = f.local; range = f.range; name = s.name; value = s.value }
+
+abbrev pub params_from : ParamForm → List Pdecl → List ParamTree
 params_from before [] = []
-params_from before (a ∷ bs) = record { local = false; range = range_from before a; name = a.setting.name; value = a.setting.value } ∷ params_from (range_from before a) bs
+params_from before (a ∷ bs) = param_by (form_from before a.form) a.setting ∷ params_from (form_from before a.form) bs
+
+-- the first entry is never short
+abbrev pub first_form : ParamForm
+first_form = record { local = false; range = None }
 
 -- `[ # ( pdecl { , pdecl } ) ]`
 pub data IsHeader : List Token → List ParamTree → Type 0 where
   no_header : IsHeader [] []
-  a_header : (p q : Spot) {u : List Token} {bs : List Pdecl} → IsList (mark Comma) ParenClose IsLongPdecl IsPdecl u bs → IsHeader (mark Hash p ∷ (mark ParenOpen q ∷ u)) (params_from None bs)
+  a_header : (p q : Spot) {u : List Token} {bs : List Pdecl} → IsList (mark Comma) ParenClose IsLongPdecl IsPdecl u bs → IsHeader (mark Hash p ∷ (mark ParenOpen q ∷ u)) (params_from first_form bs)
 
 -- only an `output reg` of a header has a start value
 abbrev pub has_start : DeclKind → Bool

@@ -4,4 +4,4 @@ use Rattle.verilog_exprs.proofs.tokens.after_number.Goals as goal
 
 pub returns-clause-found : goal.returns-clause-found
 returns-clause-found c = let t = c.in_ok-first.first.now in
-    (record { value = c.in-Number.value; width = c.in-Number.width; plain = c.in-Number.plain; spot = spot_of t }, record { token = t; is = search rules; finds = search rules }, search rules)
+    (record { value = c.in-Number.value; width = c.in-Number.width; size = c.in-Number.size; spot = spot_of t }, record { token = t; is = search rules; finds = search rules }, search rules)
