@@ -29,7 +29,7 @@ use Rattle.flat_names.specs.declared.scope.Look.{Look}
 use Rattle.flat_names.specs.declared.resolved.Count.{Count}
 use Rattle.flat_names.specs.declared.resolved.Resolved.{Resolved}
 use Rattle.flat_names.specs.declared.signs.Signs.{Signs}
-use Rattle.flat_names.specs.Signs.{number_signs, based_signs, no_signs, is_whole_size}
+use Rattle.flat_names.specs.Signs.{number_signs, based_signs, no_signs}
 use Rattle.flat_names.specs.Noting.{Noted, all_noted}
 use Rattle.flat_names.specs.Looks.{param_of, meaning_of, meant, one_if, bits_of, Shows, IsFitParam, IsFit}
 use Rattle.flat_names.specs.Pieces.{Piece, piece, IsPiece, IsRead, at_once, numbered}
@@ -103,33 +103,19 @@ number-notes l old v w size = ap (all_noted old) (sym (quiet (piece l (number v 
 
 -- ---- parameters
 
--- it is a number without a size where it is counted with the size 32
-abbrev pub as_param : Param → Bool → Signs
-as_param p unsized = record { is_signed = p.signed; leans = false; is_unsized = unsized }
-
-abbrev pub param_signs : Param → Signs
-param_signs p = as_param p (p.counted && (p.width == 32))
-
-param-signs : (l : n.Look) (x : Text) (p : Param) (g : Signs) → g ≡ param_signs p → g ≡ (name_piece l x (Some (n.a_param (param_of p)))).signs
-param-signs l x p g e = e ∙ go p.counted
-  where
-    go : (b : Bool) → as_param p (b && (p.width == 32)) ≡ as_param p (is_whole_size (option_map (λ (q : n.Param). q.width) (cond b (Some (param_of p)) None)))
-    go true = refl
-    go false = refl
-
-pub counted-param : (l : n.Look) (x : Text) (p : Param) (g : Signs) → IsFitParam (param_of p) → p.counted ≡ true → g ≡ param_signs p
+pub counted-param : (l : n.Look) (x : Text) (p : Param) (g : Signs) → IsFitParam (param_of p) → p.counted ≡ true → g ≡ (name_piece l x (Some (n.a_param (param_of p)))).signs
     → IsPiece (name_piece l x (Some (n.a_param (param_of p)))) (numbered (within p.width p.value) p.value p.width g)
 counted-param l x p g h e d =
     let i = h.whole e in
-    subst (λ z. IsPiece (name_piece l x (Some (n.a_param (param_of p)))) (numbered (within p.width p.value) p.value p.width z)) (sym (param-signs l x p g d))
+    subst (λ z. IsPiece (name_piece l x (Some (n.a_param (param_of p)))) (numbered (within p.width p.value) p.value p.width z)) (sym d)
     (counted-piece (name_piece l x (Some (n.a_param (param_of p)))) p.value p.width refl
     (ap (λ t. option_map (λ (q : n.Param). q.width) (cond t (Some (param_of p)) None)) e)
     (ap (λ t. option_and_then (λ (q : n.Param). within q.width q.value) (cond t (Some (param_of p)) None)) e ∙ i) h.width h.value i)
 
-pub sized-param : (l : n.Look) (x : Text) (p : Param) (g : Signs) → IsFitParam (param_of p) → p.counted ≡ false → g ≡ param_signs p
+pub sized-param : (l : n.Look) (x : Text) (p : Param) (g : Signs) → IsFitParam (param_of p) → p.counted ≡ false → g ≡ (name_piece l x (Some (n.a_param (param_of p)))).signs
     → IsPiece (name_piece l x (Some (n.a_param (param_of p)))) (record { expr = f.Number p.value p.width; is_sound = true; is_constant = true; count = None; signs = g })
 sized-param l x p g h e d = open-read (name_piece l x (Some (n.a_param (param_of p)))) _ (ap (λ t. option_map (λ (q : n.Param). q.width) (cond t (Some (param_of p)) None)) e)
-    (number-read p.value p.width true None g h.width h.value refl) refl (param-signs l x p g d)
+    (number-read p.value p.width true None g h.width h.value refl) refl d
 
 -- ---- signals
 

@@ -11,7 +11,7 @@ ghost use Rattle.flat_names.specs.Noting.{all_noted};
 ghost use Rattle.flat_names.specs.Looks.{param_of, Shows, IsFitParam, IsFit};
 ghost use Rattle.flat_names.specs.Pieces.{piece, IsPiece, IsRead, AreRead, at_once};
 ghost use Rattle.flat_names.specs.Selects.{name_piece};
-ghost use Rattle.flat_names.specs.Signs.{signs_of};
+ghost use Rattle.flat_names.specs.Signs.{signs_of as signs_in};
 
 use crate::fault::{Faults, Rule};
 use crate::resolved::{
@@ -89,7 +89,7 @@ fn parts_of(look: &Look, exprs: &[Expr], faults: &mut Faults) -> Result<Parts, N
 /// The expression by itself.
 pub fn resolve(look: &Look, expr: &Expr, faults: &mut Faults) -> Result<Resolved, NoMemory>
     ensures { (l : meanings.Look) → Shows look.now l → IsFit l → IsFormed (tree_of expr.now)
-        → IfOk result (λ r. IsRead (read_tree l (tree_of expr.now)) r × (faults.new ≡ all_noted faults.old (read_tree l (tree_of expr.now)).broken) × (is_some r.count ≡ is_counted l.names (tree_of expr.now)) × (r.signs ≡ signs_of l.names (tree_of expr.now))) }
+        → IfOk result (λ r. IsRead (read_tree l (tree_of expr.now)) r × (faults.new ≡ all_noted faults.old (read_tree l (tree_of expr.now)).broken) × (is_some r.count ≡ is_counted l.names (tree_of expr.now)) × (r.signs ≡ signs_in l.names (tree_of expr.now))) }
 {
     let resolved = part_of(look, expr, faults)?;
     settled(resolved, faults)
@@ -98,7 +98,7 @@ pub fn resolve(look: &Look, expr: &Expr, faults: &mut Faults) -> Result<Resolved
 /// The expression by itself, which has to be a constant.
 pub fn resolve_constant(look: &Look, expr: &Expr, faults: &mut Faults) -> Result<Resolved, NoMemory>
     ensures { (l : meanings.Look) → Shows look.now l → IsFit l → IsFormed (tree_of expr.now)
-        → IfOk result (λ r. IsRead (as_constant (read_tree l (tree_of expr.now))) r × (faults.new ≡ all_noted faults.old (as_constant (read_tree l (tree_of expr.now))).broken) × (is_some r.count ≡ is_counted l.names (tree_of expr.now)) × (r.signs ≡ signs_of l.names (tree_of expr.now))) }
+        → IfOk result (λ r. IsRead (as_constant (read_tree l (tree_of expr.now))) r × (faults.new ≡ all_noted faults.old (as_constant (read_tree l (tree_of expr.now))).broken) × (is_some r.count ≡ is_counted l.names (tree_of expr.now)) × (r.signs ≡ signs_in l.names (tree_of expr.now))) }
 {
     let resolved = part_of(look, expr, faults)?;
     settled_constant(resolved, faults)
@@ -146,18 +146,24 @@ fn named(look: &Look, name: &Name, faults: &mut Faults) -> Result<Resolved, NoMe
 fn parameter(param: Param) -> Resolved
     ensures { (l : meanings.Look) (x : Text) → IsFitParam (param_of param) → IsPiece (name_piece l x (Some (meanings.a_param (param_of param)))) result }
 {
-    let signs = Signs {
-        is_signed: param.signed,
-        leans: false,
-        is_unsized: param.counted && param.width == 32,
-    };
     if param.counted {
-        counted_number(param.value, param.width, signs)
+        counted_number(param.value, param.width, signs_of(param))
     } else {
         let number = FExpr::Number {
             value: param.value,
             width: param.width,
         };
-        Resolved::constant(number, signs)
+        Resolved::constant(number, signs_of(param))
+    }
+}
+
+/// A parameter that is counted with the size 32 is a number without a size.
+fn signs_of(param: Param) -> Signs
+    ensures { (l : meanings.Look) (x : Text) → result ≡ (name_piece l x (Some (meanings.a_param (param_of param)))).signs }
+{
+    Signs {
+        is_signed: param.signed,
+        leans: false,
+        is_unsized: param.counted && param.width == 32,
     }
 }
