@@ -12,13 +12,13 @@ use Rattle.verilog_exprs.specs.Halts.{HaltsAs}
 use Rattle.verilog_exprs.specs.Next.{Takes, Lacks}
 use Rattle.verilog_exprs.proofs.Steps.{halts_then, halts_by, halts_for_memory, next_takes, next_lacks, expect_halts}
 use Rattle.verilog_exprs.proofs.Steps.{then_done as then_goes}
-use Rattle.verilog_items.specs.Forms.{place_at, Puts, NoDirection, NoKind, NoParameter, params_at, assigns_at}
+use Rattle.verilog_items.specs.Forms.{place_at, Puts, NoDirection, NoKind, NoParameter, vars_at, params_at, drives_at, assigns_at}
 use Rattle.verilog_items.proofs.PushSteps.{Pushed, pushed_first, pushed_more, pushed_halts, pushed_open, pushed_end, reached_first_halts}
 use Rattle.verilog_lex.specs.declared.token.Token.{Token}
 use Rattle.verilog_lex.specs.declared.marks.MarkKind.TheVariants.{BracketOpen, BracketClose, Comma, Colon, Semicolon, Equals}
 use Rattle.verilog_reading.specs.ExprTree.{ExprTree, TargetTree}
-use Rattle.verilog_reading.specs.ItemReader.{listed, then_done, right_end, in_right, at_right, in_range, maybe_range, init, set_to, at_setting, setting, maybe_wire, output, direction, var_of, in_var, var, drive, at_driven, driven, decl_items, decls, in_input, in_output, param_items, in_params, assign_items, in_assigns, gate_in, in_gates, in_instances, in_always, in_initial, item}
-use Rattle.verilog_reading.specs.ItemReading.{Var, Setting, Driven, item_at, decl_item, param_item, assign_item}
+use Rattle.verilog_reading.specs.ItemReader.{listed, then_done, right_end, in_right, at_right, in_range, maybe_range, short_of, in_long, long_pdecl, pdecl, init, set_to, at_setting, setting, maybe_wire, output, direction, var_of, in_var, var, drive, at_driven, driven, maybe_delay, delay_of, vars, decl_items, decls, in_input, in_output, param_items, in_params, assign_items, in_assigns, gate_in, in_gates, in_instances, in_always, in_initial, item}
+use Rattle.verilog_reading.specs.ItemReading.{Var, Setting, Pdecl, Driven, item_at, decl_item, param_item, assign_item}
 use Rattle.verilog_reading.specs.Lexemes.{Spot, mark_in, word_in, ident_in}
 use Rattle.verilog_reading.specs.Outcome.{Outcome, done, then_read, next, expect, refuse}
 use Rattle.verilog_reading.specs.Reader.{readers}
@@ -197,7 +197,28 @@ item_local ts s rest u w v l = past_kinds ts v l ∙ next_lacks (word_in k.Param
 pub no_parameter : (ts : List Token) → Lacks (word_in k.Parameter) ts → Lacks (word_in k.LocalParam) ts → NoParameter ts
 no_parameter ts v w = record { parameter = v; local = w }
 
-pub ruleset parameter_steps = (item_parameter, item_local, no_parameter)
+abbrev short_pdecl : Lower → List Token → Outcome Pdecl
+short_pdecl l = then_done short_of (setting l)
+
+abbrev local_pdecl : Lower → (List Token → Outcome Pdecl) → List Token → Outcome Pdecl
+local_pdecl l other = next (word_in k.LocalParam) (λ _. in_long l true) other
+
+abbrev pub GoesToLong : (Lower → List Token → Outcome Pdecl) → Bool → List Token → List Token → Type 0
+GoesToLong r local ts rest = (l : Lower) → r l ts ≡ in_long l local rest
+
+pub long_parameter : (ts : List Token) (s : Spot) (rest : List Token) → Takes (word_in k.Parameter) s ts rest → GoesToLong long_pdecl false ts rest
+long_parameter ts s rest w l = next_takes (word_in k.Parameter) (λ _. in_long l false) (local_pdecl l refuse) s ts rest w
+
+pub long_local : (ts : List Token) (s : Spot) (rest : List Token) → Lacks (word_in k.Parameter) ts → Takes (word_in k.LocalParam) s ts rest → GoesToLong long_pdecl true ts rest
+long_local ts s rest v w l = next_lacks (word_in k.Parameter) (λ _. in_long l false) (local_pdecl l refuse) ts v ∙ next_takes (word_in k.LocalParam) (λ _. in_long l true) refuse s ts rest w
+
+pub entry_parameter : (ts : List Token) (s : Spot) (rest : List Token) → Takes (word_in k.Parameter) s ts rest → GoesToLong pdecl false ts rest
+entry_parameter ts s rest w l = next_takes (word_in k.Parameter) (λ _. in_long l false) (local_pdecl l (short_pdecl l)) s ts rest w
+
+pub entry_local : (ts : List Token) (s : Spot) (rest : List Token) → Lacks (word_in k.Parameter) ts → Takes (word_in k.LocalParam) s ts rest → GoesToLong pdecl true ts rest
+entry_local ts s rest v w l = next_lacks (word_in k.Parameter) (λ _. in_long l false) (local_pdecl l (short_pdecl l)) ts v ∙ next_takes (word_in k.LocalParam) (λ _. in_long l true) (short_pdecl l) s ts rest w
+
+pub ruleset parameter_steps = (item_parameter, item_local, no_parameter, long_parameter, long_local, entry_parameter, entry_local)
 
 pub past_parameters : (ts : List Token) → NoKind ts → NoParameter ts → (l : Lower) → item l ts ≡ behind_params l ts
 past_parameters ts v w l = past_kinds ts v l ∙ next_lacks (word_in k.Parameter) (in_params l false) (behind_parameter l) ts w.parameter ∙ next_lacks (word_in k.LocalParam) (in_params l true) (behind_params l) ts w.local
@@ -221,39 +242,44 @@ abbrev pub DeclsOn : ℕ → Place → DeclKind → Option Bounds → List Token
 DeclsOn n p kind r start old new rest = Pushed item_of (decl_item p kind r) (mark_in Comma) Semicolon (var (lower n)) (var (lower n)) (listed Semicolon (var (lower n)) start) old new rest
 
 pub decls_range_halts : (n : ℕ) (p : Place) (kind : DeclKind) (ts : List Token) (h : Halt) → HaltsAs (maybe_range (lower n) ts) h → HaltsAs (decls (lower n) p kind ts) h
-decls_range_halts n p kind ts h x = halts_then (maybe_range (lower n) ts) (λ r. then_done (decl_items p kind r) (listed Semicolon (var (lower n)))) h x
+decls_range_halts n p kind ts h x = halts_then (maybe_range (lower n) ts) (λ r. then_done (decl_items p kind r) (vars (lower n) kind)) h x
 
-decls_begin : (n : ℕ) (p : Place) (kind : DeclKind) (ts : List Token) (r : Option Bounds) (mid : List Token) → maybe_range (lower n) ts ≡ done r mid → decls (lower n) p kind ts ≡ then_done (decl_items p kind r) (listed Semicolon (var (lower n))) mid
-decls_begin n p kind ts r mid e = then_goes (maybe_range (lower n) ts) (λ r. then_done (decl_items p kind r) (listed Semicolon (var (lower n)))) r mid e
+decls_begin : (n : ℕ) (p : Place) (kind : DeclKind) (ts : List Token) (r : Option Bounds) (mid : List Token) → maybe_range (lower n) ts ≡ done r mid → decls (lower n) p kind ts ≡ then_done (decl_items p kind r) (vars (lower n) kind) mid
+decls_begin n p kind ts r mid e = then_goes (maybe_range (lower n) ts) (λ r. then_done (decl_items p kind r) (vars (lower n) kind)) r mid e
 
-pub decls_first_halts : (n : ℕ) (p : Place) (kind : DeclKind) (ts : List Token) (r : Option Bounds) (mid : List Token) (h : Halt) → maybe_range (lower n) ts ≡ done r mid → HaltsAs (var (lower n) mid) h → HaltsAs (decls (lower n) p kind ts) h
-decls_first_halts n p kind ts r mid h e x = halts_by (decls (lower n) p kind ts) (then_done (decl_items p kind r) (listed Semicolon (var (lower n))) mid) h (decls_begin n p kind ts r mid e) (list_first_halts (var (lower n)) (decl_items p kind r) mid h x)
+pub decls_delay_halts : (n : ℕ) (p : Place) (kind : DeclKind) (ts : List Token) (r : Option Bounds) (mid : List Token) (h : Halt) → maybe_range (lower n) ts ≡ done r mid → HaltsAs (delay_of kind mid) h → HaltsAs (decls (lower n) p kind ts) h
+decls_delay_halts n p kind ts r mid h e x = halts_by (decls (lower n) p kind ts) (then_done (decl_items p kind r) (vars (lower n) kind) mid) h (decls_begin n p kind ts r mid e)
+    (halts_then (vars (lower n) kind mid) (λ a. done (decl_items p kind r a)) h (halts_then (delay_of kind mid) (λ _. listed Semicolon (var (lower n))) h x))
 
-pub decls_first : (n : ℕ) (p : Place) (kind : DeclKind) (r : Option Bounds) (mid rest : List Token) (old new : List Item)
-    → (x : Var) × (var (lower n) mid ≡ done x rest) × (map item_of new ≡ map item_of old ++ decl_item p kind r x ∷ []) → DeclsOn n p kind r mid old new rest
-decls_first n p kind r mid rest old new x = pushed_first item_of (decl_item p kind r) (mark_in Comma) Semicolon (var (lower n)) (var (lower n)) mid x.0 rest old new x.1 x.2
+pub decls_are : (n : ℕ) (p : Place) (kind : DeclKind) (ts : List Token) (r : Option Bounds) (mid last : List Token) → maybe_range (lower n) ts ≡ done r mid → delay_of kind mid ≡ done tt last → decls (lower n) p kind ts ≡ vars_at (lower n) p kind r last
+decls_are n p kind ts r mid last e f = decls_begin n p kind ts r mid e ∙ ap (λ o. then_read o (λ a. done (decl_items p kind r a))) (then_goes (delay_of kind mid) (λ _. listed Semicolon (var (lower n))) tt last f)
 
-pub decls_more : (n : ℕ) (p : Place) (kind : DeclKind) (r : Option Bounds) (mid : List Token) (old xs ys : List Item) (s : Spot) (ts after rest : List Token) → DeclsOn n p kind r mid old xs ts
-    → Takes (mark_in Comma) s ts after → (x : Var) × (var (lower n) after ≡ done x rest) × (map item_of ys ≡ map item_of xs ++ decl_item p kind r x ∷ []) → DeclsOn n p kind r mid old ys rest
-decls_more n p kind r mid old xs ys s ts after rest g w x = pushed_more item_of (decl_item p kind r) (mark_in Comma) Semicolon (var (lower n)) (var (lower n)) (local_var (lower n) (local_lower n))
-    (listed Semicolon (var (lower n)) mid) old xs ys s ts after x.0 rest g w x.1 x.2
+pub vars_first_halts : (n : ℕ) (p : Place) (kind : DeclKind) (r : Option Bounds) (ts : List Token) (h : Halt) → HaltsAs (var (lower n) ts) h → HaltsAs (vars_at (lower n) p kind r ts) h
+vars_first_halts n p kind r ts h x = list_first_halts (var (lower n)) (decl_items p kind r) ts h x
 
-pub decls_stop : (n : ℕ) (p : Place) (kind : DeclKind) (begin : List Token) (r : Option Bounds) (mid : List Token) (old xs : List Item) (s : Spot) (ts after : List Token) (h : Halt) → maybe_range (lower n) begin ≡ done r mid
-    → DeclsOn n p kind r mid old xs ts → Takes (mark_in Comma) s ts after → HaltsAs (var (lower n) after) h → HaltsAs (decls (lower n) p kind begin) h
-decls_stop n p kind begin r mid old xs s ts after h e g w x = halts_by (decls (lower n) p kind begin) (then_done (decl_items p kind r) (listed Semicolon (var (lower n))) mid) h (decls_begin n p kind begin r mid e)
-    (list_halts (var (lower n)) (decl_items p kind r) mid h (pushed_halts item_of (decl_item p kind r) (mark_in Comma) Semicolon (var (lower n)) (var (lower n)) (listed Semicolon (var (lower n)) mid) old xs s ts after h g w x))
+pub vars_first : (n : ℕ) (p : Place) (kind : DeclKind) (r : Option Bounds) (ts rest : List Token) (old new : List Item)
+    → (x : Var) × (var (lower n) ts ≡ done x rest) × (map item_of new ≡ map item_of old ++ decl_item p kind r x ∷ []) → DeclsOn n p kind r ts old new rest
+vars_first n p kind r ts rest old new x = pushed_first item_of (decl_item p kind r) (mark_in Comma) Semicolon (var (lower n)) (var (lower n)) ts x.0 rest old new x.1 x.2
 
-pub decls_open : (n : ℕ) (p : Place) (kind : DeclKind) (begin : List Token) (r : Option Bounds) (mid : List Token) (old xs : List Item) (ts : List Token) (h : Halt) → maybe_range (lower n) begin ≡ done r mid
-    → DeclsOn n p kind r mid old xs ts → Lacks (mark_in Comma) ts → Lacks (mark_in Semicolon) ts → h ≡ Refused false (length ts) → HaltsAs (decls (lower n) p kind begin) h
-decls_open n p kind begin r mid old xs ts h e g v w q = halts_by (decls (lower n) p kind begin) (then_done (decl_items p kind r) (listed Semicolon (var (lower n))) mid) h (decls_begin n p kind begin r mid e)
-    (list_halts (var (lower n)) (decl_items p kind r) mid h (pushed_open item_of (decl_item p kind r) (mark_in Comma) Semicolon (var (lower n)) (var (lower n)) (listed Semicolon (var (lower n)) mid) old xs ts h g v w q))
+pub vars_more : (n : ℕ) (p : Place) (kind : DeclKind) (r : Option Bounds) (begin : List Token) (old xs ys : List Item) (s : Spot) (ts after rest : List Token) → DeclsOn n p kind r begin old xs ts
+    → Takes (mark_in Comma) s ts after → (x : Var) × (var (lower n) after ≡ done x rest) × (map item_of ys ≡ map item_of xs ++ decl_item p kind r x ∷ []) → DeclsOn n p kind r begin old ys rest
+vars_more n p kind r begin old xs ys s ts after rest g w x = pushed_more item_of (decl_item p kind r) (mark_in Comma) Semicolon (var (lower n)) (var (lower n)) (local_var (lower n) (local_lower n))
+    (listed Semicolon (var (lower n)) begin) old xs ys s ts after x.0 rest g w x.1 x.2
 
-pub decls_end : (n : ℕ) (p : Place) (kind : DeclKind) (begin : List Token) (r : Option Bounds) (mid : List Token) (old xs : List Item) (ts : List Token) (s : Spot) (rest : List Token) → maybe_range (lower n) begin ≡ done r mid
-    → DeclsOn n p kind r mid old xs ts → Lacks (mark_in Comma) ts → Takes (mark_in Semicolon) s ts rest → Puts (decls (lower n) p kind begin) old xs rest
-decls_end n p kind begin r mid old xs ts s rest e g v w = puts_by (decls (lower n) p kind begin) (then_done (decl_items p kind r) (listed Semicolon (var (lower n))) mid) old xs rest (decls_begin n p kind begin r mid e)
-    (list_puts (var (lower n)) (decl_item p kind r) mid old xs rest (pushed_end item_of (decl_item p kind r) (mark_in Comma) Semicolon (var (lower n)) (var (lower n)) (listed Semicolon (var (lower n)) mid) old xs ts s rest g v w))
+pub vars_stop : (n : ℕ) (p : Place) (kind : DeclKind) (r : Option Bounds) (begin : List Token) (old xs : List Item) (s : Spot) (ts after : List Token) (h : Halt) → DeclsOn n p kind r begin old xs ts → Takes (mark_in Comma) s ts after
+    → HaltsAs (var (lower n) after) h → HaltsAs (vars_at (lower n) p kind r begin) h
+vars_stop n p kind r begin old xs s ts after h g w x = list_halts (var (lower n)) (decl_items p kind r) begin h
+    (pushed_halts item_of (decl_item p kind r) (mark_in Comma) Semicolon (var (lower n)) (var (lower n)) (listed Semicolon (var (lower n)) begin) old xs s ts after h g w x)
 
-pub ruleset decls_steps = (decls_range_halts, decls_first_halts, decls_first, decls_more, decls_stop, decls_open, decls_end)
+pub vars_open : (n : ℕ) (p : Place) (kind : DeclKind) (r : Option Bounds) (begin : List Token) (old xs : List Item) (ts : List Token) (h : Halt) → DeclsOn n p kind r begin old xs ts → Lacks (mark_in Comma) ts → Lacks (mark_in Semicolon) ts
+    → h ≡ Refused false (length ts) → HaltsAs (vars_at (lower n) p kind r begin) h
+vars_open n p kind r begin old xs ts h g v w q = list_halts (var (lower n)) (decl_items p kind r) begin h
+    (pushed_open item_of (decl_item p kind r) (mark_in Comma) Semicolon (var (lower n)) (var (lower n)) (listed Semicolon (var (lower n)) begin) old xs ts h g v w q)
+
+pub vars_end : (n : ℕ) (p : Place) (kind : DeclKind) (r : Option Bounds) (begin : List Token) (old xs : List Item) (ts : List Token) (s : Spot) (rest : List Token) → DeclsOn n p kind r begin old xs ts → Lacks (mark_in Comma) ts
+    → Takes (mark_in Semicolon) s ts rest → Puts (vars_at (lower n) p kind r begin) old xs rest
+vars_end n p kind r begin old xs ts s rest g v w = list_puts (var (lower n)) (decl_item p kind r) begin old xs rest
+    (pushed_end item_of (decl_item p kind r) (mark_in Comma) Semicolon (var (lower n)) (var (lower n)) (listed Semicolon (var (lower n)) begin) old xs ts s rest g v w)
 
 -- `var`
 pub var_refused : (n : ℕ) (ts : List Token) (h : Halt) → Lacks ident_in ts → h ≡ Refused false (length ts) → HaltsAs (var (lower n) ts) h
@@ -399,30 +425,35 @@ pub ruleset assign_steps = (driven_target_halts, driven_equals_halts, driven_val
 abbrev pub AssignsOn : ℕ → Place → List Token → List Item → List Item → List Token → Type 0
 AssignsOn n p start old new rest = Pushed item_of (assign_item p) (mark_in Comma) Semicolon (driven (lower n)) (driven (lower n)) (listed Semicolon (driven (lower n)) start) old new rest
 
-pub assigns_first_halts : (n : ℕ) (p : Place) (ts : List Token) (h : Halt) → HaltsAs (driven (lower n) ts) h → HaltsAs (assigns_at (lower n) p ts) h
-assigns_first_halts n p ts h x = list_first_halts (driven (lower n)) (assign_items p) ts h x
+pub drives_first_halts : (n : ℕ) (p : Place) (ts : List Token) (h : Halt) → HaltsAs (driven (lower n) ts) h → HaltsAs (drives_at (lower n) p ts) h
+drives_first_halts n p ts h x = list_first_halts (driven (lower n)) (assign_items p) ts h x
 
-pub assigns_first : (n : ℕ) (p : Place) (ts : List Token) (rest : List Token) (old new : List Item) → (x : Driven) × (driven (lower n) ts ≡ done x rest) × (map item_of new ≡ map item_of old ++ assign_item p x ∷ []) → AssignsOn n p ts old new rest
-assigns_first n p ts rest old new x = pushed_first item_of (assign_item p) (mark_in Comma) Semicolon (driven (lower n)) (driven (lower n)) ts x.0 rest old new x.1 x.2
+pub drives_first : (n : ℕ) (p : Place) (ts : List Token) (rest : List Token) (old new : List Item) → (x : Driven) × (driven (lower n) ts ≡ done x rest) × (map item_of new ≡ map item_of old ++ assign_item p x ∷ []) → AssignsOn n p ts old new rest
+drives_first n p ts rest old new x = pushed_first item_of (assign_item p) (mark_in Comma) Semicolon (driven (lower n)) (driven (lower n)) ts x.0 rest old new x.1 x.2
 
-pub assigns_more : (n : ℕ) (p : Place) (begin : List Token) (old xs ys : List Item) (s : Spot) (ts after : List Token) (rest : List Token) → AssignsOn n p begin old xs ts → Takes (mark_in Comma) s ts after
+pub drives_more : (n : ℕ) (p : Place) (begin : List Token) (old xs ys : List Item) (s : Spot) (ts after : List Token) (rest : List Token) → AssignsOn n p begin old xs ts → Takes (mark_in Comma) s ts after
     → (x : Driven) × (driven (lower n) after ≡ done x rest) × (map item_of ys ≡ map item_of xs ++ assign_item p x ∷ []) → AssignsOn n p begin old ys rest
-assigns_more n p begin old xs ys s ts after rest g w x = pushed_more item_of (assign_item p) (mark_in Comma) Semicolon (driven (lower n)) (driven (lower n)) (local_driven (lower n) (local_lower n)) (listed Semicolon (driven (lower n)) begin)
+drives_more n p begin old xs ys s ts after rest g w x = pushed_more item_of (assign_item p) (mark_in Comma) Semicolon (driven (lower n)) (driven (lower n)) (local_driven (lower n) (local_lower n)) (listed Semicolon (driven (lower n)) begin)
     old xs ys s ts after x.0 rest g w x.1 x.2
 
-pub assigns_stop : (n : ℕ) (p : Place) (begin : List Token) (old xs : List Item) (s : Spot) (ts after : List Token) (h : Halt) → AssignsOn n p begin old xs ts → Takes (mark_in Comma) s ts after → HaltsAs (driven (lower n) after) h
-    → HaltsAs (assigns_at (lower n) p begin) h
-assigns_stop n p begin old xs s ts after h g w x = list_halts (driven (lower n)) (assign_items p) begin h
+pub drives_stop : (n : ℕ) (p : Place) (begin : List Token) (old xs : List Item) (s : Spot) (ts after : List Token) (h : Halt) → AssignsOn n p begin old xs ts → Takes (mark_in Comma) s ts after → HaltsAs (driven (lower n) after) h
+    → HaltsAs (drives_at (lower n) p begin) h
+drives_stop n p begin old xs s ts after h g w x = list_halts (driven (lower n)) (assign_items p) begin h
     (pushed_halts item_of (assign_item p) (mark_in Comma) Semicolon (driven (lower n)) (driven (lower n)) (listed Semicolon (driven (lower n)) begin) old xs s ts after h g w x)
 
-pub assigns_open : (n : ℕ) (p : Place) (begin : List Token) (old xs : List Item) (ts : List Token) (h : Halt) → AssignsOn n p begin old xs ts → Lacks (mark_in Comma) ts → Lacks (mark_in Semicolon) ts → h ≡ Refused false (length ts)
-    → HaltsAs (assigns_at (lower n) p begin) h
-assigns_open n p begin old xs ts h g v w q = list_halts (driven (lower n)) (assign_items p) begin h
+pub drives_open : (n : ℕ) (p : Place) (begin : List Token) (old xs : List Item) (ts : List Token) (h : Halt) → AssignsOn n p begin old xs ts → Lacks (mark_in Comma) ts → Lacks (mark_in Semicolon) ts → h ≡ Refused false (length ts)
+    → HaltsAs (drives_at (lower n) p begin) h
+drives_open n p begin old xs ts h g v w q = list_halts (driven (lower n)) (assign_items p) begin h
     (pushed_open item_of (assign_item p) (mark_in Comma) Semicolon (driven (lower n)) (driven (lower n)) (listed Semicolon (driven (lower n)) begin) old xs ts h g v w q)
 
-pub assigns_end : (n : ℕ) (p : Place) (begin : List Token) (old xs : List Item) (ts : List Token) (s : Spot) (rest : List Token) → AssignsOn n p begin old xs ts → Lacks (mark_in Comma) ts → Takes (mark_in Semicolon) s ts rest
-    → Puts (assigns_at (lower n) p begin) old xs rest
-assigns_end n p begin old xs ts s rest g v w = list_puts (driven (lower n)) (assign_item p) begin old xs rest
+pub drives_end : (n : ℕ) (p : Place) (begin : List Token) (old xs : List Item) (ts : List Token) (s : Spot) (rest : List Token) → AssignsOn n p begin old xs ts → Lacks (mark_in Comma) ts → Takes (mark_in Semicolon) s ts rest
+    → Puts (drives_at (lower n) p begin) old xs rest
+drives_end n p begin old xs ts s rest g v w = list_puts (driven (lower n)) (assign_item p) begin old xs rest
     (pushed_end item_of (assign_item p) (mark_in Comma) Semicolon (driven (lower n)) (driven (lower n)) (listed Semicolon (driven (lower n)) begin) old xs ts s rest g v w)
 
-pub ruleset assigns_steps = (assigns_first_halts, assigns_first, assigns_more, assigns_stop, assigns_open, assigns_end)
+-- behind their delay
+pub assigns_delay_halts : (n : ℕ) (p : Place) (ts : List Token) (h : Halt) → HaltsAs (maybe_delay ts) h → HaltsAs (assigns_at (lower n) p ts) h
+assigns_delay_halts n p ts h x = halts_then (maybe_delay ts) (λ _. drives_at (lower n) p) h x
+
+pub assigns_are : (n : ℕ) (p : Place) (ts rest : List Token) → maybe_delay ts ≡ done tt rest → assigns_at (lower n) p ts ≡ drives_at (lower n) p rest
+assigns_are n p ts rest e = then_goes (maybe_delay ts) (λ _. drives_at (lower n) p) tt rest e

@@ -1,5 +1,5 @@
 -- The steps of the reader of a module's header: one for each way out of a function of the parser.
-use Rattle.std.proofs.Common.{◌≡◌, ℕ, true, false, List, [], ◌∷◌, ◌++◌, map, length, Option, Some, None, refl, sym, ap, ◌∙◌, if◌then◌else◌}
+use Rattle.std.proofs.Common.{◌≡◌, ℕ, Bool, true, false, List, [], ◌∷◌, ◌++◌, map, length, Option, Some, None, refl, sym, ap, ◌∙◌, if◌then◌else◌}
 use Rattle.cdc_base.specs.declared.words.Keyword.TheVariants as k
 use Rattle.verilog_ast.specs.declared.DeclKind.{DeclKind}
 use Rattle.verilog_ast.specs.declared.DeclKind.TheVariants.{Input, OutputReg}
@@ -11,16 +11,17 @@ use Rattle.verilog_exprs.specs.Halts.{HaltsAs}
 use Rattle.verilog_exprs.specs.Next.{Takes, Lacks}
 use Rattle.verilog_exprs.proofs.Steps.{halts_then, halts_by, halts_at, halts_for_memory, next_takes, next_lacks, peek_takes, peek_lacks, expect_halts}
 use Rattle.verilog_exprs.proofs.Steps.{then_done as then_goes}
-use Rattle.verilog_items.specs.Forms.{NoDirection, pdecls_at, names_at, adecls_at, param_by, last_range, last_shape, PutsParam, PutsPort, port_at, header_ports}
+use Rattle.verilog_items.specs.Forms.{NoDirection, NoParameter, pdecls_at, names_at, adecls_at, last_form, last_shape, PutsParam, PutsPort, port_at, header_ports}
 use Rattle.verilog_items.specs.declared.header.Ports as parsed
+use Rattle.verilog_items.proofs.DeclSteps.{GoesToLong}
 use Rattle.verilog_items.proofs.PushSteps.{Pushed, pushed_first, pushed_more, pushed_halts, pushed_open, pushed_end, Reached, reached_first_halts, reached_first, reached_more, reached_halts, reached_open, reached_end}
 use Rattle.verilog_lex.specs.declared.token.Token.{Token}
 use Rattle.verilog_lex.specs.declared.marks.MarkKind.TheVariants.{ParenOpen, ParenClose, Comma, Hash}
 use Rattle.verilog_reading.specs.ExprTree.{ExprTree}
 use Rattle.verilog_reading.specs.ItemReader.{list, listed, then_done, maybe_range, setting, direction, maybe_wire, output, long_of, short_of, in_long, long_pdecl, pdecl, in_header, header, start, init, entry_of, in_adecl, behind_range, behind_direction, adecl, short_entry_of, entry, bare_name, old_of, ansi_of, without_ports, in_ports, ports}
-use Rattle.verilog_reading.specs.ItemReading.{Setting, Pdecl, range_from, params_from, has_start, Shape, Entry, shape_from, port_from, ports_from, first_shape, bare, Ports}
+use Rattle.verilog_reading.specs.ItemReading.{Setting, ParamForm, Pdecl, form_from, param_by, params_from, first_form, has_start, Shape, Entry, shape_from, port_from, ports_from, first_shape, bare, Ports}
 use Rattle.verilog_reading.specs.Lexemes.{Spot, mark_in, word_in, ident_in}
-use Rattle.verilog_reading.specs.Outcome.{Outcome, done, then_read, expect, refuse, peek}
+use Rattle.verilog_reading.specs.Outcome.{Outcome, done, then_read, next, expect, refuse, peek}
 use Rattle.verilog_reading.specs.SourceTree.{Bounds, ParamTree, DeclTree, param_of, port_of}
 use Rattle.verilog_reading.specs.StmtReader.{lower}
 use Rattle.verilog_reading.proofs.ItemLocal.{local_pdecl, local_entry, local_bare}
@@ -43,121 +44,106 @@ header_is n ts s inner t rest w v = next_takes (mark_in Hash) (in_header (lower 
 pub ruleset header_steps = (header_none, header_unopened, header_is)
 
 -- `pdecl`
-pub long_range_halts : (n : ℕ) (s : Spot) (ts : List Token) (h : Halt) → HaltsAs (maybe_range (lower n) ts) h → HaltsAs (in_long (lower n) s ts) h
-long_range_halts n s ts h x = halts_then (maybe_range (lower n) ts) (λ r. then_done (long_of r) (setting (lower n))) h x
+pub long_range_halts : (n : ℕ) (local : Bool) (ts : List Token) (h : Halt) → HaltsAs (maybe_range (lower n) ts) h → HaltsAs (in_long (lower n) local ts) h
+long_range_halts n local ts h x = halts_then (maybe_range (lower n) ts) (λ r. then_done (long_of local r) (setting (lower n))) h x
 
-long_is : (n : ℕ) (s : Spot) (ts : List Token) (r : Option Bounds) (mid : List Token) → maybe_range (lower n) ts ≡ done r mid → in_long (lower n) s ts ≡ then_read (setting (lower n) mid) (λ x. done (long_of r x))
-long_is n s ts r mid e = then_goes (maybe_range (lower n) ts) (λ r. then_done (long_of r) (setting (lower n))) r mid e
+long_is : (n : ℕ) (local : Bool) (ts : List Token) (r : Option Bounds) (mid : List Token) → maybe_range (lower n) ts ≡ done r mid → in_long (lower n) local ts ≡ then_read (setting (lower n) mid) (λ x. done (long_of local r x))
+long_is n local ts r mid e = then_goes (maybe_range (lower n) ts) (λ r. then_done (long_of local r) (setting (lower n))) r mid e
 
-pub long_setting_halts : (n : ℕ) (s : Spot) (ts : List Token) (r : Option Bounds) (mid : List Token) (h : Halt) → maybe_range (lower n) ts ≡ done r mid → HaltsAs (setting (lower n) mid) h → HaltsAs (in_long (lower n) s ts) h
-long_setting_halts n s ts r mid h e x = halts_by (in_long (lower n) s ts) (then_read (setting (lower n) mid) (λ x. done (long_of r x))) h (long_is n s ts r mid e) (halts_then (setting (lower n) mid) (λ x. done (long_of r x)) h x)
+pub long_setting_halts : (n : ℕ) (local : Bool) (ts : List Token) (r : Option Bounds) (mid : List Token) (h : Halt) → maybe_range (lower n) ts ≡ done r mid → HaltsAs (setting (lower n) mid) h → HaltsAs (in_long (lower n) local ts) h
+long_setting_halts n local ts r mid h e x = halts_by (in_long (lower n) local ts) (then_read (setting (lower n) mid) (λ x. done (long_of local r x))) h (long_is n local ts r mid e) (halts_then (setting (lower n) mid) (λ x. done (long_of local r x)) h x)
 
 param_put : (old new : List ParamDecl) (d : ParamDecl) (t : ParamTree) → new ≡ old ++ d ∷ [] → param_of d ≡ t → map param_of new ≡ map param_of old ++ t ∷ []
 param_put old new d t e q = ap (map param_of) e ∙ map_push param_of old d ∙ ap (λ z. map param_of old ++ z ∷ []) q
 
-pub long_read : (n : ℕ) (s : Spot) (before : Option Bounds) (ts : List Token) (r : Option Bounds) (mid rest : List Token) (old new : List ParamDecl) (d : ParamDecl) → maybe_range (lower n) ts ≡ done r mid
-    → (x : Setting) × (setting (lower n) mid ≡ done x rest) × (param_of d ≡ record { local = false; range = r; name = x.name; value = x.value }) → new ≡ old ++ d ∷ [] → PutsParam (in_long (lower n) s ts) before old new r rest
-long_read n s before ts r mid rest old new d e x q = (long_of r x.0, long_is n s ts r mid e ∙ then_goes (setting (lower n) mid) (λ x. done (long_of r x)) x.0 rest x.1, param_put old new d (param_by r (long_of r x.0)) q x.2, refl)
+-- for any form of the entry before it
+pub long_read : (n : ℕ) (local : Bool) (ts : List Token) (r : Option Bounds) (mid rest : List Token) (old new : List ParamDecl) (d : ParamDecl) (form : ParamForm) → maybe_range (lower n) ts ≡ done r mid
+    → (x : Setting) × (setting (lower n) mid ≡ done x rest) × (param_of d ≡ record { local = local; range = r; name = x.name; value = x.value }) → new ≡ old ++ d ∷ [] → form ≡ record { local = local; range = r }
+    → (before : ParamForm) → PutsParam (in_long (lower n) local ts) before old new form rest
+long_read n local ts r mid rest old new d form e x q f before = (
+  long_of local r x.0,
+  long_is n local ts r mid e ∙ then_goes (setting (lower n) mid) (λ x. done (long_of local r x)) x.0 rest x.1,
+  param_put old new d (param_by (record { local = local; range = r }) x.0) q x.2,
+  f,
+)
 
-pub long_setting_halts_at : (n : ℕ) (ts : List Token) (r : Option Bounds) (mid : List Token) (h : Halt) → maybe_range (lower n) ts ≡ done r mid → HaltsAs (setting (lower n) mid) h → (s : Spot) → HaltsAs (in_long (lower n) s ts) h
-long_setting_halts_at n ts r mid h e x s = long_setting_halts n s ts r mid h e x
+pub ruleset long_steps = (long_range_halts, long_setting_halts, long_read, halts_for_memory)
 
-pub long_range_halts_at : (n : ℕ) (ts : List Token) (h : Halt) → HaltsAs (maybe_range (lower n) ts) h → (s : Spot) → HaltsAs (in_long (lower n) s ts) h
-long_range_halts_at n ts h x s = long_range_halts n s ts h x
+pdecl_short : (n : ℕ) (ts : List Token) → NoParameter ts → pdecl (lower n) ts ≡ then_read (setting (lower n) ts) (λ x. done (short_of x))
+pdecl_short n ts w = next_lacks (word_in k.Parameter) (λ _. in_long (lower n) false) (next (word_in k.LocalParam) (λ _. in_long (lower n) true) (then_done short_of (setting (lower n)))) ts w.parameter
+    ∙ next_lacks (word_in k.LocalParam) (λ _. in_long (lower n) true) (then_done short_of (setting (lower n))) ts w.local
 
-pub long_memory_halts : (n : ℕ) (ts : List Token) (h : Halt) → h ≡ Memory → (s : Spot) → HaltsAs (in_long (lower n) s ts) h
-long_memory_halts n ts h e s = halts_for_memory (in_long (lower n) s ts) h e
-
-pub long_read_at : (n : ℕ) (ts : List Token) (r : Option Bounds) (mid rest : List Token) (old new : List ParamDecl) (d : ParamDecl) → maybe_range (lower n) ts ≡ done r mid
-    → (x : Setting) × (setting (lower n) mid ≡ done x rest) × (param_of d ≡ record { local = false; range = r; name = x.name; value = x.value }) → new ≡ old ++ d ∷ []
-    → (s : Spot) (before : Option Bounds) → PutsParam (in_long (lower n) s ts) before old new r rest
-long_read_at n ts r mid rest old new d e x q s before = long_read n s before ts r mid rest old new d e x q
-
-pub ruleset long_steps = (long_range_halts_at, long_setting_halts_at, long_read_at, long_memory_halts)
-
-pub pdecl_long : (n : ℕ) (ts : List Token) (s : Spot) (inner : List Token) → Takes (word_in k.Parameter) s ts inner → pdecl (lower n) ts ≡ in_long (lower n) s inner
-pdecl_long n ts s inner w = next_takes (word_in k.Parameter) (in_long (lower n)) (then_done short_of (setting (lower n))) s ts inner w
-
-pdecl_short : (n : ℕ) (ts : List Token) → Lacks (word_in k.Parameter) ts → pdecl (lower n) ts ≡ then_read (setting (lower n) ts) (λ x. done (short_of x))
-pdecl_short n ts w = next_lacks (word_in k.Parameter) (in_long (lower n)) (then_done short_of (setting (lower n))) ts w
-
-pub short_halts : (n : ℕ) (ts : List Token) (h : Halt) → Lacks (word_in k.Parameter) ts → HaltsAs (setting (lower n) ts) h → HaltsAs (pdecl (lower n) ts) h
+pub short_halts : (n : ℕ) (ts : List Token) (h : Halt) → NoParameter ts → HaltsAs (setting (lower n) ts) h → HaltsAs (pdecl (lower n) ts) h
 short_halts n ts h w x = halts_by (pdecl (lower n) ts) (then_read (setting (lower n) ts) (λ x. done (short_of x))) h (pdecl_short n ts w) (halts_then (setting (lower n) ts) (λ x. done (short_of x)) h x)
 
-pub short_read : (n : ℕ) (before : Option Bounds) (ts rest : List Token) (old new : List ParamDecl) (d : ParamDecl) → Lacks (word_in k.Parameter) ts
-    → (x : Setting) × (setting (lower n) ts ≡ done x rest) × (param_of d ≡ record { local = false; range = before; name = x.name; value = x.value }) → new ≡ old ++ d ∷ [] → PutsParam (pdecl (lower n) ts) before old new before rest
-short_read n before ts rest old new d w x q = (short_of x.0, pdecl_short n ts w ∙ then_goes (setting (lower n) ts) (λ x. done (short_of x)) x.0 rest x.1, param_put old new d (param_by before (short_of x.0)) q x.2, refl)
+pub short_read : (n : ℕ) (before : ParamForm) (ts rest : List Token) (old new : List ParamDecl) (d : ParamDecl) → NoParameter ts
+    → (x : Setting) × (setting (lower n) ts ≡ done x rest) × (param_of d ≡ record { local = before.local; range = before.range; name = x.name; value = x.value }) → new ≡ old ++ d ∷ [] → PutsParam (pdecl (lower n) ts) before old new before rest
+short_read n before ts rest old new d w x q = (short_of x.0, pdecl_short n ts w ∙ then_goes (setting (lower n) ts) (λ x. done (short_of x)) x.0 rest x.1, param_put old new d (param_by before x.0) q x.2, refl)
 
-pub long_put : (n : ℕ) (before : Option Bounds) (ts : List Token) (s : Spot) (inner : List Token) (old new : List ParamDecl) (after : Option Bounds) (rest : List Token) → Takes (word_in k.Parameter) s ts inner
-    → PutsParam (in_long (lower n) s inner) before old new after rest → PutsParam (pdecl (lower n) ts) before old new after rest
-long_put n before ts s inner old new after rest w x = (x.0, pdecl_long n ts s inner w ∙ x.1, x.2, x.3)
+pub long_put : (n : ℕ) (before : ParamForm) (ts : List Token) (local : Bool) (inner : List Token) (old new : List ParamDecl) (after : ParamForm) (rest : List Token) → GoesToLong pdecl local ts inner
+    → PutsParam (in_long (lower n) local inner) before old new after rest → PutsParam (pdecl (lower n) ts) before old new after rest
+long_put n before ts local inner old new after rest w x = (x.0, w (lower n) ∙ x.1, x.2, x.3)
 
-pub long_halts : (n : ℕ) (ts : List Token) (s : Spot) (inner : List Token) (h : Halt) → Takes (word_in k.Parameter) s ts inner → HaltsAs (in_long (lower n) s inner) h → HaltsAs (pdecl (lower n) ts) h
-long_halts n ts s inner h w x = halts_by (pdecl (lower n) ts) (in_long (lower n) s inner) h (pdecl_long n ts s inner w) x
-
-pub ruleset pdecl_steps = (long_put, long_halts, short_halts, short_read, halts_for_memory)
+pub long_halts : (n : ℕ) (ts : List Token) (local : Bool) (inner : List Token) (h : Halt) → GoesToLong pdecl local ts inner → HaltsAs (in_long (lower n) local inner) h → HaltsAs (pdecl (lower n) ts) h
+long_halts n ts local inner h w x = halts_by (pdecl (lower n) ts) (in_long (lower n) local inner) h (w (lower n)) x
 
 -- how far the parameters of a header are read
-pub record Params (n : ℕ) (start : List Token) (ps : List ParamDecl) (range : Option Bounds) (rest : List Token) : Type 0 where
+pub record Params (n : ℕ) (start : List Token) (ps : List ParamDecl) (form : ParamForm) (rest : List Token) : Type 0 where
   pub entries : List Pdecl
-  pub all : map param_of ps ≡ params_from None entries
-  pub range_is : range ≡ last_range None entries
+  pub all : map param_of ps ≡ params_from first_form entries
+  pub form_is : form ≡ last_form first_form entries
   pub lists : Reached (mark_in Comma) ParenClose (long_pdecl (lower n)) (pdecl (lower n)) (list (mark_in Comma) ParenClose (long_pdecl (lower n)) (pdecl (lower n)) start) entries rest
 
-params_push : (before : Option Bounds) (ls : List Pdecl) (a : Pdecl) → params_from before (ls ++ a ∷ []) ≡ params_from before ls ++ param_by (range_from (last_range before ls) a) a ∷ []
+params_push : (before : ParamForm) (ls : List Pdecl) (a : Pdecl) → params_from before (ls ++ a ∷ []) ≡ params_from before ls ++ param_by (form_from (last_form before ls) a.form) a.setting ∷ []
 params_push before [] a = refl
-params_push before (b ∷ bs) a = ap (λ z. param_by (range_from before b) b ∷ z) (params_push (range_from before b) bs a)
+params_push before (b ∷ bs) a = ap (λ z. param_by (form_from before b.form) b.setting ∷ z) (params_push (form_from before b.form) bs a)
 
-range_push : (before : Option Bounds) (ls : List Pdecl) (a : Pdecl) → last_range before (ls ++ a ∷ []) ≡ range_from (last_range before ls) a
-range_push before [] a = refl
-range_push before (b ∷ bs) a = range_push (range_from before b) bs a
+form_push : (before : ParamForm) (ls : List Pdecl) (a : Pdecl) → last_form before (ls ++ a ∷ []) ≡ form_from (last_form before ls) a.form
+form_push before [] a = refl
+form_push before (b ∷ bs) a = form_push (form_from before b.form) bs a
 
-pub params_word_halts : (n : ℕ) (ts : List Token) (h : Halt) → Lacks (word_in k.Parameter) ts → h ≡ Refused false (length ts) → HaltsAs (pdecls_at (lower n) ts) h
-params_word_halts n ts h w q = halts_then (list (mark_in Comma) ParenClose (long_pdecl (lower n)) (pdecl (lower n)) ts) (λ a. done (params_from None a)) h
-    (reached_first_halts (mark_in Comma) ParenClose (long_pdecl (lower n)) (pdecl (lower n)) ts h (expect_halts (word_in k.Parameter) (in_long (lower n)) ts h w q))
+pub params_word_halts : (n : ℕ) (ts : List Token) (h : Halt) → NoParameter ts → h ≡ Refused false (length ts) → HaltsAs (pdecls_at (lower n) ts) h
+params_word_halts n ts h w q = halts_then (list (mark_in Comma) ParenClose (long_pdecl (lower n)) (pdecl (lower n)) ts) (λ a. done (params_from first_form a)) h
+    (reached_first_halts (mark_in Comma) ParenClose (long_pdecl (lower n)) (pdecl (lower n)) ts h (halts_by (long_pdecl (lower n) ts) (expect (word_in k.LocalParam) (λ _. in_long (lower n) true) ts) h
+    (next_lacks (word_in k.Parameter) (λ _. in_long (lower n) false) (expect (word_in k.LocalParam) (λ _. in_long (lower n) true)) ts w.parameter) (expect_halts (word_in k.LocalParam) (λ _. in_long (lower n) true) ts h w.local q)))
 
-long_at : (n : ℕ) (ts : List Token) (s : Spot) (inner : List Token) → Takes (word_in k.Parameter) s ts inner → long_pdecl (lower n) ts ≡ in_long (lower n) s inner
-long_at n ts s inner w = next_takes (word_in k.Parameter) (in_long (lower n)) refuse s ts inner w
+pub params_first_halts : (n : ℕ) (ts : List Token) (local : Bool) (inner : List Token) (h : Halt) → GoesToLong long_pdecl local ts inner → HaltsAs (in_long (lower n) local inner) h → HaltsAs (pdecls_at (lower n) ts) h
+params_first_halts n ts local inner h w x = halts_then (list (mark_in Comma) ParenClose (long_pdecl (lower n)) (pdecl (lower n)) ts) (λ a. done (params_from first_form a)) h
+    (reached_first_halts (mark_in Comma) ParenClose (long_pdecl (lower n)) (pdecl (lower n)) ts h (halts_by (long_pdecl (lower n) ts) (in_long (lower n) local inner) h (w (lower n)) x))
 
-pub params_first_halts : (n : ℕ) (ts : List Token) (s : Spot) (inner : List Token) (h : Halt) → Takes (word_in k.Parameter) s ts inner → HaltsAs (in_long (lower n) s inner) h → HaltsAs (pdecls_at (lower n) ts) h
-params_first_halts n ts s inner h w x = halts_then (list (mark_in Comma) ParenClose (long_pdecl (lower n)) (pdecl (lower n)) ts) (λ a. done (params_from None a)) h
-    (reached_first_halts (mark_in Comma) ParenClose (long_pdecl (lower n)) (pdecl (lower n)) ts h (halts_by (long_pdecl (lower n) ts) (in_long (lower n) s inner) h (long_at n ts s inner w) x))
-
-pub params_first : (n : ℕ) (ts : List Token) (s : Spot) (inner rest : List Token) (old new : List ParamDecl) (range : Option Bounds) → Takes (word_in k.Parameter) s ts inner → old ≡ [] → PutsParam (in_long (lower n) s inner) None old new range rest
-    → Params n ts new range rest
-params_first n ts s inner rest old new range w e x = record {
+pub params_first : (n : ℕ) (ts : List Token) (local : Bool) (inner rest : List Token) (old new : List ParamDecl) (form : ParamForm) → GoesToLong long_pdecl local ts inner → old ≡ [] → PutsParam (in_long (lower n) local inner) first_form old new form rest
+    → Params n ts new form rest
+params_first n ts local inner rest old new form w e x = record {
   entries = x.0 ∷ [];
-  all = x.2 ∙ ap (λ z. map param_of z ++ param_by (range_from None x.0) x.0 ∷ []) e;
-  range_is = x.3;
-  lists = reached_first (mark_in Comma) ParenClose (long_pdecl (lower n)) (pdecl (lower n)) ts x.0 rest (long_at n ts s inner w ∙ x.1);
+  all = x.2 ∙ ap (λ z. map param_of z ++ param_by (form_from first_form x.0.form) x.0.setting ∷ []) e;
+  form_is = x.3;
+  lists = reached_first (mark_in Comma) ParenClose (long_pdecl (lower n)) (pdecl (lower n)) ts x.0 rest (w (lower n) ∙ x.1);
 }
 
-pub params_more : (n : ℕ) (begin : List Token) (xs ys : List ParamDecl) (range after_range : Option Bounds) (s : Spot) (ts after rest : List Token) → Params n begin xs range ts → Takes (mark_in Comma) s ts after
-    → PutsParam (pdecl (lower n) after) range xs ys after_range rest → Params n begin ys after_range rest
-params_more n begin xs ys range after_range s ts after rest g w x = record {
+pub params_more : (n : ℕ) (begin : List Token) (xs ys : List ParamDecl) (form after_form : ParamForm) (s : Spot) (ts after rest : List Token) → Params n begin xs form ts → Takes (mark_in Comma) s ts after
+    → PutsParam (pdecl (lower n) after) form xs ys after_form rest → Params n begin ys after_form rest
+params_more n begin xs ys form after_form s ts after rest g w x = record {
   entries = g.entries ++ x.0 ∷ [];
-  all = x.2 ∙ ap (λ z. z ++ param_by (range_from range x.0) x.0 ∷ []) g.all ∙ ap (λ z. params_from None g.entries ++ param_by (range_from z x.0) x.0 ∷ []) g.range_is ∙ sym (params_push None g.entries x.0);
-  range_is = x.3 ∙ ap (λ z. range_from z x.0) g.range_is ∙ sym (range_push None g.entries x.0);
+  all = x.2 ∙ ap (λ z. z ++ param_by (form_from form x.0.form) x.0.setting ∷ []) g.all ∙ ap (λ z. params_from first_form g.entries ++ param_by (form_from z x.0.form) x.0.setting ∷ []) g.form_is ∙ sym (params_push first_form g.entries x.0);
+  form_is = x.3 ∙ ap (λ z. form_from z x.0.form) g.form_is ∙ sym (form_push first_form g.entries x.0);
   lists = reached_more (mark_in Comma) ParenClose (long_pdecl (lower n)) (pdecl (lower n)) (local_pdecl (lower n) (local_lower n)) (list (mark_in Comma) ParenClose (long_pdecl (lower n)) (pdecl (lower n)) begin) g.entries s ts after x.0 rest
       g.lists w x.1;
 }
 
-pub params_stop : (n : ℕ) (begin : List Token) (xs : List ParamDecl) (range : Option Bounds) (s : Spot) (ts after : List Token) (h : Halt) → Params n begin xs range ts → Takes (mark_in Comma) s ts after → HaltsAs (pdecl (lower n) after) h
+pub params_stop : (n : ℕ) (begin : List Token) (xs : List ParamDecl) (form : ParamForm) (s : Spot) (ts after : List Token) (h : Halt) → Params n begin xs form ts → Takes (mark_in Comma) s ts after → HaltsAs (pdecl (lower n) after) h
     → HaltsAs (pdecls_at (lower n) begin) h
-params_stop n begin xs range s ts after h g w x = halts_then (list (mark_in Comma) ParenClose (long_pdecl (lower n)) (pdecl (lower n)) begin) (λ a. done (params_from None a)) h
+params_stop n begin xs form s ts after h g w x = halts_then (list (mark_in Comma) ParenClose (long_pdecl (lower n)) (pdecl (lower n)) begin) (λ a. done (params_from first_form a)) h
     (reached_halts (mark_in Comma) ParenClose (long_pdecl (lower n)) (pdecl (lower n)) (list (mark_in Comma) ParenClose (long_pdecl (lower n)) (pdecl (lower n)) begin) g.entries s ts after h g.lists w x)
 
-pub params_open : (n : ℕ) (begin : List Token) (xs : List ParamDecl) (range : Option Bounds) (ts : List Token) (h : Halt) → Params n begin xs range ts → Lacks (mark_in Comma) ts → Lacks (mark_in ParenClose) ts → h ≡ Refused false (length ts)
+pub params_open : (n : ℕ) (begin : List Token) (xs : List ParamDecl) (form : ParamForm) (ts : List Token) (h : Halt) → Params n begin xs form ts → Lacks (mark_in Comma) ts → Lacks (mark_in ParenClose) ts → h ≡ Refused false (length ts)
     → HaltsAs (pdecls_at (lower n) begin) h
-params_open n begin xs range ts h g v w q = halts_then (list (mark_in Comma) ParenClose (long_pdecl (lower n)) (pdecl (lower n)) begin) (λ a. done (params_from None a)) h
+params_open n begin xs form ts h g v w q = halts_then (list (mark_in Comma) ParenClose (long_pdecl (lower n)) (pdecl (lower n)) begin) (λ a. done (params_from first_form a)) h
     (reached_open (mark_in Comma) ParenClose (long_pdecl (lower n)) (pdecl (lower n)) (list (mark_in Comma) ParenClose (long_pdecl (lower n)) (pdecl (lower n)) begin) g.entries ts h g.lists v w q)
 
-pub params_end : (n : ℕ) (begin : List Token) (xs : List ParamDecl) (range : Option Bounds) (ts : List Token) (s : Spot) (rest : List Token) → Params n begin xs range ts → Lacks (mark_in Comma) ts → Takes (mark_in ParenClose) s ts rest
+pub params_end : (n : ℕ) (begin : List Token) (xs : List ParamDecl) (form : ParamForm) (ts : List Token) (s : Spot) (rest : List Token) → Params n begin xs form ts → Lacks (mark_in Comma) ts → Takes (mark_in ParenClose) s ts rest
     → pdecls_at (lower n) begin ≡ done (map param_of xs) rest
-params_end n begin xs range ts s rest g v w = then_goes (list (mark_in Comma) ParenClose (long_pdecl (lower n)) (pdecl (lower n)) begin) (λ a. done (params_from None a)) g.entries rest
+params_end n begin xs form ts s rest g v w = then_goes (list (mark_in Comma) ParenClose (long_pdecl (lower n)) (pdecl (lower n)) begin) (λ a. done (params_from first_form a)) g.entries rest
     (reached_end (mark_in Comma) ParenClose (long_pdecl (lower n)) (pdecl (lower n)) (list (mark_in Comma) ParenClose (long_pdecl (lower n)) (pdecl (lower n)) begin) g.entries ts s rest g.lists v w) ∙ ap (λ z. done z rest) (sym g.all)
-
-pub ruleset params_steps = (params_word_halts, params_first_halts, params_first, params_more, params_stop, params_open, params_end, halts_for_memory)
 
 -- `[ ( [ ports ] ) ]`
 pub ports_none : (n : ℕ) (ts : List Token) → Lacks (mark_in ParenOpen) ts → ports (lower n) ts ≡ done without_ports ts

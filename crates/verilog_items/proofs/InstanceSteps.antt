@@ -12,7 +12,7 @@ use Rattle.verilog_exprs.specs.Halts.{HaltsAs}
 use Rattle.verilog_exprs.specs.Next.{Takes, Lacks}
 use Rattle.verilog_exprs.proofs.Steps.{halts_then, halts_by, halts_for_memory, next_takes, next_lacks, peek_takes, peek_lacks, expect_halts}
 use Rattle.verilog_exprs.proofs.Steps.{then_done as then_goes}
-use Rattle.verilog_items.specs.Forms.{Puts, gates_at, instances_at, ordered_at, named_at}
+use Rattle.verilog_items.specs.Forms.{Puts, gate_list_at, gates_at, instances_at, ordered_at, named_at}
 use Rattle.verilog_items.proofs.PushSteps.{map_same, Pushed, pushed_first, pushed_more, pushed_halts, pushed_open, pushed_end, reached_first_halts}
 use Rattle.verilog_items.proofs.DeclSteps.{list_first_halts, list_halts, list_puts, puts_by}
 use Rattle.verilog_lex.specs.declared.token.Token.{Token}
@@ -20,7 +20,7 @@ use Rattle.verilog_lex.specs.declared.token.TokenKind.{TokenKind}
 use Rattle.verilog_lex.specs.declared.token.TokenKind.TheVariants.{Mark}
 use Rattle.verilog_lex.specs.declared.marks.MarkKind.TheVariants.{ParenOpen, ParenClose, Comma, Semicolon, Dot, Hash}
 use Rattle.verilog_reading.specs.ExprTree.{ExprTree, tree_of}
-use Rattle.verilog_reading.specs.ItemReader.{listed, list_more, then_done, value_end_of, value_end, value, conn_end, at_conn, in_dot, conn, as_ordered, in_conns, conns, overrides, place_at, placed, terminals, gate, gate_items, instance_items}
+use Rattle.verilog_reading.specs.ItemReader.{listed, list_more, then_done, value_end_of, value_end, value, conn_end, at_conn, in_dot, conn, as_ordered, in_conns, conns, overrides, place_at, placed, terminals, gate, maybe_delay, gate_items, instance_items}
 use Rattle.verilog_reading.specs.ItemReading.{Placed, entries, gate_item, instance_item, item_at}
 use Rattle.verilog_reading.specs.Lexemes.{Spot, spot_of, mark_in, mark_of, ident_in}
 use Rattle.verilog_reading.specs.Lists.{more}
@@ -91,33 +91,38 @@ pub ruleset gate_steps = (gate_unopened, gate_terminals_halt, gate_open, gate_re
 abbrev pub GatesOn : ℕ → Place → GateKind → List Token → List Item → List Item → List Token → Type 0
 GatesOn n p kind start old new rest = Pushed item_of (gate_item p kind) (mark_in Comma) Semicolon (gate (lower n)) (gate (lower n)) (listed Semicolon (gate (lower n)) start) old new rest
 
-pub gates_first_halts : (n : ℕ) (p : Place) (kind : GateKind) (ts : List Token) (h : Halt) → HaltsAs (gate (lower n) ts) h → HaltsAs (gates_at (lower n) p kind ts) h
-gates_first_halts n p kind ts h x = list_first_halts (gate (lower n)) (gate_items p kind) ts h x
+pub gate_list_first_halts : (n : ℕ) (p : Place) (kind : GateKind) (ts : List Token) (h : Halt) → HaltsAs (gate (lower n) ts) h → HaltsAs (gate_list_at (lower n) p kind ts) h
+gate_list_first_halts n p kind ts h x = list_first_halts (gate (lower n)) (gate_items p kind) ts h x
 
-pub gates_first : (n : ℕ) (p : Place) (kind : GateKind) (ts rest : List Token) (old new : List Item) → (x : List ExprTree) × (gate (lower n) ts ≡ done x rest) × (map item_of new ≡ map item_of old ++ gate_item p kind x ∷ []) → GatesOn n p kind ts old new rest
-gates_first n p kind ts rest old new x = pushed_first item_of (gate_item p kind) (mark_in Comma) Semicolon (gate (lower n)) (gate (lower n)) ts x.0 rest old new x.1 x.2
+pub gate_list_first : (n : ℕ) (p : Place) (kind : GateKind) (ts rest : List Token) (old new : List Item) → (x : List ExprTree) × (gate (lower n) ts ≡ done x rest) × (map item_of new ≡ map item_of old ++ gate_item p kind x ∷ []) → GatesOn n p kind ts old new rest
+gate_list_first n p kind ts rest old new x = pushed_first item_of (gate_item p kind) (mark_in Comma) Semicolon (gate (lower n)) (gate (lower n)) ts x.0 rest old new x.1 x.2
 
-pub gates_more : (n : ℕ) (p : Place) (kind : GateKind) (begin : List Token) (old xs ys : List Item) (s : Spot) (ts after rest : List Token) → GatesOn n p kind begin old xs ts → Takes (mark_in Comma) s ts after
+pub gate_list_more : (n : ℕ) (p : Place) (kind : GateKind) (begin : List Token) (old xs ys : List Item) (s : Spot) (ts after rest : List Token) → GatesOn n p kind begin old xs ts → Takes (mark_in Comma) s ts after
     → (x : List ExprTree) × (gate (lower n) after ≡ done x rest) × (map item_of ys ≡ map item_of xs ++ gate_item p kind x ∷ []) → GatesOn n p kind begin old ys rest
-gates_more n p kind begin old xs ys s ts after rest g w x = pushed_more item_of (gate_item p kind) (mark_in Comma) Semicolon (gate (lower n)) (gate (lower n)) (local_gate (lower n) (local_lower n)) (listed Semicolon (gate (lower n)) begin)
+gate_list_more n p kind begin old xs ys s ts after rest g w x = pushed_more item_of (gate_item p kind) (mark_in Comma) Semicolon (gate (lower n)) (gate (lower n)) (local_gate (lower n) (local_lower n)) (listed Semicolon (gate (lower n)) begin)
     old xs ys s ts after x.0 rest g w x.1 x.2
 
-pub gates_stop : (n : ℕ) (p : Place) (kind : GateKind) (begin : List Token) (old xs : List Item) (s : Spot) (ts after : List Token) (h : Halt) → GatesOn n p kind begin old xs ts → Takes (mark_in Comma) s ts after → HaltsAs (gate (lower n) after) h
-    → HaltsAs (gates_at (lower n) p kind begin) h
-gates_stop n p kind begin old xs s ts after h g w x = list_halts (gate (lower n)) (gate_items p kind) begin h
+pub gate_list_stop : (n : ℕ) (p : Place) (kind : GateKind) (begin : List Token) (old xs : List Item) (s : Spot) (ts after : List Token) (h : Halt) → GatesOn n p kind begin old xs ts → Takes (mark_in Comma) s ts after → HaltsAs (gate (lower n) after) h
+    → HaltsAs (gate_list_at (lower n) p kind begin) h
+gate_list_stop n p kind begin old xs s ts after h g w x = list_halts (gate (lower n)) (gate_items p kind) begin h
     (pushed_halts item_of (gate_item p kind) (mark_in Comma) Semicolon (gate (lower n)) (gate (lower n)) (listed Semicolon (gate (lower n)) begin) old xs s ts after h g w x)
 
-pub gates_open : (n : ℕ) (p : Place) (kind : GateKind) (begin : List Token) (old xs : List Item) (ts : List Token) (h : Halt) → GatesOn n p kind begin old xs ts → Lacks (mark_in Comma) ts → Lacks (mark_in Semicolon) ts
-    → h ≡ Refused false (length ts) → HaltsAs (gates_at (lower n) p kind begin) h
-gates_open n p kind begin old xs ts h g v w q = list_halts (gate (lower n)) (gate_items p kind) begin h
+pub gate_list_open : (n : ℕ) (p : Place) (kind : GateKind) (begin : List Token) (old xs : List Item) (ts : List Token) (h : Halt) → GatesOn n p kind begin old xs ts → Lacks (mark_in Comma) ts → Lacks (mark_in Semicolon) ts
+    → h ≡ Refused false (length ts) → HaltsAs (gate_list_at (lower n) p kind begin) h
+gate_list_open n p kind begin old xs ts h g v w q = list_halts (gate (lower n)) (gate_items p kind) begin h
     (pushed_open item_of (gate_item p kind) (mark_in Comma) Semicolon (gate (lower n)) (gate (lower n)) (listed Semicolon (gate (lower n)) begin) old xs ts h g v w q)
 
-pub gates_end : (n : ℕ) (p : Place) (kind : GateKind) (begin : List Token) (old xs : List Item) (ts : List Token) (s : Spot) (rest : List Token) → GatesOn n p kind begin old xs ts → Lacks (mark_in Comma) ts → Takes (mark_in Semicolon) s ts rest
-    → Puts (gates_at (lower n) p kind begin) old xs rest
-gates_end n p kind begin old xs ts s rest g v w = list_puts (gate (lower n)) (gate_item p kind) begin old xs rest
+pub gate_list_end : (n : ℕ) (p : Place) (kind : GateKind) (begin : List Token) (old xs : List Item) (ts : List Token) (s : Spot) (rest : List Token) → GatesOn n p kind begin old xs ts → Lacks (mark_in Comma) ts → Takes (mark_in Semicolon) s ts rest
+    → Puts (gate_list_at (lower n) p kind begin) old xs rest
+gate_list_end n p kind begin old xs ts s rest g v w = list_puts (gate (lower n)) (gate_item p kind) begin old xs rest
     (pushed_end item_of (gate_item p kind) (mark_in Comma) Semicolon (gate (lower n)) (gate (lower n)) (listed Semicolon (gate (lower n)) begin) old xs ts s rest g v w)
 
-pub ruleset gates_steps = (gates_first_halts, gates_first, gates_more, gates_stop, gates_open, gates_end)
+-- behind their delay
+pub gates_delay_halts : (n : ℕ) (p : Place) (kind : GateKind) (ts : List Token) (h : Halt) → HaltsAs (maybe_delay ts) h → HaltsAs (gates_at (lower n) p kind ts) h
+gates_delay_halts n p kind ts h x = halts_then (maybe_delay ts) (λ _. gate_list_at (lower n) p kind) h x
+
+pub gates_are : (n : ℕ) (p : Place) (kind : GateKind) (ts rest : List Token) → maybe_delay ts ≡ done tt rest → gates_at (lower n) p kind ts ≡ gate_list_at (lower n) p kind rest
+gates_are n p kind ts rest e = then_goes (maybe_delay ts) (λ _. gate_list_at (lower n) p kind) tt rest e
 
 -- `[expr]` in a list of connections
 pub comma_ends : (s : Spot) (ts rest : List Token) → Takes (mark_in Comma) s ts rest → Takes value_end tt ts rest

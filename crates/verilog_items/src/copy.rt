@@ -16,11 +16,7 @@ pub fn copy_expr(alloc: Global, expr: &Expr) -> Result<Expr, NoMemory>
     ensures { IfOk result (λ e. tree_of e ≡ tree_of expr.now) }
 {
     match expr {
-        Expr::Number {
-            value,
-            width,
-            plain,
-        } => Ok(make_number(*value, *width, *plain)),
+        Expr::Number { value, width, size } => Ok(make_number(*value, *width, *size)),
         Expr::Ident(name) => Ok(make_name(name.copy(alloc)?)),
         Expr::At { name, index } => {
             let index = copy_expr(alloc, index)?;

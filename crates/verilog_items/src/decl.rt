@@ -4,7 +4,7 @@ ghost use Rattle.cdc_base.specs.declared.words.Keyword.TheVariants as k;
 ghost use Rattle.verilog_ast.specs.declared.DeclKind.{DeclKind};
 ghost use Rattle.verilog_exprs.specs.Halts.{HaltsAs};
 ghost use Rattle.verilog_exprs.specs.Next.{Lacks};
-ghost use Rattle.verilog_items.specs.Forms.{place_at, Puts, NoDirection, NoKind, NoParameter, params_at, assigns_at};
+ghost use Rattle.verilog_items.specs.Forms.{place_at, Puts, NoDirection, NoKind, NoParameter, vars_at, params_at, drives_at, assigns_at};
 ghost use Rattle.verilog_reading.specs.ExprTree.{tree_of};
 ghost use Rattle.verilog_reading.specs.ItemReader as reader;
 ghost use Rattle.verilog_reading.specs.ItemReading.{Var, Setting, Driven};
@@ -15,6 +15,7 @@ ghost use Rattle.verilog_reading.specs.SourceTree.{maybe, bounds_of, param_of, i
 ghost use Rattle.verilog_reading.specs.StmtReader.{Lower, lower};
 
 use crate::copy::copy_range;
+use crate::delay::{past_delay, past_delay_of};
 use crate::make::{assign_item, decl_item, make_decl, make_param, make_range, param_item};
 use cdc_base::limits::MAX_DEPTH;
 use cdc_base::{List, Place};
@@ -136,9 +137,26 @@ pub fn read_decls<'a>(
     ensures shorter { IfOk result (λ rest. length rest.now < length tokens.now) }
 {
     let range = read_range(alloc, tokens)?;
-    let mut rest = read_var(alloc, items, place, kind, &range.item, range.rest)?;
+    let rest = past_delay_of(kind, range.rest)?;
+    read_vars(alloc, items, place, kind, &range.item, rest)
+}
+
+/// `var { , var } ;`
+fn read_vars<'a>(
+    alloc: Global,
+    items: &mut List<Item>,
+    place: Place,
+    kind: DeclKind,
+    range: &Option<Range>,
+    tokens: &'a [Token],
+) -> Result<&'a [Token], Halt>
+    ensures read { IfOk result (λ rest. Puts (vars_at (lower 255) place kind (maybe bounds_of range.now) tokens.now) items.old items.new rest.now) }
+    ensures halts { IfErr result (λ h. HaltsAs (vars_at (lower 255) place kind (maybe bounds_of range.now) tokens.now) h) }
+    ensures shorter { IfOk result (λ rest. length rest.now < length tokens.now) }
+{
+    let mut rest = read_var(alloc, items, place, kind, range, tokens)?;
     while let Some(after) = after_mark(rest, MarkKind::Comma) {
-        rest = read_var(alloc, items, place, kind, &range.item, after)?;
+        rest = read_var(alloc, items, place, kind, range, after)?;
     }
     let rest = past_mark(rest, MarkKind::Semicolon)?;
     Ok(rest)
@@ -170,6 +188,8 @@ fn read_var<'a>(
 /// Whether `localparam` or `parameter` stands next, and the tokens behind it.
 #[tactic(auto, using(crate::proofs::DeclSteps::parameter_steps))]
 pub fn after_parameter(tokens: &[Token]) -> Option<(bool, &[Token])>
+    ensures first { IfSome result (λ p. (l : Lower) → reader.long_pdecl l tokens.now ≡ reader.in_long l p.0 p.1.now) }
+    ensures entry { IfSome result (λ p. (l : Lower) → reader.pdecl l tokens.now ≡ reader.in_long l p.0 p.1.now) }
     ensures item { IfSome result (λ p. NoKind tokens.now → (l : Lower) → reader.item l tokens.now ≡ params_at l p.0 (place_at tokens.now) p.1.now) }
     ensures free { IfNone result (NoParameter tokens.now) }
     ensures shorter { IfSome result (λ p. length p.1.now < length tokens.now) }
@@ -251,6 +271,21 @@ pub fn read_assigns<'a>(
 ) -> Result<&'a [Token], Halt>
     ensures read { IfOk result (λ rest. Puts (assigns_at (lower 255) place tokens.now) items.old items.new rest.now) }
     ensures halts { IfErr result (λ h. HaltsAs (assigns_at (lower 255) place tokens.now) h) }
+    ensures shorter { IfOk result (λ rest. length rest.now < length tokens.now) }
+{
+    let rest = past_delay(tokens)?;
+    read_drives(alloc, items, place, rest)
+}
+
+/// `target = expr { , target = expr } ;`
+fn read_drives<'a>(
+    alloc: Global,
+    items: &mut List<Item>,
+    place: Place,
+    tokens: &'a [Token],
+) -> Result<&'a [Token], Halt>
+    ensures read { IfOk result (λ rest. Puts (drives_at (lower 255) place tokens.now) items.old items.new rest.now) }
+    ensures halts { IfErr result (λ h. HaltsAs (drives_at (lower 255) place tokens.now) h) }
     ensures shorter { IfOk result (λ rest. length rest.now < length tokens.now) }
 {
     let mut rest = read_assign(alloc, items, place, tokens)?;

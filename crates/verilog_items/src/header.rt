@@ -1,26 +1,23 @@
 //! The header of a module: its parameters and its ports.
-ghost use Rattle.std.specs.Prelude.{ℕ, List, [], ◌∷◌, ◌++◌, ◌≡◌, ◌≤◌, ◌<◌, map, length, Option, IfOk, IfErr};
+ghost use Rattle.std.specs.Prelude.{ℕ, List, [], ◌∷◌, ◌++◌, ◌≡◌, ◌≤◌, ◌<◌, map, length, IfOk, IfErr};
 ghost use Rattle.verilog_exprs.specs.Halts.{HaltsAs};
-ghost use Rattle.verilog_items.specs.Forms.{pdecls_at, names_at, adecls_at, PutsParam, PutsPort, shape_of, header_ports, port_at};
+ghost use Rattle.verilog_items.specs.Forms.{pdecls_at, names_at, adecls_at, PutsParam, PutsPort, form_of, shape_of, header_ports, port_at};
 ghost use Rattle.verilog_reading.specs.ExprTree.{tree_of};
 ghost use Rattle.verilog_reading.specs.ItemReader as reader;
 ghost use Rattle.verilog_reading.specs.ItemReading as reading;
-ghost use Rattle.verilog_reading.specs.Lexemes.{Spot};
 ghost use Rattle.verilog_reading.specs.Outcome.{done};
-ghost use Rattle.verilog_reading.specs.SourceTree.{Bounds, maybe, bounds_of, param_of, port_of};
+ghost use Rattle.verilog_reading.specs.SourceTree.{maybe, bounds_of, param_of, port_of};
 ghost use Rattle.verilog_reading.specs.StmtReader.{lower};
 
 use crate::copy::copy_range;
-use crate::decl::{after_direction, read_init, read_param, read_range};
+use crate::decl::{after_direction, after_parameter, read_init, read_param, read_range};
 use crate::make::{make_decl, make_port};
 use cdc_base::{List, Name, NoMemory};
 use std::alloc::Global;
 use verilog_ast::{DeclKind, Expr, ParamDecl, Port, Range};
 use verilog_exprs::halt::{Halt, refused};
-use verilog_exprs::tokens::{
-    Read, after_ident, after_mark, after_word, past_ident, past_mark, past_word,
-};
-use verilog_lex::{Keyword, MarkKind, Token};
+use verilog_exprs::tokens::{Read, after_ident, after_mark, past_ident, past_mark};
+use verilog_lex::{MarkKind, Token};
 
 /// The ports of a header, and whether it declares them.
 #[derive(Drop)]
@@ -29,7 +26,14 @@ pub struct Ports {
     pub list: List<Port>,
 }
 
-/// What a short entry of a header takes from the entry before it.
+/// What a short parameter of a header takes from the one before it.
+#[derive(Drop)]
+pub struct ParamForm {
+    pub local: bool,
+    pub range: Option<Range>,
+}
+
+/// What a short port of a header takes from the one before it.
 #[derive(Drop)]
 pub struct Shape {
     pub kind: DeclKind,
@@ -61,36 +65,38 @@ fn read_pdecls<'a>(alloc: Global, tokens: &'a [Token]) -> Result<Read<'a, List<P
     ensures halts { IfErr result (λ h. HaltsAs (pdecls_at (lower 255) tokens.now) h) }
     ensures shorter { IfOk result (λ r. length r.rest.now < length tokens.now) }
 {
-    let inner = past_word(tokens, Keyword::Parameter)?;
+    let Some((local, inner)) = after_parameter(tokens) else {
+        return Err(refused(tokens, false));
+    };
     let mut params = List::new(alloc);
-    let first = read_long(alloc, &mut params, inner)?;
-    let mut range = first.item;
+    let first = read_long(alloc, &mut params, local, inner)?;
+    let mut form = first.item;
     let mut rest = first.rest;
     while let Some(after) = after_mark(rest, MarkKind::Comma) {
-        let next = read_pdecl(alloc, &mut params, range, after)?;
-        range = next.item;
+        let next = read_pdecl(alloc, &mut params, form, after)?;
+        form = next.item;
         rest = next.rest;
     }
     let rest = past_mark(rest, MarkKind::ParenClose)?;
     Ok(Read { item: params, rest })
 }
 
-/// `pdecl`, which has the range of the entry before it where it is short. Its own range is for the next entry.
+/// `pdecl`, which has the word and range of the entry before it where it is short. Its own are for the next entry.
 fn read_pdecl<'a>(
     alloc: Global,
     params: &mut List<ParamDecl>,
-    before: Option<Range>,
+    before: ParamForm,
     tokens: &'a [Token],
-) -> Result<Read<'a, Option<Range>>, Halt>
-    ensures read { IfOk result (λ r. PutsParam (reader.pdecl (lower 255) tokens.now) (maybe bounds_of before) params.old params.new (maybe bounds_of r.item) r.rest.now) }
+) -> Result<Read<'a, ParamForm>, Halt>
+    ensures read { IfOk result (λ r. PutsParam (reader.pdecl (lower 255) tokens.now) (form_of before) params.old params.new (form_of r.item) r.rest.now) }
     ensures halts { IfErr result (λ h. HaltsAs (reader.pdecl (lower 255) tokens.now) h) }
     ensures shorter { IfOk result (λ r. length r.rest.now < length tokens.now) }
 {
-    if let Some(inner) = after_word(tokens, Keyword::Parameter) {
-        let long = read_long(alloc, params, inner)?;
+    if let Some((local, inner)) = after_parameter(tokens) {
+        let long = read_long(alloc, params, local, inner)?;
         return Ok(long);
     }
-    let param = read_param(alloc, false, &before, tokens)?;
+    let param = read_param(alloc, before.local, &before.range, tokens)?;
     params.push(param.item)?;
     Ok(Read {
         item: before,
@@ -98,23 +104,30 @@ fn read_pdecl<'a>(
     })
 }
 
-/// `[range] id = expr` behind `parameter`
+/// `[range] id = expr` behind `parameter` or `localparam`
 fn read_long<'a>(
     alloc: Global,
     params: &mut List<ParamDecl>,
+    local: bool,
     tokens: &'a [Token],
-) -> Result<Read<'a, Option<Range>>, Halt>
-    ensures read { IfOk result (λ r. (s : Spot) (before : Option Bounds) → PutsParam (reader.in_long (lower 255) s tokens.now) before params.old params.new (maybe bounds_of r.item) r.rest.now) }
-    ensures halts { IfErr result (λ h. (s : Spot) → HaltsAs (reader.in_long (lower 255) s tokens.now) h) }
+) -> Result<Read<'a, ParamForm>, Halt>
+    ensures read { IfOk result (λ r. (before : reading.ParamForm) → PutsParam (reader.in_long (lower 255) local tokens.now) before params.old params.new (form_of r.item) r.rest.now) }
+    ensures halts { IfErr result (λ h. HaltsAs (reader.in_long (lower 255) local tokens.now) h) }
     ensures shorter { IfOk result (λ r. length r.rest.now < length tokens.now) }
 {
     let range = read_range(alloc, tokens)?;
-    let param = read_param(alloc, false, &range.item, range.rest)?;
+    let param = read_param(alloc, local, &range.item, range.rest)?;
     params.push(param.item)?;
     Ok(Read {
-        item: range.item,
+        item: make_form(local, range.item),
         rest: param.rest,
     })
+}
+
+fn make_form(local: bool, range: Option<Range>) -> ParamForm
+    ensures { form_of result ≡ record { local = local; range = maybe bounds_of range } }
+{
+    ParamForm { local, range }
 }
 
 /// `[ ( [ ports ] ) ]`. The first entry tells the style.

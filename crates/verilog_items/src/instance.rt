@@ -4,7 +4,7 @@ ghost use Rattle.cdc_base.specs.declared.words.Keyword.{Keyword};
 ghost use Rattle.verilog_ast.specs.declared.GateKind.{GateKind};
 ghost use Rattle.verilog_exprs.specs.Halts.{HaltsAs};
 ghost use Rattle.verilog_exprs.specs.Next.{Takes, Lacks};
-ghost use Rattle.verilog_items.specs.Forms.{Puts, gates_at, instances_at, ordered_at, named_at};
+ghost use Rattle.verilog_items.specs.Forms.{Puts, gate_list_at, gates_at, instances_at, ordered_at, named_at};
 ghost use Rattle.verilog_lex.specs.declared.token.Token.{Token};
 ghost use Rattle.verilog_reading.specs.ExprTree.{ExprTree, tree_of};
 ghost use Rattle.verilog_reading.specs.ItemReader as reader;
@@ -16,6 +16,7 @@ ghost use Rattle.verilog_reading.specs.SourceTree.{maybe, conn_of, conns_of, ite
 ghost use Rattle.verilog_reading.specs.StmtReader.{Lower, lower};
 
 use crate::copy::copy_conns;
+use crate::delay::past_delay;
 use crate::make::{gate_item, instance_item, make_conn, named_conns, ordered_conns};
 use cdc_base::limits::MAX_DEPTH;
 use cdc_base::{List, Name, Place};
@@ -68,6 +69,22 @@ pub fn read_gates<'a>(
 ) -> Result<&'a [Token], Halt>
     ensures read { IfOk result (λ rest. Puts (gates_at (lower 255) place kind tokens.now) items.old items.new rest.now) }
     ensures halts { IfErr result (λ h. HaltsAs (gates_at (lower 255) place kind tokens.now) h) }
+    ensures shorter { IfOk result (λ rest. length rest.now < length tokens.now) }
+{
+    let rest = past_delay(tokens)?;
+    read_gate_list(alloc, items, place, kind, rest)
+}
+
+/// `[id] ( terminals ) { , [id] ( terminals ) } ;`
+fn read_gate_list<'a>(
+    alloc: Global,
+    items: &mut List<Item>,
+    place: Place,
+    kind: GateKind,
+    tokens: &'a [Token],
+) -> Result<&'a [Token], Halt>
+    ensures read { IfOk result (λ rest. Puts (gate_list_at (lower 255) place kind tokens.now) items.old items.new rest.now) }
+    ensures halts { IfErr result (λ h. HaltsAs (gate_list_at (lower 255) place kind tokens.now) h) }
     ensures shorter { IfOk result (λ rest. length rest.now < length tokens.now) }
 {
     let mut rest = read_gate(alloc, items, place, kind, tokens)?;

@@ -3,6 +3,7 @@
 
 pub mod copy;
 pub mod decl;
+pub mod delay;
 pub mod header;
 pub mod instance;
 pub mod make;

@@ -1,20 +1,20 @@
-use Rattle.std.proofs.Common.{None, arith, rules}
+use Rattle.std.proofs.Common.{arith, rules}
 use Rattle.std.proofs.lemmas.Result.{err_from_is_err_and}
+use Rattle.verilog_reading.specs.ItemReading.{first_form}
 use Rattle.verilog_items.proofs.HeaderSteps as Steps
 use Rattle.verilog_items.proofs.header.read_pdecls.Goals as goal
 
-pub returns-in_err-inner-clause-halts : goal.returns-in_err-inner-clause-halts
-returns-in_err-inner-clause-halts c = let p = err_from_is_err_and c.from_residual.result c.from_residual.ensures.1 in
-    rw (p.1, p.2) (Steps.params_word_halts 255 c.args.tokens.now _ c.in_err-inner.ensures.free c.in_err-inner.ensures.refused)
+pub returns-in_default-clause-halts : goal.returns-in_default-clause-halts
+returns-in_default-clause-halts c = Steps.params_word_halts 255 c.args.tokens.now _ c.in_default.ensures.free c.refused.ensures
 
 pub returns-in_err-first-clause-halts : goal.returns-in_err-first-clause-halts
-returns-in_err-first-clause-halts c = let p = err_from_is_err_and c.from_residual-in_err-first.result c.from_residual-in_err-first.ensures.1 in
-    rw (p.1, p.2) (Steps.params_first_halts 255 c.args.tokens.now _ _ _ c.in_ok-inner.ensures.found.1 (c.in_err-first.ensures.halts c.in_ok-inner.ensures.found.0))
+returns-in_err-first-clause-halts c = let p = err_from_is_err_and c.from_residual.result c.from_residual.ensures.1 in
+    rw (p.1, p.2) (Steps.params_first_halts 255 c.args.tokens.now _ _ _ c.in-Some.ensures.first c.in_err-first.ensures.halts)
 
 pub loop-after-init : goal.loop-after-init
 loop-after-init c = record {
-  lists = Steps.params_first 255 c.args.tokens.now _ _ _ _ _ _ c.in_ok-inner.ensures.found.1 (search rules) (c.in_ok-first.ensures.read c.in_ok-inner.ensures.found.0 None);
-  shorter = omega (arith, c.in_ok-first.ensures.shorter, c.in_ok-inner.ensures.shorter);
+  lists = Steps.params_first 255 c.args.tokens.now _ _ _ _ _ _ c.in-Some.ensures.first (search rules) (c.in_ok-first.ensures.read first_form);
+  shorter = omega (arith, c.in_ok-first.ensures.shorter, c.in-Some.ensures.shorter);
 }
 
 pub returns-in_err-next-clause-halts : goal.returns-in_err-next-clause-halts

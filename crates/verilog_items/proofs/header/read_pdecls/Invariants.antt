@@ -1,11 +1,11 @@
 use Rattle.std.proofs.Common.{◌<◌, length}
-use Rattle.verilog_reading.specs.SourceTree.{maybe, bounds_of}
+use Rattle.verilog_items.specs.Forms.{form_of}
 use Rattle.verilog_items.proofs.HeaderSteps.{Params}
 use Rattle.verilog_items.proofs.header.read_pdecls.Given as goal
 
 abbrev pub invariant-loop-after : goal.invariant-loop-after
 invariant-loop-after l = record {
-  lists : Params 255 l.tokens l.params (maybe bounds_of l.range) l.rest;
+  lists : Params 255 l.tokens l.params (form_of l.form) l.rest;
   shorter : length l.rest < length l.tokens;
 }
 

@@ -1,6 +1,6 @@
 use Rattle.std.proofs.Common.{◌<◌, length}
 use Rattle.verilog_items.proofs.DeclSteps.{AssignsOn}
-use Rattle.verilog_items.proofs.decl.read_assigns.Given as goal
+use Rattle.verilog_items.proofs.decl.read_drives.Given as goal
 
 abbrev pub invariant-loop-after : goal.invariant-loop-after
 invariant-loop-after l = record {

@@ -1,11 +1,10 @@
 use Rattle.std.proofs.Common.{◌<◌, length}
-use Rattle.verilog_reading.specs.SourceTree.{maybe, bounds_of}
-use Rattle.verilog_items.proofs.DeclSteps.{DeclsOn}
-use Rattle.verilog_items.proofs.decl.read_decls.Given as goal
+use Rattle.verilog_items.proofs.InstanceSteps.{GatesOn}
+use Rattle.verilog_items.proofs.instance.read_gate_list.Given as goal
 
 abbrev pub invariant-loop-after : goal.invariant-loop-after
 invariant-loop-after l = record {
-  lists : DeclsOn 255 l.place l.kind (maybe bounds_of l.range.item) l.range.rest.now l.fn.items l.items l.rest;
+  lists : GatesOn 255 l.place l.kind l.tokens l.fn.items l.items l.rest;
   shorter : length l.rest < length l.tokens;
 }
 
