@@ -1,5 +1,5 @@
 -- Signals and memories that are added, as the definition adds them.
-use Rattle.std.proofs.Common.{◌≡◌, ℕ, suc, ◌+◌, ◌^◌, ◌<◌, ◌≤◌, Bool, true, false, cond, not, ◌&&◌, ◌==◌, nat_lt, List, [], ◌∷◌, ◌++◌, length, map, Option, Some, None, Result, Ok, Err, sym, ap, ap₂, subst, ◌∙◌, arith, rules, lt-ltb, ltb-true}
+use Rattle.std.proofs.Common.{◌≡◌, ℕ, suc, ◌+◌, ◌<◌, ◌≤◌, Bool, true, false, cond, not, ◌&&◌, ◌==◌, nat_lt, List, [], ◌∷◌, ◌++◌, length, map, Option, Some, None, Result, Ok, Err, sym, ap, ap₂, subst, ◌∙◌, arith, rules, lt-ltb, ltb-true}
 use Rattle.std.specs.Cmp.Lexicographic.{pointwise}
 use Rattle.std.proofs.lemmas.List.{map-append, length-map, length-append, append_assoc}
 use Rattle.indexmap.specs.IndexMap.{IndexMap}
@@ -7,16 +7,12 @@ use Rattle.cdc_base.specs.declared.signal.ResetPin.{ResetPin}
 use Rattle.cdc_base.specs.declared.fault.Fault.{Fault}
 use Rattle.cdc_base.specs.declared.fault.Stop.{Stop}
 use Rattle.cdc_base.specs.declared.fault.Stop.TheVariants.{Refused, Memory}
-use denote.Enum.Bare.{sameb}
-use Rattle.verilog_ast.specs.contracts.DeclKind.{the_type}
-use Rattle.verilog_ast.specs.declared.DeclKind.{DeclKind}
-use Rattle.verilog_ast.specs.declared.DeclKind.TheVariants as k
 use Rattle.verilog_reading.specs.SourceTree.{DeclTree}
 use Rattle.flat_unfolding.specs.Outcome.{Text, good, bad, then_, refused_if}
 use Rattle.flat_unfolding.specs.Names as n
-use Rattle.flat_unfolding.specs.Names.{Range, a_signal, a_memory, is_declared, word_name}
+use Rattle.flat_unfolding.specs.Names.{Range, a_signal, a_memory, no_value, is_declared, word_name}
 use Rattle.flat_unfolding.specs.Memories.{word_names, taken}
-use Rattle.flat_unfolding.specs.Declarations.{Site, is_plain_output, entry, added, numbered, add_signal, add_memory}
+use Rattle.flat_unfolding.specs.Declarations.{Site, is_plain_port, entry, added, taken_names, add_signal, add_memory}
 use Rattle.flat_unfolding.specs.Design as u
 use Rattle.flat_unfolding.specs.Design.{Stage}
 use Rattle.flat_names.specs.declared.scope.Memory as kept
@@ -28,7 +24,7 @@ use Rattle.flat_names.specs.Looks.{kept_in}
 use Rattle.flat_names.specs.Designs.{ShowsNames, ShowsDesign, ShowsStage, Meets}
 use Rattle.flat_names.proofs.Selected.{lt-false}
 use Rattle.flat_declarations.specs.Declaring.{Adds}
-use Rattle.flat_declarations.proofs.Named.{defined, first-words, numbered-more, word-count, next-free, own-free}
+use Rattle.flat_declarations.proofs.Named.{defined, first-words, word-count, next-free, own-free}
 
 -- ---- limits
 
@@ -56,26 +52,18 @@ few-meets pins table s es names u d k a b = (
 
 -- ---- one signal
 
--- a plain output of the old style may be declared again
-pub open-is : (kind : DeclKind) (b : Bool) → b ≡ sameb the_type kind k.Output → b ≡ is_plain_output kind
-open-is k.Input b e = e
-open-is k.Output b e = e
-open-is k.OutputReg b e = e
-open-is k.Wire b e = e
-open-is k.Reg b e = e
-
 module _ {S : Type 0} (pins : List ResetPin) (old new : IndexMap Text Meaning S) (d : Design) (s : Stage) (at : Site) (x : DeclTree) (r : Option Range) where
   abbrev one : n.Entry
-  one = entry at x.kind r (is_plain_output x.kind && not at.in_header) x.name
+  one = entry at x.kind r (is_plain_port x.kind && not at.in_header) x.name
 
   pub signal-err : (y : Stop) → Adds pins s.design one (Err y) d → Meets pins new (add_signal s at x r) (Err y) d
-  signal-err (Refused f) h = many-meets pins new s (one ∷ []) (numbered (length s.design.entries) (x.name ∷ [])) (Err (Refused f)) d h.0 h.1
+  signal-err (Refused f) h = many-meets pins new s (one ∷ []) ((x.name, a_signal (length s.design.entries)) ∷ []) (Err (Refused f)) d h.0 h.1
   signal-err Memory h = tt
 
   pub signal-ok : (i : ℕ) (u : Unit {0}) → ShowsNames old s.names → is_declared s.names x.name ≡ false → Adds pins s.design one (Ok i) d
       → ((y : Text) → kept_in new y ≡ cond (pointwise ◌==◌ x.name y) (Some (m.Signal i)) (kept_in old y)) → Meets pins new (add_signal s at x r) (Ok u) d
-  signal-ok i u h f a k = few-meets pins new s (one ∷ []) (numbered (length s.design.entries) (x.name ∷ [])) u d a.1
-      (subst (λ j. ShowsNames new (s.names ++ ((x.name, a_signal j) ∷ []))) a.0 (defined old new s.names x.name (m.Signal i) h f k (λ w e. absurd (search (rules, e))))) a.2
+  signal-ok i u h f a k = few-meets pins new s (one ∷ []) ((x.name, a_signal (length s.design.entries)) ∷ []) u d a.1
+      (subst (λ j. ShowsNames new (s.names ++ ((x.name, a_signal j) ∷ []))) a.0 (defined old new s.names x.name (m.Signal i) h f k)) a.2
 
 -- ---- a memory, word by word
 
@@ -83,7 +71,7 @@ module _ (s : Stage) (at : Site) (x : DeclTree) (r : Option Range) where
   -- the stage with its first words
   abbrev pub with_words : ℕ → Stage
   with_words k = record {
-    names = s.names ++ numbered (length s.design.entries) (word_names x.name 0 k);
+    names = s.names ++ taken_names (word_names x.name 0 k);
     design = record s.design { entries = s.design.entries ++ map (entry at x.kind r false) (word_names x.name 0 k) };
   }
 
@@ -91,11 +79,10 @@ module _ (s : Stage) (at : Site) (x : DeclTree) (r : Option Range) where
   words-length : (k : ℕ) → length (with_words k).design.entries ≡ length s.design.entries + k
   words-length k = length-append s.design.entries (map (entry at x.kind r false) (word_names x.name 0 k)) ∙ ap (λ i. length s.design.entries + i) (length-map (word_names x.name 0 k) (entry at x.kind r false) ∙ word-count x.name 0 k)
 
-  words-names : (k : ℕ) → (with_words k).names ++ ((word_name x.name k, a_signal (length s.design.entries + k)) ∷ []) ≡ (with_words (suc k)).names
-  words-names k = let f = length s.design.entries in
-      append_assoc s.names (numbered f (word_names x.name 0 k)) ((word_name x.name k, a_signal (f + k)) ∷ [])
-      ∙ ap (λ i. s.names ++ (numbered f (word_names x.name 0 k) ++ ((word_name x.name k, a_signal (f + i)) ∷ []))) (sym (word-count x.name 0 k))
-      ∙ ap (λ xs. s.names ++ xs) (sym (numbered-more f (word_names x.name 0 k) (word_name x.name k)) ∙ ap (numbered f) (sym (first-words x.name k)))
+  words-names : (k : ℕ) → (with_words k).names ++ ((word_name x.name k, no_value) ∷ []) ≡ (with_words (suc k)).names
+  words-names k =
+      append_assoc s.names (taken_names (word_names x.name 0 k)) ((word_name x.name k, no_value) ∷ [])
+      ∙ ap (λ xs. s.names ++ xs) (sym (map-append (λ (y : Text). (y, no_value)) (word_names x.name 0 k) (word_name x.name k ∷ [])) ∙ ap taken_names (sym (first-words x.name k)))
 
   words-design : (k : ℕ) → record (with_words k).design { entries = (with_words k).design.entries ++ (entry at x.kind r false (word_name x.name k) ∷ []) } ≡ (with_words (suc k)).design
   words-design k = ap (λ es. record s.design { entries = es }) (
@@ -104,12 +91,11 @@ module _ (s : Stage) (at : Site) (x : DeclTree) (r : Option Range) where
 
   module _ {S : Type 0} (pins : List ResetPin) where
     -- one word more
-    pub next-word : (old new : IndexMap Text Meaning S) (c d : Design) (words k i : ℕ) → ShowsStage pins old c (with_words k) → words ≤ 64 → k < words → taken s.names (word_names x.name 0 words) ≡ []
+    pub next-word : (old new : IndexMap Text Meaning S) (c d : Design) (words k i : ℕ) → ShowsStage pins old c (with_words k) → words ≤ 1024 → k < words → taken s.names (word_names x.name 0 words) ≡ []
         → Adds pins (with_words k).design (entry at x.kind r false (word_name x.name k)) (Ok i) d
-        → ((y : Text) → kept_in new y ≡ cond (pointwise ◌==◌ (word_name x.name k) y) (Some (m.Signal i)) (kept_in old y)) → ShowsStage pins new d (with_words (suc k))
+        → ((y : Text) → kept_in new y ≡ cond (pointwise ◌==◌ (word_name x.name k) y) (Some m.NoValue) (kept_in old y)) → ShowsStage pins new d (with_words (suc k))
     next-word old new c d words k i h w l t a e = record {
-      names = subst (ShowsNames new) (ap (λ j. (with_words k).names ++ ((word_name x.name k, a_signal j) ∷ [])) (a.0 ∙ words-length k) ∙ words-names k)
-          (defined old new (with_words k).names (word_name x.name k) (m.Signal i) h.names (next-free s.names (length s.design.entries) x.name words k w l t) e (λ v q. absurd (search (rules, q))));
+      names = subst (ShowsNames new) (words-names k) (defined old new (with_words k).names (word_name x.name k) m.NoValue h.names (next-free s.names x.name words k w l t) e);
       design = subst (ShowsDesign pins d) (words-design k) a.2;
     }
 
@@ -121,25 +107,21 @@ module _ (s : Stage) (at : Site) (x : DeclTree) (r : Option Range) where
 
     -- the memory itself
     pub memory-ok : (old new : IndexMap Text Meaning S) (d : Design) (words : ℕ) (v : kept.Memory) (u : Unit {0}) → ShowsStage pins old d (with_words words) → is_declared s.names x.name ≡ false
-        → length s.design.entries + words ≤ 65536 → v.first ≡ length s.design.entries → v.words ≡ words → 2 ^ v.index_width ≡ words
+        → length s.design.entries + words ≤ 65536 → v.first ≡ length s.design.entries → v.words ≡ words
         → ((y : Text) → kept_in new y ≡ cond (pointwise ◌==◌ x.name y) (Some (m.Memory v)) (kept_in old y)) → Meets pins new (add_memory s at x r words) (Ok u) d
-    memory-ok old new d words v u h f l a b c e =
+    memory-ok old new d words v u h f l a b e =
         let first = length s.design.entries in let xs = word_names x.name 0 words in
         let many : length (map (entry at x.kind r false) xs) ≡ words = length-map xs (entry at x.kind r false) ∙ word-count x.name 0 words in
-        let named = defined old new (with_words words).names x.name (m.Memory v) h.names (own-free s.names first x.name words f) e
-        (λ w q. subst (λ (z : kept.Memory). 2 ^ z.index_width ≡ z.words) (memory-is v w q) (c ∙ sym b)) in
-        few-meets pins new s (map (entry at x.kind r false) xs) (numbered first xs ++ ((x.name, a_memory (record { first = first; words = words })) ∷ [])) u d
+        let named = defined old new (with_words words).names x.name (m.Memory v) h.names (own-free s.names x.name words f) e in
+        few-meets pins new s (map (entry at x.kind r false) xs) (taken_names xs ++ ((x.name, a_memory (record { first = first; words = words })) ∷ [])) u d
         (lt-false 65536 (first + length (map (entry at x.kind r false) xs)) (omega (arith, many, l)))
-        (subst (ShowsNames new) (ap₂ (λ i j. (s.names ++ numbered first xs) ++ ((x.name, a_memory (record { first = i; words = j })) ∷ [])) a b ∙ append_assoc s.names (numbered first xs) ((x.name, a_memory (record { first = first; words = words })) ∷ [])) named)
+        (subst (ShowsNames new) (ap₂ (λ i j. (s.names ++ taken_names xs) ++ ((x.name, a_memory (record { first = i; words = j })) ∷ [])) a b ∙ append_assoc s.names (taken_names xs) ((x.name, a_memory (record { first = first; words = words })) ∷ [])) named)
         h.design
-      where
-        memory-is : (v w : kept.Memory) → m.Memory v ≡ m.Memory w → v ≡ w
-        memory-is v w e = search (rules, e)
 
     -- too many words
     pub memory-many : (table : IndexMap Text Meaning S) (d : Design) (words : ℕ) (y : Result (Unit {0}) Stop) → 65536 < length s.design.entries + words → Refuses too_many y → Meets pins table (add_memory s at x r words) y d
     memory-many table d words y l h =
         let xs = word_names x.name 0 words in
         let j : length (map (entry at x.kind r false) xs) ≡ words = length-map xs (entry at x.kind r false) ∙ word-count x.name 0 words in
-        many-meets pins table s (map (entry at x.kind r false) xs) (numbered (length s.design.entries) xs ++ ((x.name, a_memory (record { first = length s.design.entries; words = words })) ∷ [])) y d
+        many-meets pins table s (map (entry at x.kind r false) xs) (taken_names xs ++ ((x.name, a_memory (record { first = length s.design.entries; words = words })) ∷ [])) y d
         (lt-ltb 65536 _ (omega (arith, l, j))) h

@@ -1,6 +1,7 @@
 -- A declaration that breaks no rule, by what it declares.
-use Rattle.std.proofs.Common.{◌≡◌, ℕ, ◌+◌, ◌≤◌, max, min, Bool, true, false, cond, ◌&&◌, ◌||◌, ◌==◌, List, [], ◌++◌, Option, Some, None, Result, Ok, Err, refl, sym, ap, ap₂, subst, ◌∙◌, arith, rules, eqb-true}
+use Rattle.std.proofs.Common.{◌≡◌, ℕ, ◌+◌, ◌≤◌, max, min, Bool, true, false, cond, ◌&&◌, ◌==◌, nat_le, List, [], ◌++◌, Option, Some, None, Result, Ok, Err, refl, sym, ap, ap₂, subst, ◌∙◌, leb-true}
 use Rattle.std.specs.Prelude.{is_none, option_map}
+use Rattle.std.proofs.lemmas.Bool.{and_parts}
 use Rattle.indexmap.specs.IndexMap.{IndexMap}
 use Rattle.cdc_base.specs.declared.signal.ResetPin.{ResetPin}
 use Rattle.cdc_base.specs.declared.fault.Stop.{Stop}
@@ -37,39 +38,9 @@ meets-fit pins table o (Err Memory) d h m = tt
 
 -- ---- depths
 
-pub depth-is : (P : ℕ → Type 0) → P 2 → P 4 → P 8 → P 16 → P 32 → P 64 → (d : ℕ) → is_depth d ≡ true → P d
-depth-is P p2 p4 p8 p16 p32 p64 d h = by2 (d == 2) refl h
-  where
-    is : (n : ℕ) → P n → (d == n) ≡ true → P d
-    is n p e = subst P (sym (eqb-true d n e)) p
-
-    by64 : (b : Bool) → (d == 64) ≡ b → b ≡ true → P d
-    by64 true e h = is 64 p64 e
-    by64 false e h = absurd (search (rules, h))
-
-    by32 : (b : Bool) → (d == 32) ≡ b → (b || d == 64) ≡ true → P d
-    by32 true e h = is 32 p32 e
-    by32 false e h = by64 (d == 64) refl h
-
-    by16 : (b : Bool) → (d == 16) ≡ b → (b || d == 32 || d == 64) ≡ true → P d
-    by16 true e h = is 16 p16 e
-    by16 false e h = by32 (d == 32) refl h
-
-    by8 : (b : Bool) → (d == 8) ≡ b → (b || d == 16 || d == 32 || d == 64) ≡ true → P d
-    by8 true e h = is 8 p8 e
-    by8 false e h = by16 (d == 16) refl h
-
-    by4 : (b : Bool) → (d == 4) ≡ b → (b || d == 8 || d == 16 || d == 32 || d == 64) ≡ true → P d
-    by4 true e h = is 4 p4 e
-    by4 false e h = by8 (d == 8) refl h
-
-    by2 : (b : Bool) → (d == 2) ≡ b → (b || d == 4 || d == 8 || d == 16 || d == 32 || d == 64) ≡ true → P d
-    by2 true e h = is 2 p2 e
-    by2 false e h = by4 (d == 4) refl h
-
--- a memory has 2 to 64 words
-pub depth-small : (d : ℕ) → is_depth d ≡ true → (2 ≤ d) × (d ≤ 64)
-depth-small d h = depth-is (λ d. (2 ≤ d) × (d ≤ 64)) (omega arith, omega arith) (omega arith, omega arith) (omega arith, omega arith) (omega arith, omega arith) (omega arith, omega arith) (omega arith, omega arith) d h
+-- a memory has 2 to 1,024 words
+pub depth-small : (d : ℕ) → is_depth d ≡ true → (2 ≤ d) × (d ≤ 1024)
+depth-small d h = let p = and_parts (nat_le 2 d) (nat_le d 1024) h in (leb-true 2 d p.0, leb-true d 1024 p.1)
 
 words-depth : (kind : DeclKind) (r : Option Range) (n : ℕ) → words_of kind r ≡ Some n → is_depth n ≡ true
 words-depth k.Reg (Some r) n e = go (min r.left r.right == 0) (is_depth (max r.left r.right + 1)) refl e
@@ -96,7 +67,7 @@ count-taken look x (Some b) n e d = ap (count_rules look x) (sym e) ∙ (none_of
 pub again-inner : (look : Look) (x : DeclTree) (i : ℕ) → again look x ≡ Some i → is_inner (direction_of x.kind) ≡ true
 again-inner look x i = go (is_inner (direction_of x.kind)) (is_none x.array)
   where
-    go : (b c : Bool) → cond (b && c) (if_open look.entries (meaning look x.name)) None ≡ Some i → b ≡ true
+    go : (b c : Bool) → cond (b && c) (if_open x.kind look.entries (meaning look x.name)) None ≡ Some i → b ≡ true
     go true c e = refl
     go false c e = none-some i e
 

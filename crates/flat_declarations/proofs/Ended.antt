@@ -15,7 +15,7 @@ use Rattle.flat_meaning.specs.Flat.{Expr}
 use Rattle.flat_unfolding.specs.Outcome.{Text, Broken, breaks_if, Outcome, good, bad, then_, each, first_of_all, fault_of, judged}
 use Rattle.flat_unfolding.specs.Names.{Range, a_param, is_declared, Look}
 use Rattle.flat_unfolding.specs.Parameters as law
-use Rattle.flat_unfolding.specs.Parameters.{Overrides, held, range_read, value_of, parameter_order}
+use Rattle.flat_unfolding.specs.Parameters.{Overrides, held, range_read, value_of, sign_rule, parameter_order}
 use Rattle.flat_unfolding.specs.Expressions.{read}
 use Rattle.flat_unfolding.specs.Design.{Stage, look_of}
 use Rattle.flat_unfolding.specs.Formed.{IsFormed, IsParamFormed}
@@ -118,13 +118,13 @@ module _ {S A : Type 0} (pins : List ResetPin) where
   walk-on o f after P table d items rest e h = let w = h.0 in (w.0, w.1 ∙ ap (λ xs. then_ (each f w.0 xs) after) e, w.2, w.3)
 
 pub look-shown : (pins : List ResetPin) (k : seen.Look) (d : Design) (s : Stage) → ShowsNames k.names.now s.names → ShowsDesign pins d s.design → k.entries.now ≡ d.entries.items → k.active ≡ false → Shows k (look_of s)
-look-shown pins k d s n h e a = record { names = n.kept; indices = n.indices; entries = ap (map of_entry) e ∙ h.entries; active = a }
+look-shown pins k d s n h e a = record { names = n.kept; entries = ap (map of_entry) e ∙ h.entries; active = a }
 
 -- ---- a parameter
 
-held-fit : (r : Option Range) (e : Expr) (c : Bool) → (c ≡ true → IsCountedValue e) → IsHeld (held r e c) → IsFitParam (held r e c)
-held-fit None e c w h = record { width = h.width; value = h.value; counted = λ k. (w k).0; whole = λ k. (w k).1; range = h.range }
-held-fit (Some r) e c w h = record { width = h.width; value = h.value; counted = λ k. absurd (search (rules, k)); whole = λ k. absurd (search (rules, k)); range = h.range }
+held-fit : (r : Option Range) (e : Expr) (c g : Bool) → (c ≡ true → IsCountedValue e) → IsHeld (held r e c g) → IsFitParam (held r e c g)
+held-fit None e c g w h = record { width = h.width; value = h.value; counted = λ k. (w k).0; whole = λ k. (w k).1; range = h.range }
+held-fit (Some r) e c g w h = record { width = h.width; value = h.value; counted = λ k. absurd (search (rules, k)); whole = λ k. absurd (search (rules, k)); range = h.range }
 
 counted-fit : (l : Look) (given : Overrides) (q : ParamTree) → IsFit l → AreFitOverrides given → IsFormed q.value → (valued given l q).broken ≡ [] → (valued given l q).is_counted ≡ true → IsCountedValue (valued given l q).value
 counted-fit l given q is fo f = go (law.override_of given q) (λ o. given-is q.local o)
@@ -149,10 +149,11 @@ pub parameter-meets : {S : Type 0} (pins : List ResetPin) (old new : IndexMap Te
     → ((y : Text) → kept_in new y ≡ cond (pointwise ◌==◌ q.name y) (Some (m.Param v)) (kept_in old y)) → MeetsFit pins new (law.parameter given s (place, q)) (Ok u) d
 parameter-meets pins old new d s given place q v u sh is fo f e is_held k =
     let l = look_of s in let p = parameter_held given l q in
-    let both = none_of_both (breaks_if (is_declared s.names q.name) 304 q.name ++ (range_read l q.name q.range).broken) (valued given l q).broken e in
+    let all = none_of_both (breaks_if (is_declared s.names q.name) 304 q.name ++ (range_read l q.name q.range).broken ++ (valued given l q).broken) (sign_rule q.range (valued given l q)) e in
+    let both = none_of_both (breaks_if (is_declared s.names q.name) 304 q.name ++ (range_read l q.name q.range).broken) (valued given l q).broken all.0 in
     let first = none_of_both (breaks_if (is_declared s.names q.name) 304 q.name) (range_read l q.name q.range).broken both.0 in
     let free = not_broken (is_declared s.names q.name) 304 q.name first.0 in
     let t : Stage = record { names = s.names ++ ((q.name, a_param p) ∷ []); design = s.design } in
-    let named = defined old new s.names q.name (m.Param v) sh.names free k (λ w j. absurd (search (rules, j))) in
-    let fits = held-fit (range_read l q.name q.range).range (valued given l q).value (valued given l q).is_counted (counted-fit l given q is fo f.1 both.1) (subst IsHeld is_held.0 is_held.1) in
+    let named = defined old new s.names q.name (m.Param v) sh.names free k in
+    let fits = held-fit (range_read l q.name q.range).range (valued given l q).value (valued given l q).is_counted (valued given l q).is_signed (counted-fit l given q is fo f.1 both.1) (subst IsHeld is_held.0 is_held.1) in
     (t, ap (λ bs. judged parameter_order place bs t) e, record { names = subst (λ x. ShowsNames new (s.names ++ ((q.name, a_param x) ∷ []))) is_held.0 named; design = sh.design }, named-fit s q.name (a_param p) is fits)

@@ -43,7 +43,7 @@ read-some l x (Some r) e = refl
 no-array : (look : Look) (x : DeclTree) (i : ℕ) → again look x ≡ Some i → x.array ≡ None
 no-array look x i = go (is_inner (direction_of x.kind)) x.array
   where
-    go : (b : Bool) (o : Option Bounds) → cond (b && is_none o) (if_open look.entries (meaning look x.name)) None ≡ Some i → o ≡ None
+    go : (b : Bool) (o : Option Bounds) → cond (b && is_none o) (if_open x.kind look.entries (meaning look x.name)) None ≡ Some i → o ≡ None
     go b None e = refl
     go true (Some a) e = none-some i e
     go false (Some a) e = none-some i e

@@ -8,10 +8,10 @@ use Rattle.verilog_ast.specs.declared.DeclKind.{DeclKind}
 use Rattle.verilog_reading.specs.SourceTree.{DeclTree, ModuleTree}
 use Rattle.flat_form.specs.Sizes.{is_word}
 use Rattle.flat_unfolding.specs.Outcome.{Text, good, each, refused_if, judged}
-use Rattle.flat_unfolding.specs.Names.{Range, width_of, Meaning, a_param, a_signal, a_memory, an_instance, Names, as_value, Entry}
+use Rattle.flat_unfolding.specs.Names.{Range, width_of, Meaning, a_param, a_signal, a_memory, no_value, Names, as_value, Entry}
 use Rattle.flat_unfolding.specs.Memories.{word_names}
 use Rattle.flat_unfolding.specs.Parameters.{range_read}
-use Rattle.flat_unfolding.specs.Declarations.{is_plain_output, declaration_order, Site, again, range_rule, array_read, declaration_rules, entry, added, numbered, add_signal, add_memory, declared_again, add_declared, declaration, has_direction, directed}
+use Rattle.flat_unfolding.specs.Declarations.{is_plain_port, declaration_order, Site, again, range_rule, array_read, declaration_rules, entry, added, taken_names, add_signal, add_memory, declared_again, add_declared, declaration, has_direction, directed}
 use Rattle.flat_unfolding.specs.Design.{Stage, look_of, with_design, change_entry}
 use Rattle.flat_unfolding.proofs.Steps.{good_is, good_then, judged_is, not_refused, none_of_both, each_keeps}
 use Rattle.flat_unfolding.proofs.Entries.{length_of_both, same_length, range_narrow}
@@ -28,7 +28,7 @@ abbrev pub IsFitMeaning : ℕ → Meaning → Type 0
 IsFitMeaning n (a_param p) = IsFitParam p
 IsFitMeaning n (a_signal s) = s < n
 IsFitMeaning n (a_memory a) = (1 ≤ a.words) × (a.first + a.words ≤ n)
-IsFitMeaning n an_instance = Unit {0}
+IsFitMeaning n no_value = Unit {0}
 
 abbrev pub AreFitNames : ℕ → Names → Type 0
 AreFitNames n names = (x : Text) (v : Meaning) → found_in names x ≡ Some v → IsFitMeaning n v
@@ -37,13 +37,13 @@ fit-names : (s : Stage) → IsFit (look_of s) → AreFitNames (length s.design.e
 fit-names s h x (a_param p) e = h.params x p (ap (option_and_then as_value) e)
 fit-names s h x (a_signal n) e = h.signals x n (ap (option_and_then as_value) e)
 fit-names s h x (a_memory a) e = h.memories x a (ap (option_and_then as_value) e)
-fit-names s h x an_instance e = tt
+fit-names s h x no_value e = tt
 
 more-fit : (n m : ℕ) → n ≤ m → (v : Meaning) → IsFitMeaning n v → IsFitMeaning m v
 more-fit n m l (a_param p) h = h
 more-fit n m l (a_signal s) h = omega (arith, l, h)
 more-fit n m l (a_memory a) h = (h.0, let k = h.1 in omega (arith, l, k))
-more-fit n m l an_instance h = tt
+more-fit n m l no_value h = tt
 
 abbrev AreFitEntries : List Entry → Type 0
 AreFitEntries es = (s : ℕ) (e : Entry) → slice_get es s ≡ Some e → is_word (width_of e.range) ≡ true
@@ -109,9 +109,9 @@ added-fit s fs names t e h k f =
     not-more : nat_lt 65536 (length s.design.entries + length fs) ≡ false → length s.design.entries + length fs ≤ 65536
     not-more e = ltb-false 65536 (length s.design.entries + length fs) e
 
-numbered-fit : (n f : ℕ) (xs : List Text) → f + length xs ≤ n → All (λ (p : Text × Meaning). IsFitMeaning n p.1) (numbered f xs)
-numbered-fit n f [] h = All-nil (λ (p : Text × Meaning). IsFitMeaning n p.1)
-numbered-fit n f (x ∷ xs) h = All-cons (λ (p : Text × Meaning). IsFitMeaning n p.1) (x, a_signal f) (numbered (f + 1) xs) (let l : f < n = omega (arith, h) in l) (numbered-fit n (f + 1) xs (let l : f + 1 + length xs ≤ n = omega (arith, h) in l))
+taken-fit : (n : ℕ) (xs : List Text) → All (λ (p : Text × Meaning). IsFitMeaning n p.1) (taken_names xs)
+taken-fit n [] = All-nil (λ (p : Text × Meaning). IsFitMeaning n p.1)
+taken-fit n (x ∷ xs) = All-cons (λ (p : Text × Meaning). IsFitMeaning n p.1) (x, no_value) (taken_names xs) tt (taken-fit n xs)
 
 ranged : (f : Text → Entry) (r : Option Range) → ((x : Text) → (f x).range ≡ r) → width_of r ≤ 64 → (xs : List Text) → AreFitEntries (map f xs)
 ranged f r h l [] i e d = none-some e d
@@ -141,9 +141,10 @@ module _ (s : Stage) (h : IsFit (look_of s)) (at : Site) (x : DeclTree) (r : Opt
 
   signal-fit : (t : Stage) → add_signal s at x r ≡ good t → IsFit (look_of t)
   signal-fit t e =
-      let f = entry at x.kind r (is_plain_output x.kind && not at.in_header) in
-      added-fit s (f x.name ∷ []) (numbered (length es) (x.name ∷ [])) t e h
-      (numbered-fit (length (es ++ (f x.name ∷ []))) (length es) (x.name ∷ []) (let m = length_of_both es (f x.name ∷ []) in let k : length es + 1 ≤ length (es ++ (f x.name ∷ [])) = omega (arith, m) in k))
+      let f = entry at x.kind r (is_plain_port x.kind && not at.in_header) in
+      added-fit s (f x.name ∷ []) ((x.name, a_signal (length es)) ∷ []) t e h
+      (All-cons (λ (p : Text × Meaning). IsFitMeaning (length (es ++ (f x.name ∷ []))) p.1) (x.name, a_signal (length es)) []
+      (let m = length_of_both es (f x.name ∷ []) in let k : length es < length (es ++ (f x.name ∷ [])) = omega (arith, m) in k) (All-nil (λ (p : Text × Meaning). IsFitMeaning (length (es ++ (f x.name ∷ []))) p.1)))
       (ranged f r (λ y. refl) l (x.name ∷ []))
 
   memory-fit : (n : ℕ) → 1 ≤ n → (t : Stage) → add_memory s at x r n ≡ good t → IsFit (look_of t)
@@ -151,9 +152,9 @@ module _ (s : Stage) (h : IsFit (look_of s)) (at : Site) (x : DeclTree) (r : Opt
       let f = entry at x.kind r false in let xs = word_names x.name 0 n in let gs = es ++ map f xs in
       let m : Meaning = a_memory (record { first = length es; words = n }) in
       let many = length_of_both es (map f xs) in let words = length-map xs f in let names = word-count x.name 0 n in
-      added-fit s (map f xs) (numbered (length es) xs ++ ((x.name, m) ∷ [])) t e h
-      (All-append (λ (p : Text × Meaning). IsFitMeaning (length gs) p.1) (numbered (length es) xs) ((x.name, m) ∷ [])
-      (numbered-fit (length gs) (length es) xs (let k : length es + length xs ≤ length gs = omega (arith, many, words) in k))
+      added-fit s (map f xs) (taken_names xs ++ ((x.name, m) ∷ [])) t e h
+      (All-append (λ (p : Text × Meaning). IsFitMeaning (length gs) p.1) (taken_names xs) ((x.name, m) ∷ [])
+      (taken-fit (length gs) xs)
       (All-cons (λ (p : Text × Meaning). IsFitMeaning (length gs) p.1) (x.name, m) [] (some, let k : length es + n ≤ length gs = omega (arith, many, words, names) in k) (All-nil (λ (p : Text × Meaning). IsFitMeaning (length gs) p.1))))
       (ranged f r (λ y. refl) l xs)
 

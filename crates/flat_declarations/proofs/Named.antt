@@ -12,16 +12,13 @@ use Rattle.cdc_base.specs.Words.{found_in}
 use Rattle.flat_meaning.proofs.Words.{by_lt}
 use Rattle.flat_unfolding.specs.Outcome.{Text, breaks_if}
 use Rattle.flat_unfolding.specs.Names as n
-use Rattle.flat_unfolding.specs.Names.{is_declared, a_signal, word_name}
+use Rattle.flat_unfolding.specs.Names.{is_declared, no_value, word_name}
 use Rattle.flat_unfolding.specs.Memories.{word_names, taken}
-use Rattle.flat_unfolding.specs.Declarations.{numbered}
+use Rattle.flat_unfolding.specs.Declarations.{taken_names}
 use Rattle.flat_unfolding.proofs.Steps.{none_of_both, not_broken}
-use Rattle.flat_names.specs.declared.scope.Memory.{Memory}
 use Rattle.flat_names.specs.declared.scope.Meaning.{Meaning}
-use Rattle.flat_names.specs.declared.scope.Meaning.TheVariants as m
 use Rattle.flat_names.specs.Looks.{meaning_of, kept_in}
 use Rattle.flat_names.specs.Designs.{ShowsNames}
-use Rattle.flat_names.proofs.Options.{some-same}
 
 one-name : (x y : Text) → bytes_eq x y ≡ true → x ≡ y
 one-name x y e = (bytes_eq-Decides x y).0 e
@@ -53,20 +50,12 @@ found-last names x a e = found-behind names ((x, a) ∷ []) x e ∙ ap (λ b. co
 
 -- a name that isn't declared is in the table and in the list alike
 pub defined : {S : Type 0} (old new : IndexMap Text Meaning S) (names : n.Names) (x : Text) (v : Meaning) → ShowsNames old names → is_declared names x ≡ false
-    → ((y : Text) → kept_in new y ≡ cond (pointwise ◌==◌ x y) (Some v) (kept_in old y)) → ((w : Memory) → v ≡ m.Memory w → 2 ^ w.index_width ≡ w.words)
-    → ShowsNames new (names ++ ((x, meaning_of v) ∷ []))
-defined old new names x v h d e i = record {
-  kept = λ y. ap (option_map meaning_of) (e y) ∙ kept (bytes_eq x y) y refl;
-  indices = λ y w k. indices (bytes_eq x y) y w (sym (e y) ∙ k);
-}
+    → ((y : Text) → kept_in new y ≡ cond (pointwise ◌==◌ x y) (Some v) (kept_in old y)) → ShowsNames new (names ++ ((x, meaning_of v) ∷ []))
+defined old new names x v h d e = record { kept = λ y. ap (option_map meaning_of) (e y) ∙ kept (bytes_eq x y) y refl }
   where
     kept : (b : Bool) (y : Text) → bytes_eq x y ≡ b → option_map meaning_of (cond b (Some v) (kept_in old y)) ≡ found_in (names ++ ((x, meaning_of v) ∷ [])) y
     kept true y k = sym (ap (found_in (names ++ ((x, meaning_of v) ∷ []))) (sym (one-name x y k)) ∙ found-last names x (meaning_of v) d)
     kept false y k = h.kept y ∙ sym (found-other names x (meaning_of v) y k)
-
-    indices : (b : Bool) (y : Text) (w : Memory) → cond b (Some v) (kept_in old y) ≡ Some (m.Memory w) → 2 ^ w.index_width ≡ w.words
-    indices true y w k = i w (some-same v (m.Memory w) k)
-    indices false y w k = h.indices y w k
 
 -- ---- names of a memory's words
 
@@ -93,20 +82,16 @@ word-names-more x a (suc k) = ap (λ r. word_name x a ∷ r) (word-names-more x 
 pub first-words : (x : Text) (k : ℕ) → word_names x 0 (suc k) ≡ word_names x 0 k ++ (word_name x k ∷ [])
 first-words x k = word-names-more x 0 k ∙ ap (λ i. word_names x 0 k ++ (word_name x i ∷ [])) (let e : 0 + k ≡ k = omega arith in e)
 
-pub numbered-more : (f : ℕ) (xs : List Text) (x : Text) → numbered f (xs ++ (x ∷ [])) ≡ numbered f xs ++ ((x, a_signal (f + length xs)) ∷ [])
-numbered-more f [] x = ap (λ i. (x, a_signal i) ∷ []) (let e : f ≡ f + 0 = omega arith in e)
-numbered-more f (y ∷ xs) x = ap (λ r. (y, a_signal f) ∷ r) (numbered-more (f + 1) xs x ∙ ap (λ i. numbered (f + 1) xs ++ ((x, a_signal i) ∷ [])) (let e : f + 1 + length xs ≡ f + suc (length xs) = omega arith in e))
-
 pub word-count : (x : Text) (a k : ℕ) → length (word_names x a k) ≡ k
 word-count x a zero = refl
 word-count x a (suc k) = ap suc (word-count x (suc a) k)
 
 -- none of these names is y
-numbered-apart : (f : ℕ) (x : Text) (a k : ℕ) (y : Text) → ((j : ℕ) → a ≤ j → j < a + k → word_name x j ≢ y) → is_some (found_in (numbered f (word_names x a k)) y) ≡ false
-numbered-apart f x a zero y h = refl
-numbered-apart f x a (suc k) y h =
-    ap (λ b. is_some (cond b (Some (a_signal f)) (found_in (numbered (f + 1) (word_names x (suc a) k)) y))) (other-name (word_name x a) y (h a (let l : a ≤ a = omega arith in l) (let l : a < a + suc k = omega arith in l)))
-    ∙ numbered-apart (f + 1) x (suc a) k y (λ j l r. h j (let l : a ≤ j = omega (arith, l) in l) (let r : j < a + suc k = omega (arith, r) in r))
+words-apart : (x : Text) (a k : ℕ) (y : Text) → ((j : ℕ) → a ≤ j → j < a + k → word_name x j ≢ y) → is_declared (taken_names (word_names x a k)) y ≡ false
+words-apart x a zero y h = refl
+words-apart x a (suc k) y h =
+    ap (λ b. is_some (cond b (Some no_value) (found_in (taken_names (word_names x (suc a) k)) y))) (other-name (word_name x a) y (h a (let l : a ≤ a = omega arith in l) (let l : a < a + suc k = omega arith in l)))
+    ∙ words-apart x (suc a) k y (λ j l r. h j (let l : a ≤ j = omega (arith, l) in l) (let r : j < a + suc k = omega (arith, r) in r))
 
 -- a name that stands in neither list
 in-neither : (names more : n.Names) (y : Text) → is_declared names y ≡ false → is_declared more y ≡ false → is_declared (names ++ more) y ≡ false
@@ -127,11 +112,11 @@ not-taken names x a (suc k) e j l r =
     go false d f h = h (by-cases j a l (eqb-false j a d)) (let q : j < suc a + k = omega (arith, r) in q)
 
 -- the next word's name is free where the words before it are declared
-pub next-free : (names : n.Names) (f : ℕ) (x : Text) (words k : ℕ) → words ≤ 64 → k < words → taken names (word_names x 0 words) ≡ [] → is_declared (names ++ numbered f (word_names x 0 k)) (word_name x k) ≡ false
-next-free names f x words k w l e = in-neither names (numbered f (word_names x 0 k)) (word_name x k)
+pub next-free : (names : n.Names) (x : Text) (words k : ℕ) → words ≤ 1024 → k < words → taken names (word_names x 0 words) ≡ [] → is_declared (names ++ taken_names (word_names x 0 k)) (word_name x k) ≡ false
+next-free names x words k w l e = in-neither names (taken_names (word_names x 0 k)) (word_name x k)
     (not-taken names x 0 words e k (let a : 0 ≤ k = omega arith in a) (let a : k < 0 + words = omega (arith, l) in a))
-    (numbered-apart f x 0 k (word_name x k) (λ j a b d. absurd (let i = word-apart x j k (omega (arith, b, l, w)) (omega (arith, l, w)) d in omega (arith, b, i))))
+    (words-apart x 0 k (word_name x k) (λ j a b d. absurd (let i = word-apart x j k (omega (arith, b, l, w)) (omega (arith, l, w)) d in omega (arith, b, i))))
 
 -- the memory's own name is free behind its words
-pub own-free : (names : n.Names) (f : ℕ) (x : Text) (words : ℕ) → is_declared names x ≡ false → is_declared (names ++ numbered f (word_names x 0 words)) x ≡ false
-own-free names f x words e = in-neither names (numbered f (word_names x 0 words)) x e (numbered-apart f x 0 words x (λ j a b d. word-longer x j d))
+pub own-free : (names : n.Names) (x : Text) (words : ℕ) → is_declared names x ≡ false → is_declared (names ++ taken_names (word_names x 0 words)) x ≡ false
+own-free names x words e = in-neither names (taken_names (word_names x 0 words)) x e (words-apart x 0 words x (λ j a b d. word-longer x j d))

@@ -1,14 +1,15 @@
 -- Rules that bounds, parameters and declarations break, as they are noted.
-use Rattle.std.proofs.Common.{◌≡◌, ◌≢◌, ℕ, suc, ◌^◌, Bool, true, false, cond, not, ◌==◌, nat_lt, List, [], ◌∷◌, ◌++◌, Option, Some, None, refl, sym, ap, ◌∙◌, arith, rules, eqb-true}
+use Rattle.std.proofs.Common.{◌≡◌, ◌≢◌, ℕ, suc, ◌^◌, Bool, true, false, cond, not, ◌==◌, nat_lt, nat_le, List, [], ◌∷◌, ◌++◌, Option, Some, None, refl, sym, ap, ◌∙◌, arith, rules, eqb-true}
 use Rattle.std.specs.Prelude.{filter, is_none}
 use Rattle.verilog_reading.specs.ExprTree.{ExprTree, number, name, index, part, unary, binary, choice, join, repeat, paren, ExprTrees, no_trees, and_trees}
 use Rattle.verilog_reading.specs.SourceTree.{Bounds}
 use Rattle.flat_meaning.specs.Flat.{size}
 use Rattle.flat_meaning.proofs.Words.{by_lt}
 use Rattle.flat_unfolding.specs.Outcome.{Text, Broken, breaks, breaks_if}
-use Rattle.flat_unfolding.specs.Names.{Range, Param, Meaning, a_param, a_signal, a_memory, an_instance, Look, meaning, unknown}
+use Rattle.flat_unfolding.specs.Names.{Range, Param, Meaning, a_param, a_signal, a_memory, no_value, Look, meaning, unknown}
 use Rattle.flat_unfolding.specs.Constants.{counted_size, whole}
-use Rattle.flat_unfolding.specs.Expressions.{Term, is_sound, as_constant, as_bound, as_count, all_broken, range_of, Select, is_whole_only, judged_whole, param_bits, signal_bits, word_bits, meant_term, meant_index, meant_part, read, read_all}
+use Rattle.flat_unfolding.specs.Signs.{compares_signed, is_unsized}
+use Rattle.flat_unfolding.specs.Expressions.{Term, is_sound, as_constant, as_bound, as_count, all_broken, range_of, Select, is_whole_only, judged_whole, param_bits, signal_bits, word_bits, binary_term, meant_term, meant_index, meant_part, read, read_parts}
 use Rattle.flat_unfolding.specs.Parameters.{bounds_read}
 use Rattle.flat_unfolding.specs.Formed.{IsFormed}
 use Rattle.flat_names.specs.declared.fault.Order.TheVariants as order
@@ -105,14 +106,14 @@ name-other : (l : Look) (x : Text) (m : Option Meaning) → EachIs IsOther (mean
 name-other l x (Some (a_param p)) = tt
 name-other l x (Some (a_signal s)) = tt
 name-other l x (Some (a_memory a)) = break-other 319 x (λ e. omega arith)
-name-other l x (Some an_instance) = unknown-other l x
+name-other l x (Some no_value) = unknown-other l x
 name-other l x None = unknown-other l x
 
 index-other : (l : Look) (x : Text) (t : Term) (m : Option Meaning) → EachIs IsOther (meant_index l x t m).broken
 index-other l x t (Some (a_param p)) = cond-other t.is_constant _ _ (param-other l x p _) (break-other 315 x (λ e. omega arith))
 index-other l x t (Some (a_signal s)) = cond-other t.is_constant _ _ (signal-other l x s _) (if-other _ 315 x (λ e. omega arith))
-index-other l x t (Some (a_memory a)) = cond-other t.is_constant _ _ (word-other l x _) (cond-other (2 ^ size t.expr == a.words) _ _ tt (break-other 315 x (λ e. omega arith)))
-index-other l x t (Some an_instance) = tt
+index-other l x t (Some (a_memory a)) = cond-other t.is_constant _ _ (word-other l x _) (cond-other (nat_le (2 ^ size t.expr) a.words) _ _ tt (break-other 315 x (λ e. omega arith)))
+index-other l x t (Some no_value) = tt
 index-other l x t None = tt
 
 part-other : (l : Look) (x : Text) (o : Option Range) (m : Option Meaning) → EachIs IsOther (meant_part l x o m).broken
@@ -122,8 +123,8 @@ part-other l x (Some p) (Some (a_signal s)) = signal-other l x s _
 part-other l x None (Some (a_signal s)) = tt
 part-other l x (Some p) (Some (a_memory m)) = break-other 319 x (λ e. omega arith)
 part-other l x None (Some (a_memory m)) = break-other 319 x (λ e. omega arith)
-part-other l x (Some p) (Some an_instance) = tt
-part-other l x None (Some an_instance) = tt
+part-other l x (Some p) (Some no_value) = tt
+part-other l x None (Some no_value) = tt
 part-other l x (Some p) None = tt
 part-other l x None None = tt
 
@@ -134,7 +135,7 @@ whole-other l (Some k) (Some n) t h = cond-other (k == 32) _ t tt h
 
 mutual
   read-other : (l : Look) (e : ExprTree) → EachIs IsOther (read l e).broken
-  read-other l (number v w plain) = tt
+  read-other l (number v w spelt) = tt
   read-other l (name x) = name-other l x (meaning l x)
   read-other l (index x i) =
       both-other (unknown l x ++ (read l i).broken) _ (both-other (unknown l x) (read l i).broken (unknown-other l x) (read-other l i))
@@ -145,18 +146,20 @@ mutual
       (part-other l x (range_of (as_bound (read l a)) (as_bound (read l b))) (meaning l x))
   read-other l (unary op a) = whole-other l (counted_size l.names (unary op a)) (whole l.names (unary op a)) _ (read-other l a)
   read-other l (binary op a b) = whole-other l (counted_size l.names (binary op a b)) (whole l.names (binary op a b)) _
+      (both-other (binary_term op (read l a) (read l b)).broken _
       (both-other ((read l a).broken ++ (read l b).broken) _ (both-other (read l a).broken (read l b).broken (read-other l a) (read-other l b)) (if-other (is_whole_only op) 307 [] (λ e. omega arith)))
+      (if-other (compares_signed l.names op a b) 307 [] (λ e. omega arith)))
   read-other l (choice c a b) = whole-other l (counted_size l.names (choice c a b)) (whole l.names (choice c a b)) _
       (both-other ((read l c).broken ++ (read l a).broken) (read l b).broken (both-other (read l c).broken (read l a).broken (read-other l c) (read-other l a)) (read-other l b))
-  read-other l (join parts) = both-other (all_broken (read_all l parts)) _ (all-other (read_all l parts) (reads-other l parts)) (if-other _ 308 [] (λ e. omega arith))
+  read-other l (join parts) = both-other (all_broken (read_parts l parts)) _ (all-other (read_parts l parts) (reads-other l parts)) (if-other _ 308 [] (λ e. omega arith))
   read-other l (repeat count parts) =
-      both-other ((as_count (read l count)).broken ++ all_broken (read_all l parts)) _
-      (both-other (as_count (read l count)).broken _ (count-other (read l count) (read-other l count)) (all-other (read_all l parts) (reads-other l parts))) (if-other _ 308 [] (λ e. omega arith))
+      both-other ((as_count (read l count)).broken ++ all_broken (read_parts l parts)) _
+      (both-other (as_count (read l count)).broken _ (count-other (read l count) (read-other l count)) (all-other (read_parts l parts) (reads-other l parts))) (if-other _ 308 [] (λ e. omega arith))
   read-other l (paren a) = read-other l a
 
-  reads-other : (l : Look) (es : ExprTrees) → AllOther (read_all l es)
+  reads-other : (l : Look) (es : ExprTrees) → AllOther (read_parts l es)
   reads-other l no_trees = tt
-  reads-other l (and_trees a rest) = (read-other l a, reads-other l rest)
+  reads-other l (and_trees a rest) = (both-other (read l a).broken _ (read-other l a) (if-other (is_unsized l.names a) 308 [] (λ e. omega arith)), reads-other l rest)
 
 bounds-other : (l : Look) (b : Bounds) → EachIs IsOther (bounds_read l b).broken
 bounds-other l b = both-other (as_bound (read l b.left)).broken (as_bound (read l b.right)).broken (bound-other (read l b.left) (read-other l b.left)) (bound-other (read l b.right) (read-other l b.right))

@@ -4,19 +4,22 @@ use Rattle.std.specs.Prelude.{slice_get, is_some, is_none, option_map, option_an
 use Rattle.std.specs.Bool.{beq}
 use Rattle.std.specs.Option.{option_map_or, option_eq}
 use Rattle.std.proofs.lemmas.Option.{slice_get-map}
+use Rattle.verilog_ast.specs.declared.DeclKind.{DeclKind}
 use Rattle.verilog_reading.specs.SourceTree.{DeclTree}
 use Rattle.flat_unfolding.specs.Outcome.{Text}
 use Rattle.flat_unfolding.specs.Names as n
 use Rattle.flat_unfolding.specs.Names.{a_signal, meaning, range_at}
-use Rattle.flat_unfolding.specs.Declarations.{is_inner, direction_of as direction_by, if_open, again, has_direction, same_range}
+use Rattle.flat_unfolding.specs.Declarations.{is_inner, is_reg_kind, direction_of as direction_by, may_be_again, if_open, again, has_direction, same_range}
+use Rattle.flat_unfolding.specs.Targets.{is_input}
 use Rattle.flat_names.specs.contracts.scope.BoundsPartialEq.TheImpl as equality
 use Rattle.flat_names.specs.declared.scope.Bounds.{Bounds}
 use Rattle.flat_names.specs.declared.scope.Look.{Look}
 use Rattle.flat_names.specs.declared.scope.Meaning.TheVariants as m
 use Rattle.flat_names.specs.declared.design.Entry.{Entry}
 use Rattle.flat_names.specs.Looks.{meaning_of, meant, Seen, seen, shown, direction_of, range_of, Shows}
+use Rattle.flat_names.proofs.Options.{some-same}
 use Rattle.flat_names.proofs.Looked.{meant-is, entry-is, range-is}
-use Rattle.flat_declarations.specs.Declaring.{ShowsOpen}
+use Rattle.flat_declarations.specs.Declaring.{ShowsOpen, is_again}
 
 module _ (k : Look) (l : n.Look) (h : Shows k l) (x : Text) (s : ℕ) (e : Some (m.Signal s) ≡ meant k.names.now x) where
   signal-is : meaning l x ≡ Some (a_signal s)
@@ -36,28 +39,27 @@ module _ (k : Look) (l : n.Look) (h : Shows k l) (x : Text) (s : ℕ) (e : Some 
   pub direction-is : has_direction l x ≡ option_map_or (λ (y : Entry). not (is_inner (direction_of y.role))) (slice_get k.entries.now s) false
   direction-is = rw signal-is (sym directed)
 
-  opened : ShowsOpen k l → option_map_or (λ (y : Entry). y.is_open) (slice_get k.entries.now s) false ≡ option_map_or (λ (y : n.Entry). y.is_open) (slice_get l.entries s) false
-  opened o = left (slice_get k.entries.now s) ∙ ap (λ q. option_map_or (λ (b : Bool). b) q false) at ∙ sym (right (slice_get l.entries s))
+  opened : (kind : DeclKind) → ShowsOpen k l → option_map_or (is_again kind) (slice_get k.entries.now s) false ≡ option_map_or (may_be_again kind) (slice_get l.entries s) false
+  opened kind o = go (slice_get k.entries.now s) (slice_get l.entries s) at (entry-is k l h s)
     where
       at : option_map (λ (y : Entry). y.is_open) (slice_get k.entries.now s) ≡ option_map (λ (y : n.Entry). y.is_open) (slice_get l.entries s)
       at = sym (slice_get-map (λ (y : Entry). y.is_open) k.entries.now s) ∙ ap (λ bs. slice_get bs s) o ∙ slice_get-map (λ (y : n.Entry). y.is_open) l.entries s
 
-      left : (o : Option Entry) → option_map_or (λ (y : Entry). y.is_open) o false ≡ option_map_or (λ (b : Bool). b) (option_map (λ (y : Entry). y.is_open) o) false
-      left None = refl
-      left (Some y) = refl
-
-      right : (o : Option n.Entry) → option_map_or (λ (y : n.Entry). y.is_open) o false ≡ option_map_or (λ (b : Bool). b) (option_map (λ (y : n.Entry). y.is_open) o) false
-      right None = refl
-      right (Some y) = refl
+      go : (a : Option Entry) (b : Option n.Entry) → option_map (λ (y : Entry). y.is_open) a ≡ option_map (λ (y : n.Entry). y.is_open) b → option_map seen a ≡ option_map shown b
+          → option_map_or (is_again kind) a false ≡ option_map_or (may_be_again kind) b false
+      go None None e d = refl
+      go None (Some y) e d = absurd (search (rules, e))
+      go (Some x) None e d = absurd (search (rules, e))
+      go (Some x) (Some y) e d = ap₂ (λ p q. p && not (is_reg_kind kind && is_input q)) (some-same x.is_open y.is_open e) (ap (λ (z : Seen). z.direction) (some-same (seen x) (shown y) d))
 
 -- a wire or a register of that name, which is no array
 pub again-is : (k : Look) (l : n.Look) → Shows k l → (x : DeclTree) (s : ℕ) (b : Bool) → ShowsOpen k l → is_inner (direction_by x.kind) ≡ true → is_none x.array ≡ true → Some (m.Signal s) ≡ meant k.names.now x.name
-    → b ≡ option_map_or (λ (y : Entry). y.is_open) (slice_get k.entries.now s) false → cond b (Some s) None ≡ again l x
+    → b ≡ option_map_or (is_again x.kind) (slice_get k.entries.now s) false → cond b (Some s) None ≡ again l x
 again-is k l h x s b o i a e d =
-    sym (ap (λ (c : Bool). cond (c && is_none x.array) (if_open l.entries (meaning l x.name)) None) i
-    ∙ ap (λ (c : Bool). cond (true && c) (if_open l.entries (meaning l x.name)) None) a
-    ∙ ap (if_open l.entries) (signal-is k l h x.name s e)
-    ∙ ap (λ (c : Bool). cond c (Some s) None) (sym (d ∙ opened k l h x.name s e o)))
+    sym (ap (λ (c : Bool). cond (c && is_none x.array) (if_open x.kind l.entries (meaning l x.name)) None) i
+    ∙ ap (λ (c : Bool). cond (true && c) (if_open x.kind l.entries (meaning l x.name)) None) a
+    ∙ ap (if_open x.kind l.entries) (signal-is k l h x.name s e)
+    ∙ ap (λ (c : Bool). cond c (Some s) None) (sym (d ∙ opened k l h x.name s e x.kind o)))
 
 -- ---- declared ranges
 

@@ -3,16 +3,18 @@ use Rattle.std.proofs.Common.{◌≡◌, ℕ, ◌^◌, ◌<◌, max, Bool, true,
 use Rattle.std.specs.Prelude.{is_some, option_map, option_and_then}
 use Rattle.cell_graph.specs.Tree.{bit_at}
 use Rattle.cell_graph.proofs.Words.{is_number, number-lt}
+use Rattle.cdc_base.specs.declared.size.NumberSize.TheVariants as z
 use Rattle.verilog_ast.specs.declared.BinaryOp.{BinaryOp}
 use Rattle.verilog_reading.specs.ExprTree.{ExprTree, number as number_tree, name, index, part, unary, binary, choice, join, repeat, paren}
 use Rattle.flat_meaning.specs.Flat.{unary_size, binary_size, Expr, Number, size}
 use Rattle.flat_meaning.specs.Meaning.{value}
 use Rattle.flat_meaning.specs.Full.{nothing}
 use Rattle.flat_form.specs.View.{unary_of, binary_of}
-use Rattle.flat_unfolding.specs.Outcome.{Broken}
-use Rattle.flat_unfolding.specs.Names.{Param, Meaning, a_param, a_signal, a_memory, an_instance, Look, meaning}
+use Rattle.flat_unfolding.specs.Outcome.{Broken, breaks_if}
+use Rattle.flat_unfolding.specs.Names.{Param, Meaning, a_param, a_signal, a_memory, no_value, Look, meaning}
 use Rattle.flat_unfolding.specs.Constants.{assigned_value, if_counted, both, counted_size, whole, within}
-use Rattle.flat_unfolding.specs.Expressions.{Term, unary_term, binary_term, choice_term, meant_term, judged_whole, whole_number, read}
+use Rattle.flat_unfolding.specs.Signs.{compares_signed}
+use Rattle.flat_unfolding.specs.Expressions.{Term, also, unary_term, binary_term, choice_term, meant_term, judged_whole, whole_number, read}
 use Rattle.flat_unfolding.specs.Formed.{IsFormed}
 use Rattle.flat_unfolding.proofs.Steps.{none_of_both}
 use Rattle.flat_names.specs.Pieces.{is_counted_size}
@@ -36,6 +38,10 @@ judged-size l k n t h = go (k == 32) n refl
     go true (Some m) e b = sym (eqb-true k 32 e)
     go false n e b = h b
 
+-- a binary operator with its rule of signed operands
+abbrev ordered_term : Look → BinaryOp → ExprTree → ExprTree → Term
+ordered_term l op x y = also (binary_term op (read l x) (read l y)) (breaks_if (compares_signed l.names op x y) 307 [])
+
 module _ (l : Look) where
   -- what a counted part has
   abbrev HasSize : ExprTree → Type 0
@@ -49,7 +55,7 @@ module _ (l : Look) where
       go false c = none-some k c
   name-size x (Some (a_signal s)) k c b = none-some k c
   name-size x (Some (a_memory a)) k c b = none-some k c
-  name-size x (Some an_instance) k c b = none-some k c
+  name-size x (Some no_value) k c b = none-some k c
   name-size x None k c b = none-some k c
 
   unary-size : (op : _) (a : ExprTree) (o : Option ℕ) (k : ℕ) → option_map (unary_size (unary_of op)) o ≡ Some k → ((j : ℕ) → o ≡ Some j → (read l a).broken ≡ [] → size (read l a).expr ≡ j)
@@ -81,14 +87,15 @@ module _ (l : Look) where
   judged-has o n t k c h = subst (λ o. (judged_whole l o n t).broken ≡ [] → size (judged_whole l o n t).expr ≡ k) (sym c) (judged-size l k n t h)
 
   counted-size : (e : ExprTree) → HasSize e
-  counted-size (number_tree v w true) k c b = some-same w k c
-  counted-size (number_tree v w false) k c b = none-some k c
+  counted-size (number_tree v w z.Plain) k c b = some-same w k c
+  counted-size (number_tree v w z.Unsized) k c b = none-some k c
+  counted-size (number_tree v w z.Sized) k c b = none-some k c
   counted-size (name x) k c b = name-size x (meaning l x) k c b
   counted-size (index x i) k c b = none-some k c
   counted-size (part x i j) k c b = none-some k c
   counted-size (unary op a) k c b = judged-has (counted_size l.names (unary op a)) (whole l.names (unary op a)) (unary_term op (read l a)) k c (unary-size op a (counted_size l.names a) k c (counted-size a)) b
-  counted-size (binary op x y) k c b = judged-has (counted_size l.names (binary op x y)) (whole l.names (binary op x y)) (binary_term op (read l x) (read l y)) k c
-      (binary-size op x y (counted_size l.names x) (counted_size l.names y) k c (counted-size x) (counted-size y)) b
+  counted-size (binary op x y) k c b = judged-has (counted_size l.names (binary op x y)) (whole l.names (binary op x y)) (ordered_term l op x y) k c
+      (λ w. binary-size op x y (counted_size l.names x) (counted_size l.names y) k c (counted-size x) (counted-size y) (none_of_both (binary_term op (read l x) (read l y)).broken _ w).0) b
   counted-size (choice i x y) k c b = judged-has (counted_size l.names (choice i x y)) (whole l.names (choice i x y)) (choice_term (read l i) (read l x) (read l y)) k c
       (choice-size i x y (counted_size l.names i) (counted_size l.names x) (counted_size l.names y) k c (counted-size x) (counted-size y)) b
   counted-size (join parts) k c b = none-some k c
@@ -109,7 +116,7 @@ module _ (l : Look) where
         go false d c = none-some 32 c
     name-plain x (Some (a_signal s)) e c = none-some 32 c
     name-plain x (Some (a_memory a)) e c = none-some 32 c
-    name-plain x (Some an_instance) e c = none-some 32 c
+    name-plain x (Some no_value) e c = none-some 32 c
     name-plain x None e c = none-some 32 c
 
     judged-plain : (o n : Option ℕ) (t : Term) → o ≡ Some 32 → ((m : ℕ) → n ≡ Some m → within 32 m ≡ Some m) → (judged_whole l o n t).broken ≡ [] → IsPlain (judged_whole l o n t).expr
@@ -120,13 +127,14 @@ module _ (l : Look) where
         go (Some m) h b = (m, refl, h m refl)
 
     counted-plain : (e : ExprTree) → IsFormed e → counted_size l.names e ≡ Some 32 → (read l e).broken ≡ [] → IsPlain (read l e).expr
-    counted-plain (number_tree v w true) f c b = let p = f.3 refl in (v, ap (λ k. Number k v) p.0, ap (λ t. cond t (Some v) None) (lt-ltb v (2 ^ 31) p.1))
-    counted-plain (number_tree v w false) f c b = none-some 32 c
+    counted-plain (number_tree v w z.Plain) f c b = let p = f.3 refl in (v, ap (λ k. Number k v) p.0, ap (λ t. cond t (Some v) None) (lt-ltb v (2 ^ 31) p.1))
+    counted-plain (number_tree v w z.Unsized) f c b = none-some 32 c
+    counted-plain (number_tree v w z.Sized) f c b = none-some 32 c
     counted-plain (name x) f c b = name-plain x (meaning l x) refl c
     counted-plain (index x i) f c b = none-some 32 c
     counted-plain (part x i j) f c b = none-some 32 c
     counted-plain (unary op a) f c b = judged-plain (counted_size l.names (unary op a)) (whole l.names (unary op a)) (unary_term op (read l a)) c (λ m d. (fit l is (unary op a) f).wholes 32 m c d) b
-    counted-plain (binary op x y) f c b = judged-plain (counted_size l.names (binary op x y)) (whole l.names (binary op x y)) (binary_term op (read l x) (read l y)) c (λ m d. (fit l is (binary op x y) f).wholes 32 m c d) b
+    counted-plain (binary op x y) f c b = judged-plain (counted_size l.names (binary op x y)) (whole l.names (binary op x y)) (ordered_term l op x y) c (λ m d. (fit l is (binary op x y) f).wholes 32 m c d) b
     counted-plain (choice i x y) f c b = judged-plain (counted_size l.names (choice i x y)) (whole l.names (choice i x y)) (choice_term (read l i) (read l x) (read l y)) c (λ m d. (fit l is (choice i x y) f).wholes 32 m c d) b
     counted-plain (join parts) f c b = none-some 32 c
     counted-plain (repeat count parts) f c b = none-some 32 c

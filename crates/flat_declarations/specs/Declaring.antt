@@ -1,5 +1,5 @@
 -- Parameters and declarations: what the tables and the answers show of the definition's.
-use Rattle.std.specs.Prelude.{◌≡◌, ℕ, ◌+◌, ◌^◌, ◌<◌, ◌==◌, true, false, nat_lt, List, [], ◌∷◌, ◌++◌, length, map, Option, Some, None, Result, Ok, Err, option_map}
+use Rattle.std.specs.Prelude.{◌≡◌, ℕ, ◌+◌, ◌^◌, ◌<◌, ◌==◌, ◌&&◌, Bool, true, false, not, nat_lt, List, [], ◌∷◌, ◌++◌, length, map, Option, Some, None, Result, Ok, Err, option_map}
 use Rattle.std.specs.Cmp.Lexicographic.{pointwise}
 use Rattle.indexmap.specs.IndexMap.{IndexMap, get_by}
 use Rattle.indexmap.specs.IndexSet.{IndexSet, contains_by}
@@ -7,6 +7,7 @@ use Rattle.cdc_base.specs.declared.fault.Stop.{Stop}
 use Rattle.cdc_base.specs.declared.fault.Stop.TheVariants.{Refused, Memory}
 use Rattle.cdc_base.specs.declared.signal.ResetPin.{ResetPin}
 use Rattle.cdc_base.specs.Words.{found_in, is_in}
+use Rattle.verilog_ast.specs.declared.DeclKind.{DeclKind}
 use Rattle.verilog_reading.specs.SourceTree.{ParamTree, ModuleTree}
 use Rattle.flat_meaning.specs.Flat.{Expr, size}
 use Rattle.flat_form.specs.View.{expr_of}
@@ -16,10 +17,11 @@ use Rattle.flat_unfolding.specs.Names as n
 use Rattle.flat_unfolding.specs.Names.{Range, span, Param, is_declared, Look}
 use Rattle.flat_unfolding.specs.Constants.{assigned_value, within}
 use Rattle.flat_unfolding.specs.Parameters as p
-use Rattle.flat_unfolding.specs.Parameters.{Overrides, range_read, held, value_of, params_of}
-use Rattle.flat_unfolding.specs.Declarations.{Site, header_of, header_twice}
+use Rattle.flat_unfolding.specs.Parameters.{Overrides, range_read, held, value_of, sign_rule, params_of}
+use Rattle.flat_unfolding.specs.Declarations.{Site, is_reg_kind, header_of, header_twice}
+use Rattle.flat_unfolding.specs.Targets.{is_input}
 use Rattle.flat_unfolding.specs.Design.{Design, Stage, look_of}
-use Rattle.flat_names.specs.Looks.{range_of, IsFit}
+use Rattle.flat_names.specs.Looks.{range_of, direction_of, IsFit}
 use Rattle.flat_names.specs.Pieces.{is_counted_size}
 use Rattle.flat_names.specs.Designs.{ShowsDesign, ShowsStage}
 use Rattle.flat_names.specs.declared.scope.Meaning.{Meaning}
@@ -42,7 +44,7 @@ MeetsFit pins table o (Err Memory) d = Unit {0}
 -- ---- parameters
 
 abbrev pub override_of : Override → p.Override
-override_of o = record { value = expr_of o.value; is_counted = o.is_counted }
+override_of o = record { value = expr_of o.value; is_counted = o.is_counted; is_signed = o.is_signed }
 
 -- what a table of overrides has for a parameter's name
 abbrev pub given_in : {S : Type 0} → IndexMap Text Override S → Text → Option Override
@@ -69,10 +71,10 @@ module _ (given : Overrides) (look : Look) (q : ParamTree) where
   valued = value_of look q (p.override_of given q)
 
   abbrev pub parameter_rules : List Broken
-  parameter_rules = breaks_if (is_declared look.names q.name) 304 q.name ++ (range_read look q.name q.range).broken ++ valued.broken
+  parameter_rules = breaks_if (is_declared look.names q.name) 304 q.name ++ (range_read look q.name q.range).broken ++ valued.broken ++ sign_rule q.range valued
 
   abbrev pub parameter_held : Param
-  parameter_held = held (range_read look q.name q.range).range valued.value valued.is_counted
+  parameter_held = held (range_read look q.name q.range).range valued.value valued.is_counted valued.is_signed
 
 -- a parameter of its size
 pub record IsHeld (q : Param) : Type 0 where
@@ -93,6 +95,10 @@ pub record IsAt (a : Declaring) (at : Site) : Type 0 where
 -- which signals may be declared again
 abbrev pub ShowsOpen : scope.Look → Look → Type 0
 ShowsOpen k l = map (λ (x : kept.Entry). x.is_open) k.entries.now ≡ map (λ (x : n.Entry). x.is_open) l.entries
+
+-- whether a signal may be declared once more as a kind that has no direction
+abbrev pub is_again : DeclKind → kept.Entry → Bool
+is_again kind e = e.is_open && not (is_reg_kind kind && is_input (direction_of e.role))
 
 -- what a declaration declares: its range, the signal that it declares again, and its number of words
 abbrev pub Declares : Declared → Option Range → (again words : Option ℕ) → Type 0

@@ -20,7 +20,7 @@ ghost use Rattle.flat_names.specs.declared.design.Entry.{Entry};
 ghost use Rattle.flat_names.specs.Noting.{all_noted};
 ghost use Rattle.flat_names.specs.Looks.{Shows, IsFit, range_of, direction_of, seen, shown};
 ghost use Rattle.flat_names.specs.Designs.{ShowsDesign, ShowsStage, Meets, signal_of};
-ghost use Rattle.flat_declarations.specs.Declaring.{MeetsFit, IsAt, ShowsOpen, Declares, Adds, Heads};
+ghost use Rattle.flat_declarations.specs.Declaring.{MeetsFit, IsAt, ShowsOpen, is_again, Declares, Adds, Heads};
 
 use crate::parameter::{declared_bounds, declared_width, note_declared, range_bounds};
 use cdc_base::limits::MAX_SIGNALS;
@@ -268,7 +268,7 @@ fn has_other_range(look: &Look, decl: &Decl, sig: u32, bounds: Option<Bounds>) -
 }
 
 /// The signal that this declares once more: a plain output of the old style may be declared again as a wire or a
-/// register.
+/// register, a plain input as a wire.
 fn declared_before(look: &Look, decl: &Decl) -> Option<u32>
     ensures { (l : meanings.Look) → Shows look.now l → ShowsOpen look.now l → result ≡ declared_again l (tree_of_decl decl.now) }
 {
@@ -276,17 +276,23 @@ fn declared_before(look: &Look, decl: &Decl) -> Option<u32>
         return None;
     }
     match look.meaning(&decl.name) {
-        Some(Meaning::Signal(sig)) => if is_open(look, sig) { Some(sig) } else { None },
+        Some(Meaning::Signal(sig)) => {
+            if may_be_again(look, sig, decl.kind) {
+                Some(sig)
+            } else {
+                None
+            }
+        }
         _ => None,
     }
 }
 
-/// Whether a signal may be declared once more.
-fn is_open(look: &Look, sig: u32) -> bool
-    ensures { result ≡ option_map_or (λ (x : Entry). x.is_open) (slice_get look.now.entries.now sig) false }
+/// Whether a signal may be declared once more, as this kind.
+fn may_be_again(look: &Look, sig: u32, kind: DeclKind) -> bool
+    ensures { law.is_inner (law.direction_of kind) ≡ true → result ≡ option_map_or (is_again kind) (slice_get look.now.entries.now sig) false }
 {
     match look.entry(sig) {
-        Some(entry) => entry.is_open,
+        Some(entry) => entry.is_open && !(kind == DeclKind::Reg && entry.role == Role::Input),
         None => false,
     }
 }
@@ -320,7 +326,7 @@ fn role_of(kind: DeclKind) -> Role
     }
 }
 
-/// The number of words of a memory. Its bounds are 0 and one less than a power of two from 2 to 64, either of them first.
+/// The number of words of a memory, 2 to 1,024. Its bounds are 0 and one less, either of them first.
 /// Of their own broken rules an unknown name alone is told.
 fn judged_memory(
     look: &Look,
@@ -366,11 +372,11 @@ fn depth_of(bounds: Bounds) -> Option<u32>
     if is_depth(words) { Some(words) } else { None }
 }
 
-/// Whether a memory may have that many words: a power of two from 2 to 64.
+/// Whether a memory may have that many words.
 fn is_depth(words: u32) -> bool
     ensures { result ≡ memories.is_depth words }
 {
-    matches!(words, 2 | 4 | 8 | 16 | 32 | 64)
+    2 <= words && words <= 1024
 }
 
 /// The names of the words count as declared, too.
@@ -415,13 +421,21 @@ fn add_named_signal(
         → Meets pins names.new (law.add_signal s at (tree_of_decl decl.now) (option_map range_of bounds)) result design.new }
     ensures numbered { IfErr result (HasNumberIn unfolding_numbers) }
 {
-    let is_open = decl.kind == DeclKind::Output && !in_header;
+    let is_open = is_plain_port(decl.kind) && !in_header;
     let name = decl.name.as_str();
     let sig = add_signal(declaring, place, name, bounds, decl.kind, is_open, design)?;
     define(declaring.alloc, names, name, Meaning::Signal(sig))?;
     Ok(())
 }
 
+/// Whether an old-style port of this kind may be declared once more.
+fn is_plain_port(kind: DeclKind) -> bool
+    ensures { result ≡ law.is_plain_port kind }
+{
+    matches!(kind, DeclKind::Input | DeclKind::Output)
+}
+
+/// Adds a memory. The printed names of its words are taken, and stand for nothing.
 fn add_memory(
     declaring: &Declaring,
     place: Place,
@@ -446,23 +460,12 @@ fn add_memory(
     for k in 0..words {
         let word = word_name(alloc, decl.name.as_str(), k)?;
         let name = word.as_str();
-        let sig = add_signal(declaring, place, name, bounds, decl.kind, false, design)?;
-        define(alloc, names, name, Meaning::Signal(sig))?;
+        add_signal(declaring, place, name, bounds, decl.kind, false, design)?;
+        define(alloc, names, name, Meaning::NoValue)?;
     }
-    let memory = Memory {
-        first,
-        words,
-        index_width: index_width(words),
-    };
+    let memory = Memory { first, words };
     define(alloc, names, decl.name.as_str(), Meaning::Memory(memory))?;
     Ok(())
-}
-
-/// The size of an index of a memory with that many words.
-fn index_width(words: u32) -> u8
-    ensures { memories.is_depth words ≡ true → 2 ^ result ≡ words }
-{
-    u8::try_from(words.trailing_zeros()).unwrap_or(0)
 }
 
 /// Adds a signal and answers its number.

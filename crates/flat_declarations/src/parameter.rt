@@ -1,11 +1,12 @@
 //! Parameters of a module.
-ghost use Rattle.std.specs.Prelude.{◌≡◌, ◌≤◌, ◌++◌, ◌∷◌, [], true, cond, List, Some, None, IfOk, IfErr, option_map, option_copied};
+ghost use Rattle.std.specs.Prelude.{◌≡◌, ◌^◌, ◌≤◌, ◌&&◌, ◌++◌, ◌∷◌, [], true, cond, nat_le, is_none, List, Some, None, IfOk, IfErr, option_map, option_copied};
 ghost use Rattle.refusals.specs.Numbers.{HasNumberIn, unfolding_numbers};
 ghost use Rattle.cdc_base.specs.declared.signal.ResetPin.{ResetPin};
 ghost use Rattle.cdc_base.specs.Words.{found_in};
 ghost use Rattle.verilog_reading.specs.SourceTree.{maybe, bounds_of as tree_of_range, param_of as tree_of_param, module_of};
 ghost use Rattle.flat_form.specs.View.{expr_of};
 ghost use Rattle.flat_form.specs.Sizes.{is_sized};
+ghost use Rattle.flat_unfolding.specs.Constants as constant;
 ghost use Rattle.flat_unfolding.specs.Names as meanings;
 ghost use Rattle.flat_unfolding.specs.Parameters as law;
 ghost use Rattle.flat_unfolding.specs.Parameters.{Overrides as Given, range_read, bounds_read};
@@ -22,7 +23,8 @@ use cdc_base::{Name, NoMemory, Place, Stop};
 use flat_form::flat::FExpr;
 use flat_form::memory::push;
 use flat_form::size::width_of;
-use flat_form::value::assigned_value;
+use flat_form::value::{assigned_value, own_value};
+use flat_form::whole::MAX_WHOLE;
 use flat_names::design::Design;
 use flat_names::expr::resolve_constant;
 use flat_names::fault::{Faults, Order, Rule};
@@ -37,6 +39,7 @@ use verilog_ast::{ItemBody, Module, ParamDecl, Range};
 pub struct Override {
     pub value: FExpr,
     pub is_counted: bool,
+    pub is_signed: bool,
 }
 
 /// The overrides of an instance, by the names of parameters.
@@ -161,12 +164,41 @@ fn parameter_meaning(
     note_declared(look, &param.name, faults)?;
     let bounds = declared_bounds(look, &param.range, &param.name, faults)?;
     match outer {
-        Some(outer) => Ok(held(bounds, &outer.value, outer.is_counted)),
+        Some(outer) => {
+            note_sign(&param.range, outer.is_signed, &outer.value, faults)?;
+            Ok(held(bounds, &outer.value, outer.is_counted, outer.is_signed))
+        }
         None => {
             let value = resolve_constant(look, &param.value, faults)?;
-            Ok(held(bounds, &value.expr, value.count.is_some()))
+            let is_signed = value.is_sound && value.signs.is_signed;
+            note_sign(&param.range, is_signed, &value.expr, faults)?;
+            let is_counted = value.count.is_some();
+            Ok(held(bounds, &value.expr, is_counted, value.signs.is_signed))
         }
     }
+}
+
+/// Notes a signed value of 2^31 or more, where no range cuts it to its own size.
+fn note_sign(
+    range: &Option<Range>,
+    is_signed: bool,
+    value: &FExpr,
+    faults: &mut Faults,
+) -> Result<(), NoMemory>
+    ensures { (is_signed ≡ true → is_sized value.now ≡ true)
+        → IfOk result (λ _. faults.new ≡ all_noted faults.old (breaks_if (is_none range.now && is_signed && nat_le (2 ^ 31) (constant.own_value (expr_of value.now))) 307 [])) }
+{
+    if range.is_none() && is_signed && is_past_whole(value) {
+        faults.note(Rule::ConstantOutOfRange, "")?;
+    }
+    Ok(())
+}
+
+/// Whether the value of a constant is 2^31 or more.
+fn is_past_whole(value: &FExpr) -> bool
+    ensures { is_sized value.now ≡ true → result ≡ nat_le (2 ^ 31) (constant.own_value (expr_of value.now)) }
+{
+    own_value(value) > MAX_WHOLE
 }
 
 /// The override of a parameter, which a local one has none of.
@@ -187,9 +219,9 @@ pub fn note_declared(look: &Look, name: &Name, faults: &mut Faults) -> Result<()
 }
 
 /// A value as a parameter keeps it: cut to its range where it has one, and else of its own size.
-fn held(bounds: Option<Bounds>, value: &FExpr, is_counted: bool) -> Param
+fn held(bounds: Option<Bounds>, value: &FExpr, is_counted: bool, is_signed: bool) -> Param
     ensures { is_sized value.now ≡ true → meanings.width_of (option_map range_of bounds) ≤ 64
-        → (param_of result ≡ law.held (option_map range_of bounds) (expr_of value.now) is_counted) × IsHeld (param_of result) }
+        → (param_of result ≡ law.held (option_map range_of bounds) (expr_of value.now) is_counted is_signed) × IsHeld (param_of result) }
 {
     match bounds {
         Some(_) => {
@@ -198,6 +230,7 @@ fn held(bounds: Option<Bounds>, value: &FExpr, is_counted: bool) -> Param
                 value: assigned_value(value, width),
                 width,
                 counted: false,
+                signed: false,
                 bounds,
             }
         }
@@ -207,6 +240,7 @@ fn held(bounds: Option<Bounds>, value: &FExpr, is_counted: bool) -> Param
                 value: assigned_value(value, width),
                 width,
                 counted: is_counted,
+                signed: is_signed,
                 bounds,
             }
         }

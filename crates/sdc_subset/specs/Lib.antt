@@ -1,0 +1,10 @@
+pub mod Bytes
+pub mod Commands
+pub mod Marks
+pub mod Words
+pub mod Arguments
+pub mod Forms
+pub mod Readings
+pub mod Pins
+pub mod Groups
+pub mod Meanings
