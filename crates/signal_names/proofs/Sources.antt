@@ -9,7 +9,7 @@ use Rattle.verilog_lex.specs.declared.token.Token.{Token}
 use Rattle.verilog_lex.specs.declared.marks.MarkKind.{MarkKind}
 use Rattle.verilog_reading.specs.Lexemes.{ident}
 use Rattle.verilog_reading.specs.Lists.{AreMore, no_more, one_more, AreMany, none_of, one_of}
-use Rattle.verilog_reading.specs.ItemReading.{is_list, IsListed, Var, IsVar, is_var, Placed, IsPlaced, is_placed, decl_item, param_item, assign_item, gate_item, instance_item, IsItem, is_decls, is_params, is_assigns, is_gates, is_instances, is_always, is_initial, Shape, Entry, is_adecl, IsEntry, long_entry, short_entry, shape_from, ports_from, first_shape, bare, Ports, IsPorts, no_ports, empty_ports, old_ports, ansi_ports, IsModule, is_module, IsSource, is_source}
+use Rattle.verilog_reading.specs.ItemReading.{is_list, IsListed, Var, IsVar, is_var, are_vars, Placed, IsPlaced, is_placed, decl_item, param_item, assign_item, gate_item, instance_item, IsItem, is_decls, is_params, is_assigns, is_gates, is_instances, is_always, is_initial, Shape, Entry, is_adecl, IsEntry, long_entry, short_entry, shape_from, ports_from, first_shape, bare, Ports, IsPorts, no_ports, empty_ports, old_ports, ansi_ports, IsModule, is_module, IsSource, is_source}
 use Rattle.verilog_reading.specs.SourceTree.{DeclTree, PortTree, ItemTree, ModuleTree, joined, source_of}
 use Rattle.verilog_parse.proofs.Kept.{Stand, s_more, front, rest, tail}
 use Rattle.verilog_parse.proofs.Ended.{texts_are_ended, texts_stand}
@@ -56,10 +56,10 @@ quiet_visible make f [] = All-nil IsItemVisible
 quiet_visible make f (x ∷ xs) = All-cons IsItemVisible (make x) (map make xs) (f x) (quiet_visible make f xs)
 
 item_visible : {u : List Token} {is : List ItemTree} → IsItem u is → Stand u → AreItemsVisible is
-item_visible (is_decls {p} {u} {v} {w} {kind} {r = b} x y z) r = made_visible IsVar (decl_item p.place kind b) var_visible z (rest v _ (rest u _ r))
+item_visible (is_decls {p} {u} {v} {kind = kind} {r = b} x y (are_vars {u = d} e z)) r = made_visible IsVar (decl_item p.place kind b) var_visible z (rest d _ (rest v _ (rest u _ r)))
 item_visible (is_params local p {r = b} {xs} y z) r = quiet_visible (param_item p.place local b) (λ a. tt) xs
-item_visible (is_assigns p {xs} z) r = quiet_visible (assign_item p.place) (λ a. tt) xs
-item_visible (is_gates w p {kind} {xs} e z) r = quiet_visible (gate_item p.place kind) (λ a. tt) xs
+item_visible (is_assigns p {xs = xs} d z) r = quiet_visible (assign_item p.place) (λ a. tt) xs
+item_visible (is_gates w p {kind} {xs = xs} e d z) r = quiet_visible (gate_item p.place kind) (λ a. tt) xs
 item_visible (is_instances n {u} {v} {c} y z) r = made_visible IsPlaced (instance_item n.spot.place n.name c) placed_visible z (rest u _ (tail r))
 item_visible (is_always p x y) r = All-cons IsItemVisible _ [] tt (All-nil IsItemVisible)
 item_visible (is_initial p x) r = All-cons IsItemVisible _ [] tt (All-nil IsItemVisible)

@@ -1,5 +1,5 @@
 -- Items, modules and sources that are read of tokens whose numbers fit are formed.
-use Rattle.std.proofs.Common.{ℕ, Bool, true, false, List, [], ◌∷◌, map, Option, Some, None}
+use Rattle.std.proofs.Common.{ℕ, List, [], ◌∷◌, map, Option, Some, None}
 use Rattle.std.specs.Prelude.{All}
 use Rattle.std.proofs.lemmas.List.Elements.{All-append, All-cons, All-head, All-map, All-nil, All-tail}
 use Rattle.verilog_ast.specs.declared.DeclKind.{DeclKind}
@@ -8,7 +8,7 @@ use Rattle.verilog_lex.specs.declared.marks.MarkKind.{MarkKind}
 use Rattle.verilog_reading.specs.ExprTree.{ExprTree}
 use Rattle.verilog_reading.specs.Lists.{AreMany, none_of, one_of}
 use Rattle.verilog_reading.specs.Reading.{IsExpr}
-use Rattle.verilog_reading.specs.ItemReading.{is_list, IsListed, IsMaybeRange, no_range, a_range, IsInit, no_init, an_init, Setting, IsSetting, is_setting, Var, IsVar, is_var, Driven, IsDriven, is_driven, IsGate, plain_gate, named_gate, IsValue, no_value, a_value, IsConn, is_conn, entries, IsConns, is_ordered, is_named, IsOverrides, no_overrides, overrides, Placed, IsPlaced, is_placed, decl_item, param_item, assign_item, gate_item, instance_item, IsItem, is_decls, is_params, is_assigns, is_gates, is_instances, is_always, is_initial, Pdecl, is_long, IsPdecl, long_pdecl, short_pdecl, range_from, params_from, IsHeader, no_header, a_header, IsStart, no_start, a_start, Shape, Entry, is_adecl, IsEntry, long_entry, short_entry, shape_from, port_from, ports_from, first_shape, bare, Ports, IsPorts, no_ports, empty_ports, old_ports, ansi_ports, IsModule, is_module, IsSource, is_source}
+use Rattle.verilog_reading.specs.ItemReading.{is_list, IsListed, IsMaybeRange, no_range, a_range, IsInit, no_init, an_init, Setting, IsSetting, is_setting, Var, IsVar, is_var, are_vars, Driven, IsDriven, is_driven, IsGate, plain_gate, named_gate, IsValue, no_value, a_value, IsConn, is_conn, entries, IsConns, is_ordered, is_named, IsOverrides, no_overrides, overrides, Placed, IsPlaced, is_placed, decl_item, param_item, assign_item, gate_item, instance_item, IsItem, is_decls, is_params, is_assigns, is_gates, is_instances, is_always, is_initial, ParamForm, Pdecl, is_long, IsPdecl, long_pdecl, short_pdecl, form_from, param_by, params_from, first_form, IsHeader, no_header, a_header, IsStart, no_start, a_start, Shape, Entry, is_adecl, IsEntry, long_entry, short_entry, shape_from, port_from, ports_from, first_shape, bare, Ports, IsPorts, no_ports, empty_ports, old_ports, ansi_ports, IsModule, is_module, IsSource, is_source}
 use Rattle.verilog_reading.specs.SourceTree.{Bounds, ParamTree, ConnTree, ConnsTree, ItemTree, ModuleTree, joined}
 use Rattle.flat_unfolding.specs.Formed.{IsFormed, IsFormedIf, IsRangeFormed, IsParamFormed, IsTargetFormed, IsPortFormed, AreConnsFormed, IsBodyFormed, IsModuleFormed, IsSourceFormed}
 use Rattle.source_forms.specs.Numerals.{AreNumerals}
@@ -76,12 +76,12 @@ one_formed : (i : ItemTree) → IsItemFormed i → AreItemsFormed (i ∷ [])
 one_formed i h = All-cons IsItemFormed i [] h (All-nil IsItemFormed)
 
 item_formed : {u : List Token} {is : List ItemTree} → IsItem u is → Fit u → AreItemsFormed is
-item_formed (is_decls {p} {u} {v} {w} {kind} {r = b} x y z) r = let h = bounds_formed y (front v _ (rest u _ r)) in
-    made_formed IsVar (decl_item p.place kind b) (λ u i x s. let f = var_formed u i x s in (h, f.0, f.1)) z (rest v _ (rest u _ r))
+item_formed (is_decls {p} {u} {v} {kind = kind} {r = b} x y (are_vars {u = d} e z)) r = let h = bounds_formed y (front v _ (rest u _ r)) in
+    made_formed IsVar (decl_item p.place kind b) (λ u i x s. let f = var_formed u i x s in (h, f.0, f.1)) z (rest d _ (rest v _ (rest u _ r)))
 item_formed (is_params local p {u} {v} {r = b} y z) r = let h = bounds_formed y (front u _ (tail r)) in
     made_formed IsSetting (param_item p.place local b) (λ u i x s. (h, setting_formed u i x s)) z (rest u _ (tail r))
-item_formed (is_assigns p z) r = made_formed IsDriven (assign_item p.place) driven_formed z (tail r)
-item_formed (is_gates w p {kind} e z) r = made_formed IsGate (gate_item p.place kind) terminals_formed z (tail r)
+item_formed (is_assigns p {u} d z) r = made_formed IsDriven (assign_item p.place) driven_formed z (rest u _ (tail r))
+item_formed (is_gates w p {kind} {u} e d z) r = made_formed IsGate (gate_item p.place kind) terminals_formed z (rest u _ (tail r))
 item_formed (is_instances n {u} {v} {c} y z) r = let h = overrides_formed y (front u _ (tail r)) in
     made_formed IsPlaced (instance_item n.spot.place n.name c) (λ u i x s. (h, placed_formed u i x s)) z (rest u _ (tail r))
 item_formed (is_always p {u} {e} {s} x y) r = one_formed _ (stmt_formed y (rest u _ (tail r)))
@@ -92,31 +92,31 @@ items_formed none_of r = All-nil IsItemFormed
 items_formed (one_of {u} {v} {a} {bs} x y) r = All-append IsItemFormed a (joined bs) (item_formed x (front u _ r)) (items_formed y (rest u _ r))
 
 -- the parameters of a header; a short one is formed where the one before is
+abbrev IsFormFormed : Option ParamForm → Type 0
+IsFormFormed None = Unit {0}
+IsFormFormed (Some f) = IsRangeFormed f.range
+
 abbrev IsPdeclFormed : Pdecl → Type 0
-IsPdeclFormed a = IsRangeFormed a.range × IsFormed a.setting.value
+IsPdeclFormed a = IsFormFormed a.form × IsFormed a.setting.value
 
 pdecl_formed : Gives IsPdecl IsPdeclFormed
-pdecl_formed _ _ (long_pdecl (is_long p {u} {v} {s} x y)) r = (bounds_formed x (front u _ (tail r)), setting_formed v s y (rest u _ (tail r)))
+pdecl_formed _ _ (long_pdecl (is_long local p {u} {v} {s = s} x y)) r = (bounds_formed x (front u _ (tail r)), setting_formed v s y (rest u _ (tail r)))
 pdecl_formed _ _ (short_pdecl {u} {s} y) r = (tt, setting_formed u s y r)
 
-range_from_formed : (before : Option Bounds) (a : Pdecl) → IsRangeFormed before → IsRangeFormed a.range → IsRangeFormed (range_from before a)
-range_from_formed before a h f = go a.long
-  where
-    go : (long : Bool) → IsRangeFormed (range_from before (record { long = long; range = a.range; setting = a.setting }))
-    go true = f
-    go false = h
+form_from_formed : (before : ParamForm) → IsRangeFormed before.range → (o : Option ParamForm) → IsFormFormed o → IsRangeFormed (form_from before o).range
+form_from_formed before h None f = h
+form_from_formed before h (Some s) f = f
 
-params_formed : (before : Option Bounds) → IsRangeFormed before → (bs : List Pdecl) → All IsPdeclFormed bs → All IsParamFormed (params_from before bs)
+params_formed : (before : ParamForm) → IsRangeFormed before.range → (bs : List Pdecl) → All IsPdeclFormed bs → All IsParamFormed (params_from before bs)
 params_formed before f [] h = All-nil IsParamFormed
-params_formed before f (a ∷ bs) h =
-    let p : ParamTree = record { local = false; range = range_from before a; name = a.setting.name; value = a.setting.value } in
-    let d = All-head IsPdeclFormed a bs h in let g = range_from_formed before a f d.0 in
-    All-cons IsParamFormed p (params_from (range_from before a) bs) (g, d.1) (params_formed (range_from before a) g bs (All-tail IsPdeclFormed a bs h))
+params_formed before f (a ∷ bs) h = let s = form_from before a.form in
+    let d = All-head IsPdeclFormed a bs h in let g = form_from_formed before f a.form d.0 in
+    All-cons IsParamFormed (param_by s a.setting) (params_from s bs) (g, d.1) (params_formed s g bs (All-tail IsPdeclFormed a bs h))
 
 header_formed : {u : List Token} {ps : List ParamTree} → IsHeader u ps → Fit u → All IsParamFormed ps
 header_formed no_header r = All-nil IsParamFormed
 header_formed (a_header p q (is_list s {u} {v} {a} {bs} x y)) r = let t = tail (tail r) in
-    params_formed None tt (a ∷ bs) (All-cons IsPdeclFormed a bs (pdecl_formed u a (long_pdecl x) (front u _ t)) (more_formed IsPdecl IsPdeclFormed pdecl_formed y (front v _ (rest u _ t))))
+    params_formed first_form tt (a ∷ bs) (All-cons IsPdeclFormed a bs (pdecl_formed u a (long_pdecl x) (front u _ t)) (more_formed IsPdecl IsPdeclFormed pdecl_formed y (front v _ (rest u _ t))))
 
 -- the ports of a header
 abbrev IsShapeFormed : Option Shape → Type 0

@@ -16,7 +16,7 @@ use Rattle.verilog_reading.specs.Lexemes.{Spot, token_at}
 use Rattle.verilog_reading.specs.ExprTree.{ExprTree}
 use Rattle.verilog_reading.specs.Lists.{AreMore, no_more, one_more}
 use Rattle.verilog_reading.specs.Reading.{IsExpr}
-use Rattle.verilog_reading.specs.ItemReading.{IsList, is_list, IsListed, IsMaybeRange, no_range, a_range, IsInit, no_init, an_init, Setting, IsSetting, is_setting, no_word, is_input, is_output, is_output_reg, IsKind, is_direction, is_wire, is_reg, Var, IsVar, is_var, Driven, IsDriven, is_driven, gate_of, IsGate, plain_gate, named_gate, IsValue, no_value, a_value, IsConn, is_conn, entries, IsConns, is_ordered, is_named, IsOverrides, no_overrides, overrides, Placed, IsPlaced, is_placed, IsEdge, is_positive, is_negative, is_level, separator, IsEvent, is_star, is_star_in, is_edges, item_at, decl_item, param_item, assign_item, gate_item, instance_item, IsItem, is_decls, is_params, is_assigns, is_gates, is_instances, is_always, is_initial}
+use Rattle.verilog_reading.specs.ItemReading.{IsList, is_list, IsListed, IsMaybeRange, no_range, a_range, IsInit, no_init, an_init, Setting, IsSetting, is_setting, no_word, is_input, is_output, is_output_reg, IsKind, is_direction, is_wire, is_reg, Var, IsVar, is_var, no_delay, IsDelayOf, not_delayed, may_delay, are_vars, Driven, IsDriven, is_driven, gate_of, IsGate, plain_gate, named_gate, IsValue, no_value, a_value, IsConn, is_conn, entries, IsConns, is_ordered, is_named, IsOverrides, no_overrides, overrides, Placed, IsPlaced, is_placed, IsEdge, is_positive, is_negative, is_level, separator, IsEvent, is_star, is_star_in, is_edges, item_at, decl_item, param_item, assign_item, gate_item, instance_item, IsItem, is_decls, is_params, is_assigns, is_gates, is_instances, is_always, is_initial}
 use Rattle.verilog_reading.specs.SourceTree.{Bounds, ConnTree, ConnsTree, ordered, named, BodyTree, ItemTree}
 use Rattle.verilog_parse.specs.Printed.{Printed, mark, word, ident, behind, with_commas, separated}
 use Rattle.verilog_parse.specs.Pieces.{expr_pieces, target_pieces, if_any, bounds_pieces, init_pieces, kind_pieces, gate_word, value_pieces, conn_pieces, conns_pieces, overrides_pieces, edge_pieces, event_pieces, body_pieces}
@@ -136,10 +136,18 @@ each_more R make f (one_more p {u} {v} {a} {bs} x y) = one_back (f u a x) (each_
 each_listed : {A : Type 0} (R : List Token → A → Type 0) (make : A → ItemTree) → OneBack R make → {u : List Token} {xs : List A} → IsListed Semicolon R u xs → EachBack (map make xs)
 each_listed R make f (is_list q {u} {v} {a} {bs} x y) = one_back (f u a x) (each_more R make f y)
 
+-- a delay is not printed
+undelayed : (kind : DeclKind) → IsDelayOf kind []
+undelayed Input = not_delayed refl
+undelayed Output = not_delayed refl
+undelayed OutputReg = not_delayed refl
+undelayed Wire = may_delay refl no_delay
+undelayed Reg = not_delayed refl
+
 decl_back : (p : Place) (kind : DeclKind) {w : List Token} {r : Option Bounds} → IsMaybeRange w r → {u : List Token} {x : Var} → IsVar u x → Back (IsBody (decl_item p kind r x).body) (body_pieces (decl_item p kind r x).body)
 decl_back p kind {w} {r} y {u} {x} z = let R = if_any bounds_pieces r in let V = ident x.name ++ (if_any bounds_pieces x.array ++ init_pieces x.init) in
     grouped (kind_pieces kind) (R ++ V) (mark Semicolon) (at_part (back_kind kind) (λ u q. grouped R V (mark Semicolon) (at_part (back_maybe_range y) (λ v a. at_part (back_var z) (λ w b.
-    at_last (λ s. (q.0.place, is_decls q.1 a (is_list s b no_more))))))))
+    at_last (λ s. (q.0.place, is_decls q.1 a (are_vars (undelayed kind) (is_list s b no_more)))))))))
 
 param_back : (p : Place) (local : Bool) {w : List Token} {r : Option Bounds} → IsMaybeRange w r → {u : List Token} {x : Setting} → IsSetting u x → Back (IsBody (param_item p local r x).body) (body_pieces (param_item p local r x).body)
 param_back p local {w} {r} y {u} {x} z = let R = if_any bounds_pieces r in
@@ -147,20 +155,20 @@ param_back p local {w} {r} y {u} {x} z = let R = if_any bounds_pieces r in
     at_last (λ s. (t.place, is_params local t a (is_list s b no_more)))))))
 
 assign_back : (p : Place) {u : List Token} {x : Driven} → IsDriven u x → Back (IsBody (assign_item p x).body) (body_pieces (assign_item p x).body)
-assign_back p {u} {x} y = at_token (λ t. ungrouped (target_pieces x.target) (mark Equals ++ expr_pieces x.value) (mark Semicolon) (at_part (back_driven y) (λ v a. at_last (λ s. (t.place, is_assigns t (is_list s a no_more))))))
+assign_back p {u} {x} y = at_token (λ t. ungrouped (target_pieces x.target) (mark Equals ++ expr_pieces x.value) (mark Semicolon) (at_part (back_driven y) (λ v a. at_last (λ s. (t.place, is_assigns t no_delay (is_list s a no_more))))))
 
 gate_item_back : (p : Place) (kind : GateKind) {u : List Token} {es : List ExprTree} → IsGate u es → Back (IsBody (gate_item p kind es).body) (body_pieces (gate_item p kind es).body)
 gate_item_back p kind {u} {es} y = at_token (λ t. ungrouped (mark ParenOpen ++ with_commas (map expr_pieces es)) (mark ParenClose) (mark Semicolon) (at_part (back_gate y) (λ v a.
-    at_last (λ s. (t.place, is_gates (gate_word kind) t (gate_back kind) (is_list s a no_more))))))
+    at_last (λ s. (t.place, is_gates (gate_word kind) t (gate_back kind) no_delay (is_list s a no_more))))))
 
 instance_back : (p : Place) (child : List ℕ) {w : List Token} {c : ConnsTree} → IsOverrides w c → {u : List Token} {x : Placed} → IsPlaced u x → Back (IsBody (instance_item p child c x).body) (body_pieces (instance_item p child c x).body)
 instance_back p child {w} {c} y z = at_token (λ t. at_part (back_overrides y) (λ v a. at_part (back_placed z) (λ w b. at_last (λ s. (t.place, is_instances (record { name = child; spot = t }) a (is_list s b no_more))))))
 
 pub back_items : {u : List Token} {xs : List ItemTree} → IsItem u xs → EachBack xs
-back_items (is_decls {p} {u} {v} {w} {kind} {r} x y z) = each_listed IsVar (decl_item p.place kind r) (λ u a x. decl_back p.place kind y x) z
+back_items (is_decls {p} {u} {v} {kind = kind} {r = r} x y (are_vars d z)) = each_listed IsVar (decl_item p.place kind r) (λ u a x. decl_back p.place kind y x) z
 back_items (is_params local p {u} {v} {r} y z) = each_listed IsSetting (param_item p.place local r) (λ u a x. param_back p.place local y x) z
-back_items (is_assigns p z) = each_listed IsDriven (assign_item p.place) (λ u a x. assign_back p.place x) z
-back_items (is_gates w p {kind} e z) = each_listed IsGate (gate_item p.place kind) (λ u a x. gate_item_back p.place kind x) z
+back_items (is_assigns p d z) = each_listed IsDriven (assign_item p.place) (λ u a x. assign_back p.place x) z
+back_items (is_gates w p {kind} e d z) = each_listed IsGate (gate_item p.place kind) (λ u a x. gate_item_back p.place kind x) z
 back_items (is_instances n {u} {v} {c} y z) = each_listed IsPlaced (instance_item n.spot.place n.name c) (λ u a x. instance_back n.spot.place n.name y x) z
 back_items (is_always p x y) = one_back (at_token (λ t. at_part (back_event x) (λ u a. at_all (back_stmt y) (λ v b. (t.place, is_always t a b))))) none_back
 back_items (is_initial p x) = one_back (at_token (λ t. at_all (back_stmt x) (λ v b. (t.place, is_initial t b)))) none_back

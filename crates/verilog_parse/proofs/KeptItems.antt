@@ -14,7 +14,7 @@ use Rattle.verilog_reading.specs.Lexemes.{token_at}
 use Rattle.verilog_reading.specs.ExprTree.{ExprTree}
 use Rattle.verilog_reading.specs.Lists.{AreMore, no_more, one_more, AreMany, none_of, one_of}
 use Rattle.verilog_reading.specs.Reading.{IsExpr}
-use Rattle.verilog_reading.specs.ItemReading.{IsList, is_list, IsListed, IsMaybeRange, no_range, a_range, IsInit, no_init, an_init, Setting, IsSetting, is_setting, Var, IsVar, is_var, Driven, IsDriven, is_driven, IsGate, plain_gate, named_gate, IsValue, no_value, a_value, IsConn, is_conn, entries, IsConns, is_ordered, is_named, IsOverrides, no_overrides, overrides, Placed, IsPlaced, is_placed, IsEdge, is_positive, is_negative, is_level, separator, IsEvent, is_star, is_star_in, is_edges, decl_item, param_item, assign_item, gate_item, instance_item, IsItem, is_decls, is_params, is_assigns, is_gates, is_instances, is_always, is_initial, Pdecl, is_long, IsPdecl, long_pdecl, short_pdecl, range_from, params_from, IsHeader, no_header, a_header, IsStart, no_start, a_start, Shape, Entry, is_adecl, IsEntry, long_entry, short_entry, shape_from, port_from, ports_from, first_shape, IsName, a_name, bare, Ports, IsPorts, no_ports, empty_ports, old_ports, ansi_ports, IsModule, is_module, IsSource, is_source}
+use Rattle.verilog_reading.specs.ItemReading.{IsList, is_list, IsListed, IsMaybeRange, no_range, a_range, IsInit, no_init, an_init, Setting, IsSetting, is_setting, Var, IsVar, is_var, are_vars, Driven, IsDriven, is_driven, IsGate, plain_gate, named_gate, IsValue, no_value, a_value, IsConn, is_conn, entries, IsConns, is_ordered, is_named, IsOverrides, no_overrides, overrides, Placed, IsPlaced, is_placed, IsEdge, is_positive, is_negative, is_level, separator, IsEvent, is_star, is_star_in, is_edges, decl_item, param_item, assign_item, gate_item, instance_item, IsItem, is_decls, is_params, is_assigns, is_gates, is_instances, is_always, is_initial, ParamForm, Pdecl, is_long, IsPdecl, long_pdecl, short_pdecl, form_from, params_from, first_form, IsHeader, no_header, a_header, IsStart, no_start, a_start, Shape, Entry, is_adecl, IsEntry, long_entry, short_entry, shape_from, port_from, ports_from, first_shape, IsName, a_name, bare, Ports, IsPorts, no_ports, empty_ports, old_ports, ansi_ports, IsModule, is_module, IsSource, is_source}
 use Rattle.verilog_reading.specs.SourceTree.{Bounds, ParamTree, ConnTree, ConnsTree, ordered, named, ItemTree, ModuleTree, joined}
 use Rattle.verilog_parse.specs.Printed.{Printed, mark, word, ident, behind, with_commas, separated, in_turn}
 use Rattle.verilog_parse.specs.Pieces.{expr_pieces, target_pieces, if_any, bounds_pieces, init_pieces, kind_pieces, value_pieces, conn_pieces, conns_pieces, overrides_pieces, edge_pieces, event_pieces, body_pieces, item_pieces, param_pieces, header_pieces, decl_pieces, is_short, port_pieces, module_pieces, source_pieces}
@@ -114,12 +114,12 @@ kept_placed : {u : List Token} {i : Placed} → IsPlaced u i → Stand u → Wri
 kept_placed (is_placed n x) (s_more h r) = w_token h (both (kept_conns x r) (w_mark w_end))
 
 kept_item : {u : List Token} {xs : List ItemTree} → IsItem u xs → Stand u → Lines xs
-kept_item (is_decls {p} {u} {v} {w} {kind} {r = b} x y z) r = let m = kept_maybe_range y (front v _ (rest u _ r)) in
-    lines_listed IsVar (decl_item p.place kind b) (λ u a x r. both (both (kind_written kind) (both m (kept_var x r))) (w_mark w_end)) z (rest v _ (rest u _ r))
+kept_item (is_decls {p} {u} {v} {kind = kind} {r = b} x y (are_vars {u = d} e z)) r = let m = kept_maybe_range y (front v _ (rest u _ r)) in
+    lines_listed IsVar (decl_item p.place kind b) (λ u a x r. both (both (kind_written kind) (both m (kept_var x r))) (w_mark w_end)) z (rest d _ (rest v _ (rest u _ r)))
 kept_item (is_params local p {u} {v} {r = b} y z) (s_more h r) = let m = kept_maybe_range y (front u _ r) in
     lines_listed IsSetting (param_item p.place local b) (λ u a x r. w_word (both (both m (kept_setting x r)) (w_mark w_end))) z (rest u _ r)
-kept_item (is_assigns p z) (s_more h r) = lines_listed IsDriven (assign_item p.place) (λ u a x r. w_word (kept_driven x r)) z r
-kept_item (is_gates w p {kind} e z) (s_more h r) = lines_listed IsGate (gate_item p.place kind) (λ u a x r. w_word (w_mark (both (kept_terminals x r) (w_mark (w_mark w_end))))) z r
+kept_item (is_assigns p {u} d z) (s_more h r) = lines_listed IsDriven (assign_item p.place) (λ u a x r. w_word (kept_driven x r)) z (rest u _ r)
+kept_item (is_gates w p {kind} {u} e d z) (s_more h r) = lines_listed IsGate (gate_item p.place kind) (λ u a x r. w_word (w_mark (both (kept_terminals x r) (w_mark (w_mark w_end))))) z (rest u _ r)
 kept_item (is_instances n {u} {v} {c} y z) (s_more h r) = let m = kept_overrides y (front u _ r) in
     lines_listed IsPlaced (instance_item n.spot.place n.name c) (λ u a x r. w_token h (both m (kept_placed x r))) z (rest u _ r)
 kept_item (is_always p {u} {v} x y) (s_more h r) = both (both (w_word (both (kept_event x (front u _ r)) (kept_stmt y (rest u _ r)))) (w_line w_end)) w_end
@@ -140,23 +140,23 @@ kept_items (one_of {u} {v} {a} {bs} x y) r = lines_both a (joined bs) (kept_item
 abbrev RangeWritten : Option Bounds → Type 0
 RangeWritten b = Written false false (if_any bounds_pieces b)
 
-range_kept : {u : List Token} {a : Pdecl} (before : Option Bounds) → RangeWritten before → IsPdecl u a → Stand u → RangeWritten (range_from before a)
-range_kept before w (long_pdecl (is_long p {u} {v} x y)) (s_more h r) = kept_maybe_range x (front u _ r)
+range_kept : {u : List Token} {a : Pdecl} (before : ParamForm) → RangeWritten before.range → IsPdecl u a → Stand u → RangeWritten (form_from before a.form).range
+range_kept before w (long_pdecl (is_long local p {u} {v} x y)) (s_more h r) = kept_maybe_range x (front u _ r)
 range_kept before w (short_pdecl y) r = w
 
 pdecl_setting_kept : {u : List Token} {a : Pdecl} → IsPdecl u a → Stand u → Written false true (ident a.setting.name ++ (mark Equals ++ expr_pieces a.setting.value))
-pdecl_setting_kept (long_pdecl (is_long p {u} {v} x y)) (s_more h r) = kept_setting y (rest u _ r)
+pdecl_setting_kept (long_pdecl (is_long local p {u} {v} x y)) (s_more h r) = kept_setting y (rest u _ r)
 pdecl_setting_kept (short_pdecl y) r = kept_setting y r
 
-kept_pdecls : {u : List Token} {bs : List Pdecl} (before : Option Bounds) → RangeWritten before → AreMore (token_at (Mark Comma)) IsPdecl u bs → Stand u → Written true true (behind (mark Comma) (map param_pieces (params_from before bs)))
+kept_pdecls : {u : List Token} {bs : List Pdecl} (before : ParamForm) → RangeWritten before.range → AreMore (token_at (Mark Comma)) IsPdecl u bs → Stand u → Written true true (behind (mark Comma) (map param_pieces (params_from before bs)))
 kept_pdecls before w no_more r = w_still
 kept_pdecls before w (one_more p {u} {v} {a} {bs} x y) (s_more h r) = let m = range_kept before w x (front u _ r) in
-    w_mark (both (w_word (both m (pdecl_setting_kept x (front u _ r)))) (kept_pdecls (range_from before a) m y (rest u _ r)))
+    w_mark (both (w_word (both m (pdecl_setting_kept x (front u _ r)))) (kept_pdecls (form_from before a.form) m y (rest u _ r)))
 
 kept_header : {u : List Token} {ps : List ParamTree} → IsHeader u ps → Stand u → Written false false (header_pieces ps)
 kept_header no_header r = w_end
-kept_header (a_header p q (is_list t {u} {v} {a} {bs} x y)) (s_more h (s_more g r)) = let m = range_kept None w_end (long_pdecl x) (front u _ r) in
-    w_mark (w_mark (both (both (w_word (both m (pdecl_setting_kept (long_pdecl x) (front u _ r)))) (kept_pdecls (range_from None a) m y (front v _ (rest u _ r)))) (w_mark w_end)))
+kept_header (a_header p q (is_list t {u} {v} {a} {bs} x y)) (s_more h (s_more g r)) = let m = range_kept first_form w_end (long_pdecl x) (front u _ r) in
+    w_mark (w_mark (both (both (w_word (both m (pdecl_setting_kept (long_pdecl x) (front u _ r)))) (kept_pdecls (form_from first_form a.form) m y (front v _ (rest u _ r)))) (w_mark w_end)))
 
 head : {t : Token} {ts : List Token} → Stand (t ∷ ts) → CanStand t.kind
 head (s_more h r) = h

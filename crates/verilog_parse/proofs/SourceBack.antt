@@ -11,7 +11,7 @@ use Rattle.verilog_lex.specs.Tokens.{tokens_of}
 use Rattle.verilog_reading.specs.Lexemes.{Spot, token_at, closing}
 use Rattle.verilog_reading.specs.ExprTree.{ExprTree}
 use Rattle.verilog_reading.specs.Lists.{AreMore, no_more, one_more, AreMany, none_of, one_of}
-use Rattle.verilog_reading.specs.ItemReading.{IsList, is_list, IsMaybeRange, no_range, IsInit, no_init, an_init, IsSetting, no_word, IsDirection, is_input, is_output, is_output_reg, item_at, IsItem, Pdecl, IsLongPdecl, is_long, IsPdecl, long_pdecl, short_pdecl, range_from, params_from, IsHeader, no_header, a_header, IsStart, no_start, a_start, Shape, Entry, IsAdecl, is_adecl, IsEntry, long_entry, short_entry, shape_from, port_from, ports_from, first_shape, IsName, a_name, bare, Ports, IsPorts, no_ports, empty_ports, old_ports, ansi_ports, IsModule, is_module, IsSource, is_source}
+use Rattle.verilog_reading.specs.ItemReading.{IsList, is_list, IsMaybeRange, no_range, IsInit, no_init, an_init, IsSetting, no_word, IsDirection, is_input, is_output, is_output_reg, item_at, IsItem, ParamForm, Pdecl, IsLongPdecl, is_long, IsPdecl, long_pdecl, short_pdecl, form_from, param_by, params_from, first_form, IsHeader, no_header, a_header, IsStart, no_start, a_start, Shape, Entry, IsAdecl, is_adecl, IsEntry, long_entry, short_entry, shape_from, port_from, ports_from, first_shape, IsName, a_name, bare, Ports, IsPorts, no_ports, empty_ports, old_ports, ansi_ports, IsModule, is_module, IsSource, is_source}
 use Rattle.verilog_reading.specs.SourceTree.{Bounds, ParamTree, ItemTree, ModuleTree, joined, most, param_height, port_height, item_height, module_height, source_height}
 use Rattle.verilog_parse.specs.Printed.{Printed, bytes_of, mark, word, ident, new_line, behind, with_commas, in_turn}
 use Rattle.verilog_parse.specs.Pieces.{if_any, bounds_pieces, init_pieces, param_pieces, kind_pieces, decl_pieces, item_pieces, body_pieces, header_pieces, is_short, port_pieces, module_pieces, source_pieces}
@@ -30,39 +30,40 @@ abbrev RangeBack : Option Bounds → Type 0
 RangeBack r = Back (λ v. IsMaybeRange v r) (if_any bounds_pieces r)
 
 -- a parameter in its long form
-abbrev again_pdecls : Option Bounds → List Pdecl → List Pdecl
+abbrev again_pdecls : ParamForm → List Pdecl → List Pdecl
 again_pdecls before [] = []
-again_pdecls before (a ∷ bs) = record { long = true; range = range_from before a; setting = a.setting } ∷ again_pdecls (range_from before a) bs
+again_pdecls before (a ∷ bs) = let f = form_from before a.form in record { form = Some f; setting = a.setting } ∷ again_pdecls f bs
 
-pdecl_range : {u : List Token} {a : Pdecl} {before : Option Bounds} → RangeBack before → IsPdecl u a → RangeBack (range_from before a)
-pdecl_range b (long_pdecl (is_long p x y)) = back_maybe_range x
-pdecl_range b (short_pdecl y) = b
+pdecl_range : {u : List Token} {a : Pdecl} (before : ParamForm) → RangeBack before.range → IsPdecl u a → RangeBack (form_from before a.form).range
+pdecl_range before b (long_pdecl (is_long local p x y)) = back_maybe_range x
+pdecl_range before b (short_pdecl y) = b
 
 pdecl_setting : {u : List Token} {a : Pdecl} → IsPdecl u a → (v : List Token) × IsSetting v a.setting
-pdecl_setting (long_pdecl (is_long p {u} {v} x y)) = (v, y)
+pdecl_setting (long_pdecl (is_long local p {u} {v} x y)) = (v, y)
 pdecl_setting (short_pdecl {u} y) = (u, y)
 
-pdecl_back : {u : List Token} {a : Pdecl} (before : Option Bounds) → RangeBack before → IsPdecl u a
-    → Back (λ v. IsLongPdecl v (record { long = true; range = range_from before a; setting = a.setting })) (param_pieces (record { local = false; range = range_from before a; name = a.setting.name; value = a.setting.value }))
-pdecl_back before b x = at_token (λ s. at_part (pdecl_range b x) (λ u r. at_all (back_setting (pdecl_setting x).1) (λ v y. is_long s r y)))
+pdecl_back : {u : List Token} {a : Pdecl} (before : ParamForm) → RangeBack before.range → IsPdecl u a
+    → Back (λ v. IsLongPdecl v (record { form = Some (form_from before a.form); setting = a.setting })) (param_pieces (param_by (form_from before a.form) a.setting))
+pdecl_back {u} {a} before b x = at_token (λ s. at_part (pdecl_range before b x) (λ u r. at_all (back_setting (pdecl_setting x).1) (λ v y. is_long (form_from before a.form).local s r y)))
 
-pdecls_back : {u : List Token} {bs : List Pdecl} (before : Option Bounds) → RangeBack before → AreMore (token_at (Mark Comma)) IsPdecl u bs
+pdecls_back : {u : List Token} {bs : List Pdecl} (before : ParamForm) → RangeBack before.range → AreMore (token_at (Mark Comma)) IsPdecl u bs
     → Back (λ v. AreMore (token_at (Mark Comma)) IsPdecl v (again_pdecls before bs)) (behind (mark Comma) (map param_pieces (params_from before bs)))
 pdecls_back before b no_more = at_end no_more
-pdecls_back before b (one_more p {u} {v} {a} {bs} x y) = at_token (λ s. at_part (pdecl_back before b x) (λ u l. at_all (pdecls_back (range_from before a) (pdecl_range b x) y) (λ v m. one_more s (long_pdecl l) m)))
+pdecls_back before b (one_more p {u} {v} {a} {bs} x y) = at_token (λ s. at_part (pdecl_back before b x) (λ u l. at_all (pdecls_back (form_from before a.form) (pdecl_range before b x) y) (λ v m. one_more s (long_pdecl l) m)))
 
-same_params : (x before : Option Bounds) (bs : List Pdecl) → params_from x (again_pdecls before bs) ≡ params_from before bs
+same_params : (x before : ParamForm) (bs : List Pdecl) → params_from x (again_pdecls before bs) ≡ params_from before bs
 same_params x before [] = refl
-same_params x before (a ∷ bs) = ap (λ z. record { local = false; range = range_from before a; name = a.setting.name; value = a.setting.value } ∷ z) (same_params (range_from before a) (range_from before a) bs)
+same_params x before (a ∷ bs) = let f = form_from before a.form in ap (λ z. param_by f a.setting ∷ z) (same_params f f bs)
 
 header_back : {u : List Token} {ps : List ParamTree} → IsHeader u ps → Back (λ v. IsHeader v ps) (header_pieces ps)
 header_back no_header = at_end no_header
 header_back (a_header p q (is_list r {u} {v} {a} {bs} x y)) =
-    let first = param_pieces (record { local = false; range = range_from None a; name = a.setting.name; value = a.setting.value }) in
-    let others = behind (mark Comma) (map param_pieces (params_from (range_from None a) bs)) in
-    at_all {Q = λ v. IsHeader v (params_from None (again_pdecls None (a ∷ bs)))} (at_token (λ s. at_token (λ t. grouped first others (mark ParenClose)
-    (at_part (pdecl_back None (at_end no_range) (long_pdecl x)) (λ u l. at_part (pdecls_back (range_from None a) (pdecl_range {before = None} (at_end no_range) (long_pdecl x)) y) (λ v m. at_last (λ e. a_header s t (is_list e l m))))))))
-    (λ v h. subst (λ z. IsHeader v z) (same_params None None (a ∷ bs)) h)
+    let f = form_from first_form a.form in
+    let first = param_pieces (param_by f a.setting) in
+    let others = behind (mark Comma) (map param_pieces (params_from f bs)) in
+    at_all {Q = λ v. IsHeader v (params_from first_form (again_pdecls first_form (a ∷ bs)))} (at_token (λ s. at_token (λ t. grouped first others (mark ParenClose)
+    (at_part (pdecl_back first_form (at_end no_range) (long_pdecl x)) (λ u l. at_part (pdecls_back f (pdecl_range first_form (at_end no_range) (long_pdecl x)) y) (λ v m. at_last (λ e. a_header s t (is_list e l m))))))))
+    (λ v h. subst (λ z. IsHeader v z) (same_params first_form first_form (a ∷ bs)) h)
 
 -- the kinds that a port may have
 abbrev is_port : DeclKind → Bool
