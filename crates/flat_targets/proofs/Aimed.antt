@@ -176,15 +176,15 @@ is_plain None = true
 is_plain (Some (a_signal s)) = false
 is_plain (Some (n.a_memory a)) = false
 is_plain (Some (n.a_param p)) = true
-is_plain (Some n.an_instance) = true
+is_plain (Some n.no_value) = true
 
 plain-range : (l : n.Look) (u : Use) (x : Text) (o : Option Range) (v : Option n.Meaning) → is_plain v ≡ true → t.meant_range l u x o v ≡ nowhere []
 plain-range l u x None None e = refl
 plain-range l u x (Some p) None e = refl
 plain-range l u x None (Some (n.a_param p)) e = refl
 plain-range l u x (Some q) (Some (n.a_param p)) e = refl
-plain-range l u x None (Some n.an_instance) e = refl
-plain-range l u x (Some q) (Some n.an_instance) e = refl
+plain-range l u x None (Some n.no_value) e = refl
+plain-range l u x (Some q) (Some n.no_value) e = refl
 plain-range l u x o (Some (a_signal s)) e = absurd (false≢true e)
 plain-range l u x o (Some (n.a_memory a)) e = absurd (false≢true e)
 

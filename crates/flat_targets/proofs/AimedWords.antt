@@ -1,5 +1,5 @@
 -- Targets by names, from what is told of their parts: parts, bits and words of memories.
-use Rattle.std.proofs.Common.{◌≡◌, ◌≢◌, ℕ, suc, ◌+◌, ◌*◌, ◌^◌, ◌<◌, ◌≤◌, Bool, true, false, not, cond, ◌==◌, nat_lt, List, [], ◌++◌, Option, Some, None, refl, sym, ap, ap₂, subst, ◌∙◌, arith, append_assoc, eqb-true, eq-eqb}
+use Rattle.std.proofs.Common.{◌≡◌, ◌≢◌, ℕ, suc, ◌+◌, ◌*◌, ◌^◌, ◌<◌, ◌≤◌, Bool, true, false, not, cond, nat_lt, nat_le, List, [], ◌++◌, Option, Some, None, refl, sym, ap, ap₂, subst, ◌∙◌, arith, append_assoc}
 use Rattle.std.specs.Prelude.{option_and_then}
 use Rattle.std.specs.Option.{option_map_or}
 use Rattle.verilog_ast.specs.declared.Target.{Target}
@@ -7,8 +7,6 @@ use Rattle.verilog_ast.specs.declared.Target.TheOpen.{Target-F}
 use Rattle.verilog_ast.specs.declared.Target.TheFolds.{fold-roll-Target}
 use Rattle.verilog_ast.specs.declared.Target.TheVariants as v
 use Rattle.verilog_reading.specs.ExprTree.{TargetTree, TargetTrees, join_of, target_tree_step, target_tree_of}
-use Rattle.std.proofs.Math.Pow.{pow_mono}
-use Rattle.std.proofs.lemmas.Nat.{pow_pos}
 use Rattle.flat_meaning.specs.Flat.{size}
 use Rattle.flat_meaning.proofs.Words.{by_lt}
 use Rattle.flat_form.specs.declared.flat.FExpr.{FExpr}
@@ -67,46 +65,22 @@ memory_step l u x b v c d = cond c (fixed (t.word_aim l u x (word_of b (own_valu
 
 pub memory-constant : (l : n.Look) (u : Use) (x : Text) (b : n.Memory) (v : Term) (i : Resolved) → IsRead v i → i.is_sound ≡ true → i.is_constant ≡ true
     → (w : ℕ) → w ≡ own_value (expr_of i.expr) → (o : Option ℕ) → o ≡ word_of b w → t.memory_goal l u x b v ≡ fixed (t.word_aim l u x o)
-memory-constant l u x b v i is sound const w we o oe = ap (λ c. memory_step l u x b v c (2 ^ size v.expr == b.words)) (sym is.constant ∙ const)
+memory-constant l u x b v i is sound const w we o oe = ap (λ c. memory_step l u x b v c (nat_le (2 ^ size v.expr) b.words)) (sym is.constant ∙ const)
     ∙ ap (λ o. fixed (t.word_aim l u x o)) (sym (oe ∙ ap (word_of b) (we ∙ ap own_value (is.expr sound))))
-
-less-apart : (j k : ℕ) → j < k → 2 ^ j < 2 ^ k
-less-apart j k h = let p : 2 ^ (suc j) ≤ 2 ^ k = pow_mono (let q : suc j ≤ k = omega arith in q) in let s = pow_pos j in let d : 2 ^ (suc j) ≡ 2 * 2 ^ j = grind arith in omega arith
-
-pow-apart : (j k : ℕ) → j ≢ k → 2 ^ j ≡ 2 ^ k → ⊥
-pow-apart j k h e = by_lt (λ c. ⊥) j k (λ l. let p = less-apart j k l in omega arith) (λ l. by_lt (λ c. ⊥) k j (λ g. let p = less-apart k j g in omega arith) (λ g. h (omega arith)))
-
-pow-differ : (j k : ℕ) → j ≢ k → (2 ^ j == 2 ^ k) ≡ false
-pow-differ j k h = go (2 ^ j == 2 ^ k) refl
-  where
-    go : (c : Bool) → (2 ^ j == 2 ^ k) ≡ c → c ≡ false
-    go true e = absurd (pow-apart j k h (eqb-true (2 ^ j) (2 ^ k) e))
-    go false e = refl
 
 size-is : (v : Term) (i : Resolved) → IsRead v i → i.is_sound ≡ true → (w : ℕ) → w ≡ (kept_of i.expr).width → w ≡ size v.expr
 size-is v i is sound w we = we ∙ sized_width i.expr (is.sized sound) ∙ ap size (is.expr sound)
 
-pub memory-miss : (l : n.Look) (u : Use) (x : Text) (b : n.Memory) (v : Term) (i : Resolved) → IsRead v i → i.is_sound ≡ true → i.is_constant ≡ false
-    → (w k : ℕ) → w ≡ (kept_of i.expr).width → 2 ^ k ≡ b.words → w ≢ k → t.memory_goal l u x b v ≡ fixed (nowhere (breaks 315 x))
-memory-miss l u x b v i is sound const w k we ke h = ap (λ c. memory_step l u x b v c (2 ^ size v.expr == b.words)) (sym is.constant ∙ const)
-    ∙ ap (memory_step l u x b v false) (ap₂ (λ p q. 2 ^ p == q) (sym (size-is v i is sound w we)) (sym ke) ∙ pow-differ w k h)
-
-pub memory-meets : (l : n.Look) (u : Use) (x : Text) (b : n.Memory) (v : Term) (i : Resolved) → IsRead v i → i.is_sound ≡ true → i.is_constant ≡ false
-    → (w k : ℕ) → w ≡ (kept_of i.expr).width → 2 ^ k ≡ b.words → w ≡ k → t.memory_goal l u x b v ≡ a_word b v.expr []
-memory-meets l u x b v i is sound const w k we ke h = ap (λ c. memory_step l u x b v c (2 ^ size v.expr == b.words)) (sym is.constant ∙ const)
-    ∙ ap (memory_step l u x b v false) (eq-eqb _ _ (ap (λ p. 2 ^ p) (sym (size-is v i is sound w we) ∙ h) ∙ ke))
+-- whether a variable index of this size chooses among words that are all there
+pub memory-variable : (l : n.Look) (u : Use) (x : Text) (b : n.Memory) (v : Term) (i : Resolved) → IsRead v i → i.is_sound ≡ true → i.is_constant ≡ false
+    → (w : ℕ) → w ≡ (kept_of i.expr).width → (meets : Bool) → meets ≡ nat_le (2 ^ w) b.words → t.memory_goal l u x b v ≡ cond meets (a_word b v.expr []) (fixed (nowhere (breaks 315 x)))
+memory-variable l u x b v i is sound const w we meets me = ap (λ c. memory_step l u x b v c (nat_le (2 ^ size v.expr) b.words)) (sym is.constant ∙ const)
+    ∙ ap (memory_step l u x b v false) (ap (λ k. nat_le (2 ^ k) b.words) (sym (size-is v i is sound w we)) ∙ sym me)
 
 -- ---- what an index chooses
 
 pub chosen-is : (l : n.Look) (u : Use) (x : Text) (v : Term) (i : Resolved) → IsRead v i → i.is_sound ≡ true → (o : Option n.Meaning) → meaning l x ≡ o → chosen l u x v ≡ t.meant_goal l u x v o
 chosen-is l u x v i is sound o e = ap (λ c. cond c (t.meant_goal l u x v (meaning l x)) (fixed (nowhere []))) (sym is.sound ∙ sound) ∙ ap (t.meant_goal l u x v) e
-
-pub kept-memory : (o : Option Meaning) (b : Memory) → option_and_then as_value o ≡ Some (m.Memory b) → o ≡ Some (m.Memory b)
-kept-memory None b e = none-some _ e
-kept-memory (Some (m.Param p)) b e = e
-kept-memory (Some (m.Signal s)) b e = e
-kept-memory (Some (m.Memory c)) b e = e
-kept-memory (Some m.Instance) b e = none-some _ e
 
 pub after-gives : (l : n.Look) (u : Use) (bs : List Broken) (g : Goal) (r : code.Aim) (f1 f2 f3 : Noted) → f2 ≡ all_noted f1 bs → IsGoal g r × (f3 ≡ all_noted f2 (broken_in g))
     → IsGoal (t.after l u bs g) r × (f3 ≡ all_noted f1 (broken_in (t.after l u bs g)))

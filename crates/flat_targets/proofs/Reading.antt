@@ -1,11 +1,11 @@
 -- Expressions that read as targets, and what their parts are resolved to.
 use Rattle.std.proofs.Common.{◌≡◌, Bool, ◌&&◌, List, [], ◌∷◌, ◌++◌, Option, Some, None, is_some, refl, sym, ap, subst, ◌∙◌}
 use Rattle.std.specs.Prelude.{option_map}
-use Rattle.verilog_reading.specs.ExprTree.{ExprTree, ExprTrees, no_trees, and_trees, TargetTree, TargetTrees, join_of, no_parts, and_parts}
+use Rattle.verilog_reading.specs.ExprTree.{ExprTree, number, name, index, part, unary, binary, choice, join, repeat, paren, ExprTrees, no_trees, and_trees, TargetTree, whole, index_of, part_of, TargetTrees, join_of, no_parts, and_parts}
 use Rattle.flat_unfolding.specs.Names.{Look}
 use Rattle.flat_unfolding.specs.Targets as t
 use Rattle.flat_unfolding.specs.Targets.{Aim, of_wires, as_target, as_targets}
-use Rattle.flat_unfolding.specs.Formed.{AreFormed}
+use Rattle.flat_unfolding.specs.Formed.{IsFormed, AreFormed, AreSome, IsTargetFormed, AreTargetsFormed, AreSomeParts}
 use Rattle.flat_targets.specs.declared.target.Fixed.{Fixed}
 use Rattle.flat_targets.specs.declared.target.FixedParts.{FixedParts}
 use Rattle.flat_names.specs.Noting.{Noted, all_noted}
@@ -56,3 +56,27 @@ reads-more l all x rest f g h p q r s aimed add =
 
 pub reads-all : (l : Look) (all : TargetTrees) (f g : Noted) (p : FixedParts) → ReadsSoFar l all no_trees f g p → AreAllAims l of_wires all f g p
 reads-all l all f g p s = so-all l of_wires all f g p (subst (λ ts. SoFar l of_wires all ts f g p) (sym (some-same no_parts s.left s.reads)) s.so_far)
+
+-- ---- what they read as is formed
+
+some-parts : (es : ExprTrees) (ts : TargetTrees) → AreSome es → as_targets es ≡ Some ts → AreSomeParts ts
+some-parts no_trees ts h r = absurd h
+some-parts (and_trees e rest) ts h r = let two = are-both and_parts (as_target e) (as_targets rest) ts r in subst AreSomeParts two.is tt
+
+mutual
+  pub reads-formed : (e : ExprTree) (v : TargetTree) → IsFormed e → as_target e ≡ Some v → IsTargetFormed v
+  reads-formed (number n w size) v h r = none-some v r
+  reads-formed (name x) v h r = subst IsTargetFormed (some-same (whole x) v r) tt
+  reads-formed (index x i) v h r = subst IsTargetFormed (some-same (index_of x i) v r) h
+  reads-formed (part x i j) v h r = subst IsTargetFormed (some-same (part_of x i j) v r) h
+  reads-formed (unary op a) v h r = none-some v r
+  reads-formed (binary op a b) v h r = none-some v r
+  reads-formed (choice c a b) v h r = none-some v r
+  reads-formed (join es) v h r = let g = is-join (as_targets es) v r in subst IsTargetFormed (sym g.is) (some-parts es g.parts h.0 g.reads, all-formed es g.parts h.1 g.reads)
+  reads-formed (repeat count es) v h r = none-some v r
+  reads-formed (paren a) v h r = none-some v r
+
+  all-formed : (es : ExprTrees) (ts : TargetTrees) → AreFormed es → as_targets es ≡ Some ts → AreTargetsFormed ts
+  all-formed no_trees ts h r = subst AreTargetsFormed (some-same no_parts ts r) tt
+  all-formed (and_trees e rest) ts h r = let two = are-both and_parts (as_target e) (as_targets rest) ts r in
+      subst AreTargetsFormed two.is (reads-formed e two.left h.0 two.left_is, all-formed rest two.right h.1 two.right_is)

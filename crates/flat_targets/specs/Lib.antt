@@ -1,1 +1,3 @@
 pub mod Aims
+pub mod Parts
+pub mod Pieces

@@ -18,6 +18,7 @@ ghost use Rattle.flat_names.specs.Looks.{Shows, IsFit, range_of, memory_of};
 ghost use Rattle.flat_names.specs.Pieces.{IsRead};
 ghost use Rattle.flat_targets.specs.Aims.{use_of, IsAim, IsGoal, broken_in, AreAims, AreAllAims, chosen, trees_in};
 
+use crate::pieces::{note_expr_pieces, note_pieces};
 use cdc_base::limits::MAX_WIDTH;
 use cdc_base::{List, Name, NoMemory};
 use flat_form::flat::{FExpr, FTarget};
@@ -27,7 +28,7 @@ use flat_names::expr::{note_unknown, resolve, resolve_constant};
 use flat_names::fault::{Faults, Rule};
 use flat_names::resolved::Resolved;
 use flat_names::scope::{Bounds, Look, Meaning, Memory};
-use flat_names::select::{bounds_of, may_index, offset_in, part_within};
+use flat_names::select::{bounds_of, may_index, may_index_words, offset_in, part_within};
 use std::alloc::Global;
 use verilog_ast::{Expr, Target};
 
@@ -89,11 +90,34 @@ pub fn process_target(look: &Look, target: &Target, faults: &mut Faults) -> Resu
     ensures { (l : definition.Look) → Shows look.now l → IsFit l → IsTargetFormed (target_tree_of target.now)
         → IfOk result (λ r. IsGoal (aims.goal l (target_tree_of target.now)) r × (faults.new ≡ all_noted faults.old (broken_in (aims.goal l (target_tree_of target.now))))) }
 {
-    if let Target::At { name, index } = target {
-        return index_goal(look, name, index, Assigned::Registers, faults);
+    match target {
+        Target::At { name, index } => index_goal(look, name, index, Assigned::Registers, faults),
+        Target::Whole(_) | Target::Part { .. } | Target::Join(_) => {
+            let fixed = fixed_target(look, target, Assigned::Registers, faults)?;
+            note_pieces(look, target, &fixed.target, faults)?;
+            Ok(Aim::Fixed(fixed))
+        }
     }
-    let fixed = fixed_target(look, target, Assigned::Registers, faults)?;
-    Ok(Aim::Fixed(fixed))
+}
+
+/// A target of `assign`, where a variable index isn't looked at.
+pub fn wire_target(look: &Look, target: &Target, faults: &mut Faults) -> Result<Fixed, NoMemory>
+    ensures { (l : definition.Look) → Shows look.now l → IsFit l → IsTargetFormed (target_tree_of target.now)
+        → IfOk result (λ r. IsAim (aims.with_piece_rules l of_wires (target_tree_of target.now)) r × (faults.new ≡ all_noted faults.old (aims.with_piece_rules l of_wires (target_tree_of target.now)).broken)) }
+{
+    let fixed = fixed_target(look, target, Assigned::Wires, faults)?;
+    note_pieces(look, target, &fixed.target, faults)?;
+    Ok(fixed)
+}
+
+/// A target of a gate or of an instance's output, where a variable index isn't looked at.
+pub fn wire_expr_target(look: &Look, expr: &Expr, faults: &mut Faults) -> Result<Fixed, NoMemory>
+    ensures { (l : definition.Look) (t : TargetTree) → Shows look.now l → IsFit l → IsFormed (tree_of expr.now) → as_target (tree_of expr.now) ≡ Some t
+        → IfOk result (λ r. IsAim (aims.with_piece_rules l of_wires t) r × (faults.new ≡ all_noted faults.old (aims.with_piece_rules l of_wires t).broken)) }
+{
+    let fixed = expr_target(look, expr, faults)?;
+    note_expr_pieces(look, expr, &fixed.target, faults)?;
+    Ok(fixed)
 }
 
 /// A target whose signals don't hang on an index's value.
@@ -268,7 +292,7 @@ fn may_assign(look: &Look, name: &Name, assigned: Assigned) -> bool
         Some(Meaning::Signal(sig)) => is_assignable(look, sig, assigned),
         Some(Meaning::Memory(_)) => assigned == Assigned::Registers,
         Some(Meaning::Param(_)) => false,
-        Some(Meaning::Instance) | None => true,
+        Some(Meaning::NoValue) | None => true,
     }
 }
 
@@ -299,7 +323,7 @@ pub fn whole_target(
             faults.note(Rule::Memory, name.as_str())?;
             Ok(nowhere(look.alloc))
         }
-        Some(Meaning::Param(_)) | Some(Meaning::Instance) | None => Ok(nowhere(look.alloc)),
+        Some(Meaning::Param(_)) | Some(Meaning::NoValue) | None => Ok(nowhere(look.alloc)),
     }
 }
 
@@ -343,7 +367,7 @@ fn part_aim(
             Ok(nowhere(look.alloc))
         }
         Some(Meaning::Param(_)) => Ok(nowhere(look.alloc)),
-        Some(Meaning::Instance) => Ok(nowhere(look.alloc)),
+        Some(Meaning::NoValue) => Ok(nowhere(look.alloc)),
         None => Ok(nowhere(look.alloc)),
     }
 }
@@ -404,7 +428,7 @@ fn index_aim(
             Ok(Aim::Fixed(fixed))
         }
         Some(Meaning::Memory(memory)) => word_aim(look, memory, name, index, faults),
-        Some(Meaning::Param(_)) | Some(Meaning::Instance) | None => {
+        Some(Meaning::Param(_)) | Some(Meaning::NoValue) | None => {
             Ok(Aim::Fixed(nowhere(look.alloc)))
         }
     }
@@ -477,7 +501,7 @@ fn word_aim(
     faults: &mut Faults,
 ) -> Result<Aim, NoMemory>
     ensures { (l : definition.Look) (t : Term) (u : aims.Use) → Shows look.now l → memory.first + memory.words ≤ length l.entries → length l.entries ≤ 2 ^ 32
-        → 2 ^ memory.index_width ≡ memory.words → IsRead t index → index.is_sound ≡ true
+        → IsRead t index → index.is_sound ≡ true
         → IfOk result (λ r. IsGoal (aims.memory_goal l u name.now (memory_of memory) t) r × (faults.new ≡ all_noted faults.old (broken_in (aims.memory_goal l u name.now (memory_of memory) t)))) }
 {
     if index.is_constant {
@@ -485,7 +509,7 @@ fn word_aim(
         let fixed = word_at(look, word, name, faults)?;
         return Ok(Aim::Fixed(fixed));
     }
-    if index.width() != memory.index_width {
+    if !may_index_words(memory, index.width()) {
         faults.note(Rule::IndexMayMiss, name.as_str())?;
         return Ok(Aim::Fixed(nowhere(look.alloc)));
     }

@@ -1,8 +1,8 @@
 use Rattle.std.proofs.Common.{Some, sym, ap, ◌∙◌}
 use Rattle.flat_names.specs.declared.scope.Meaning.TheVariants as m
-use Rattle.flat_names.specs.Looks.{memory_of, kept_in}
+use Rattle.flat_names.specs.Looks.{memory_of}
 use Rattle.flat_targets.proofs.Aimed.{ok-then, meaning-at}
-use Rattle.flat_targets.proofs.AimedWords.{along-goal, chosen-is, kept-memory, not-false}
+use Rattle.flat_targets.proofs.AimedWords.{along-goal, chosen-is, not-false}
 use Rattle.flat_targets.proofs.target.index_aim.Goals as goal
 
 pub returns-in_ok-fixed-in-Some-Signal : goal.returns-in_ok-fixed-in-Some-Signal
@@ -19,4 +19,4 @@ returns-in-Some-Memory c = λ l t u h fit is.
     let d = sym (s.is ∙ ap Some s.field-0-is) ∙ c.meaning.ensures in
     let e = meaning-at c.args.look.now l h x (Some (m.Memory s.memory)) d in
     ok-then c.word_aim.result _ _ (λ r k. along-goal _ _ (chosen-is l u x t c.args.index is (not-false c.args.index.is_sound c.if-not-index.false) _ e) r _ _ k)
-    (c.word_aim.ensures l t u h (fit.memories x (memory_of s.memory) e).1 fit.few (h.indices x s.memory (kept-memory (kept_in c.args.look.now.names.now x) s.memory (sym d))) is (not-false c.args.index.is_sound c.if-not-index.false))
+    (c.word_aim.ensures l t u h (fit.memories x (memory_of s.memory) e).1 fit.few is (not-false c.args.index.is_sound c.if-not-index.false))

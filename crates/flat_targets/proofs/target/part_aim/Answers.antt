@@ -22,9 +22,9 @@ returns-in-Some-Param c = λ l u h fit. let s = c.in-Some-Param in
     part-plain l u c.args.name.now (option_map range_of c.args.bounds) c.args.faults.now c.nowhere-in-Some-Param.result c.nowhere-in-Some-Param.ensures
     (ap is_plain (meaning-at c.args.look.now l h c.args.name.now _ (sym (s.is ∙ ap Some s.field-0-is) ∙ c.meaning.ensures)))
 
-pub returns-in-Some-Instance : goal.returns-in-Some-Instance
-returns-in-Some-Instance c = λ l u h fit. let s = c.in-Some-Instance in
-    part-plain l u c.args.name.now (option_map range_of c.args.bounds) c.args.faults.now c.nowhere-in-Some-Instance.result c.nowhere-in-Some-Instance.ensures
+pub returns-in-Some-NoValue : goal.returns-in-Some-NoValue
+returns-in-Some-NoValue c = λ l u h fit. let s = c.in-Some-NoValue in
+    part-plain l u c.args.name.now (option_map range_of c.args.bounds) c.args.faults.now c.nowhere-in-Some-NoValue.result c.nowhere-in-Some-NoValue.ensures
     (ap is_plain (meaning-at c.args.look.now l h c.args.name.now _ (sym (s.is ∙ ap Some s.field-0-is) ∙ c.meaning.ensures)))
 
 pub returns-in-None : goal.returns-in-None
