@@ -1,19 +1,19 @@
 -- What an audit answers, once it came to its end.
-use Rattle.std.proofs.Common.{◌≡◌, ◌∙◌, ap, sym, subst, inl, inr, ◌⊎◌, ◌∷◌, [], List, ℕ, true, Ok, Err, Some, refl, Result, Option}
-use Rattle.std.specs.Prelude.{IfOk, IfErr, IfSome, MatchResult}
+use Rattle.std.proofs.Common.{◌≡◌, ◌∙◌, ap, sym, subst, inl, inr, ◌⊎◌, ◌∷◌, [], List, ℕ, Bool, true, Ok, Err, Some, None, refl, Result, Option}
+use Rattle.std.specs.Prelude.{IfOk, IfErr, MatchResult}
 use Rattle.std.specs.List.{list_all}
 use Rattle.std.proofs.lemmas.Bool.{false≢true}
 use Rattle.cdc_base.specs.declared.fault.Fault.{Fault}
 use Rattle.cdc_base.specs.declared.list.NoMemory.{NoMemory}
 use Rattle.report.specs.Faults.{line_of}
 use Rattle.refusals.specs.Numbers.{is_listed, netlist_numbers, all_constraint_numbers}
-use Rattle.command_line.specs.Cli.{IsAccepted, file_words}
+use Rattle.command_line.specs.Cli.{IsAccepted, file_words, page_of}
 use Rattle.audit_top.specs.declared.answer.Answer.{Answer}
 use Rattle.audit_top.specs.declared.answer.Ending.{Ending}
 use Rattle.audit_top.specs.declared.answer.Ending.TheVariants.{Refused, Memory}
 use Rattle.audit_top.specs.declared.status.Status.{Status}
 use Rattle.audit_top.specs.declared.status.Status.TheVariants as status
-use Rattle.audit_top.specs.Runs.{Seen, Text, IsAnswer, IsLong, IsRefusedBy, IsRefusedForLength, IsText, IsOfFile, IsOfStatus, TellsOfLength, numbers_of, all_record_numbers}
+use Rattle.audit_top.specs.Runs.{wants_json, Seen, Text, IsAnswer, IsAuditedBy, IsLong, IsRefusedBy, IsRefusedForLength, IsText, IsOfFile, IsOfStatus, TellsOfLength, numbers_of, all_record_numbers}
 use Rattle.audit_top.specs.Endings.{IsAnswerTo, IsEnding, IsEndOfAudit, IsLengthEnding, IsOfFiles, IsReadOfBoth}
 use Rattle.audit_top.specs.Audits.{IsAudited, IsAuditOf}
 use Rattle.audit_top.proofs.Lines.{is_other, other_line}
@@ -99,17 +99,19 @@ texts_audited : (r : Result Answer Ending) → MatchResult r (λ a. IsAudited a.
 texts_audited (Ok own) h = h
 texts_audited (Err e) h = tt
 
--- where a file is told, its bytes are what was read
-pub told_is : (held : Option Text) (bytes all : Text) → IfSome held (λ told. bytes ≡ told) → held ≡ Some all → bytes ≡ all
-told_is held bytes all told is = subst (λ (o : Option Text). IfSome o (λ t. bytes ≡ t)) is told
+-- the answer to both files' bytes, which are told
+audited_told : (json : Bool) (net con net_read con_read : Text) (now : Seen) (r : Result Answer Ending) → now.held net ≡ Some net_read → now.held con ≡ Some con_read
+    → IfOk r (λ a. IsAuditOf json net_read con_read a.status a.text) → IfOk r (λ a. IsAuditedBy now json net con a.status a.text)
+audited_told json net con net_read con_read now (Ok own) net_is con_is exact = λ _. (net_read, net_is, (con_read, con_is, exact))
+audited_told json net con net_read con_read now (Err e) net_is con_is exact = tt
 
 -- both files were read, and their texts have an answer or a refusal
-pub answered_texts : {T : Type 0} (net con : Text) (before now : Seen) (texts : T) (r : Result Answer Ending) (net_read con_read : Text)
+pub answered_texts : {T : Type 0} (json : Bool) (net con : Text) (before now : Seen) (texts : T) (r : Result Answer Ending) (net_read con_read : Text)
     → IsReadOfBoth {T = T} net con before now (Ok texts) → MatchResult r (λ a. IsAudited a.status) IsOfFiles
-    → IfSome (before.held net) (λ all. net_read ≡ all) × IfSome (before.held con) (λ all. con_read ≡ all)
-    → IfOk r (λ a. IsAuditOf net_read con_read a.status)
-    → IsEndOfAudit net con before now r
-answered_texts net con before now texts r net_read con_read reads h told exact = record {
+    → (now.held net ≡ Some net_read) × (now.held con ≡ Some con_read)
+    → IfOk r (λ a. IsAuditOf json net_read con_read a.status a.text)
+    → IsEndOfAudit json net con before now r
+answered_texts json net con before now texts r net_read con_read reads h told exact = record {
   reads = record {
     asks = reads.asks;
     ended = texts_ended before now r h;
@@ -117,24 +119,23 @@ answered_texts net con before now texts r net_read con_read reads h told exact =
     long_con = λ long. absurd (reads.long_con long);
   };
   audited = texts_audited r h;
-  exact = λ net_bytes con_bytes net_is con_is.
-      subst (λ (n : Text). IfOk r (λ a. IsAuditOf n con_bytes a.status)) (told_is (before.held net) net_read net_bytes told.0 net_is)
-      (subst (λ (c : Text). IfOk r (λ a. IsAuditOf net_read c a.status)) (told_is (before.held con) con_read con_bytes told.1 con_is) exact);
+  exact = audited_told json net con net_read con_read now r told.0 told.1 exact;
 }
 
 -- a selftest reads no file
-module _ (words : List Text) (before now : Seen) (accepted : IsAccepted words) (named : file_words words ≡ []) where
+module _ (words : List Text) (before now : Seen) (accepted : IsAccepted words) (no_page : page_of words ≡ None) (named : file_words words ≡ []) where
   own_test : (own : Answer) → IsAudited own.status → IsAnswer words before now own.status own.text
   own_test own audited = record {
     usage = λ is _. subst (λ (s : Status). IsAudited s) is audited;
     refused = λ not_accepted. absurd (not_accepted accepted);
     fits = audited_fits before now own.status own.text audited;
+    page = λ page is. cc;
     too_long = λ g of_file _ _. absurd (audited_of_none own.status audited of_file);
     long_net = λ n c rest _ files long. cc;
     long_con = λ n c rest _ files long. cc;
     long_run = λ n c r _ files long. cc;
-    replayed = λ n c r _ _ _ files _ _. cc;
-    audited = λ n c _ _ _ files _ _ _. cc;
+    replayed = λ n c r _ files. cc;
+    audited = λ n c _ files. cc;
   }
 
   line_test : (s : Status) (f : Fault) → IsRefusedBy before now s f → IsAnswer words before now s (line_of f)
@@ -142,12 +143,13 @@ module _ (words : List Text) (before now : Seen) (accepted : IsAccepted words) (
     usage = λ is _. subst (λ (x : Status). IsRefusedBy before now x f) is refused;
     refused = λ not_accepted. absurd (not_accepted accepted);
     fits = refused_fits before now s f refused;
+    page = λ page is. cc;
     too_long = λ g of_file lines number. line_tells before now s f g of_file refused lines number;
     long_net = λ n c rest _ files long. cc;
     long_con = λ n c rest _ files long. cc;
     long_run = λ n c r _ files long. cc;
-    replayed = λ n c r _ _ _ files _ _. cc;
-    audited = λ n c _ _ _ files _ _ _. cc;
+    replayed = λ n c r _ files. cc;
+    audited = λ n c _ files. cc;
   }
 
   one_test : (ended : Result Answer Ending) (a : Answer) → MatchResult ended (λ own. IsAudited own.status) IsOfFiles
@@ -175,32 +177,36 @@ pub length_answers : (s : Status) (f : Fault) (net con : Text)
 length_answers s f net con (inl h) = inl (length_answer status.Constraints s f con h)
 length_answers s f net con (inr h) = inr (length_answer status.Netlist s f net h)
 
-module _ (words : List Text) (before now : Seen) (net con : Text) (accepted : IsAccepted words) (named : file_words words ≡ net ∷ con ∷ []) where
+module _ (words : List Text) (before now : Seen) (json : Bool) (net con : Text) (is_json : json ≡ wants_json words) (accepted : IsAccepted words) (no_page : page_of words ≡ None)
+    (named : file_words words ≡ net ∷ con ∷ []) where
   is_net : (n c : Text) (rest : List Text) → file_words words ≡ n ∷ c ∷ rest → net ≡ n
   is_net n c rest e = cc
 
   is_con : (n c : Text) (rest : List Text) → file_words words ≡ n ∷ c ∷ rest → con ≡ c
   is_con n c rest e = cc
 
-  own_answer : (own : Answer) → IsEndOfAudit net con before now (Ok own) → IsAnswer words before now own.status own.text
+  own_answer : (own : Answer) → IsEndOfAudit json net con before now (Ok own) → IsAnswer words before now own.status own.text
   own_answer own end = record {
     usage = λ is _. subst (λ (s : Status). IsAudited s) is end.audited;
     refused = λ not_accepted. absurd (not_accepted accepted);
     fits = audited_fits before now own.status own.text end.audited;
+    page = λ page is. cc;
     too_long = λ g of_file _ _. absurd (audited_of_none own.status end.audited of_file);
     long_net = λ n c rest _ files long. absurd (end.reads.long_net (subst (λ (x : Text). IsLong before x) (sym (is_net n c rest files)) long));
     long_con = λ n c rest _ files long. absurd (end.reads.long_con (subst (λ (x : Text). IsLong before x) (sym (is_con n c rest files)) long));
     long_run = λ n c r _ files long. cc;
-    replayed = λ n c r _ _ _ files _ _. cc;
-    audited = λ n c net_bytes con_bytes _ files net_is con_is _.
-        end.exact net_bytes con_bytes (ap before.held (is_net n c [] files) ∙ net_is) (ap before.held (is_con n c [] files) ∙ con_is);
+    replayed = λ n c r _ files. cc;
+    audited = λ n c _ files. subst (λ (j : Bool). IsAuditedBy now j n c own.status own.text) is_json
+        (subst (λ (x : Text). IsAuditedBy now json x c own.status own.text) (is_net n c [] files)
+        (subst (λ (x : Text). IsAuditedBy now json net x own.status own.text) (is_con n c [] files) end.exact));
   }
 
-  line_answer : (s : Status) (f : Fault) → IsEndOfAudit net con before now (Err (Refused s f)) → IsAnswer words before now s (line_of f)
+  line_answer : (s : Status) (f : Fault) → IsEndOfAudit json net con before now (Err (Refused s f)) → IsAnswer words before now s (line_of f)
   line_answer s f end = record {
     usage = λ is _. subst (λ (x : Status). IsRefusedBy before now x f) is end.reads.ended;
     refused = λ not_accepted. absurd (not_accepted accepted);
     fits = refused_fits before now s f end.reads.ended;
+    page = λ page is. cc;
     too_long = λ g of_file lines number. line_tells before now s f g of_file end.reads.ended lines number;
     long_net = λ n c rest _ files long. subst (λ (x : Text). IsRefusedForLength status.Netlist x s (line_of f)) (is_net n c rest files)
         (length_answer status.Netlist s f net (end.reads.long_net (subst (λ (x : Text). IsLong before x) (sym (is_net n c rest files)) long)));
@@ -209,11 +215,11 @@ module _ (words : List Text) (before now : Seen) (net con : Text) (accepted : Is
         (subst (λ (x : Text). IsRefusedForLength status.Constraints x s (line_of f) ⊎ IsRefusedForLength status.Netlist net s (line_of f)) (is_con n c rest files)
         (length_answers s f net con (end.reads.long_con (subst (λ (x : Text). IsLong before x) (sym (is_con n c rest files)) long))));
     long_run = λ n c r _ files long. cc;
-    replayed = λ n c r _ _ _ files _ _. cc;
-    audited = λ n c _ _ _ _ _ _ is. absurd (refused_audit before now s f end.reads.ended is);
+    replayed = λ n c r _ files. cc;
+    audited = λ n c _ _ is. absurd (refused_audit before now s f end.reads.ended is);
   }
 
-  one_answer : (ended : Result Answer Ending) (a : Answer) → IsEndOfAudit net con before now ended
+  one_answer : (ended : Result Answer Ending) (a : Answer) → IsEndOfAudit json net con before now ended
       → MatchResult ended (λ own. a ≡ own) (λ e. IsAnswerTo e a) → IsAnswer words before now a.status a.text
   one_answer (Ok own) a end is = subst (λ (x : Answer). IsAnswer words before now x.status x.text) (sym is) (own_answer own end)
   one_answer (Err Memory) a end is = absurd is
@@ -221,7 +227,7 @@ module _ (words : List Text) (before now : Seen) (net con : Text) (accepted : Is
       subst (λ (x : Status). IsAnswer words before now x a.text) (sym status_is)
       (subst (λ (t : Text). IsAnswer words before now s t) (sym text_is) (line_answer s f end))
 
-  pub answered_audit : (ended : Result Answer Ending) (result : Result Answer NoMemory) → IsEndOfAudit net con before now ended
+  pub answered_audit : (ended : Result Answer Ending) (result : Result Answer NoMemory) → IsEndOfAudit json net con before now ended
       → IfOk result (λ a. MatchResult ended (λ own. a ≡ own) (λ e. IsAnswerTo e a))
       → IfOk result (λ a. IsAnswer words before now a.status a.text)
   answered_audit ended (Ok a) end is = one_answer ended a end is

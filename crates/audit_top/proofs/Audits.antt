@@ -16,9 +16,11 @@ use Rattle.cdc_model.specs.declared.verdict.Verdict.{Verdict as VerdictEntry}
 use Rattle.cdc_model.specs.Design.{Design}
 use Rattle.cdc_model.specs.Facts.{none_extra}
 use Rattle.cdc_model.specs.Listed.{AreEntries, IsVerdictOf}
-use Rattle.cdc_model.specs.Nets.{design_of, net_trees}
+use Rattle.cdc_model.specs.Nets.{design_of, is_register_bit, net_trees}
+use Rattle.cdc_model.specs.Runs.{Trace, IsRun}
 use Rattle.cdc_model.specs.Schemes.{Sync, Trees, ring_bits}
 use Rattle.cdc_model.specs.Sound.{Sound}
+use Rattle.cdc_model.specs.Together.{IsTogether}
 use Rattle.cdc_model.specs.Verdict.{Finding}
 use Rattle.cdc_model.proofs.Listing.{clean_listed, listed_bits}
 use Rattle.verilog_reading.specs.SourceTree.{ModuleTree}
@@ -26,12 +28,13 @@ use Rattle.flat_unfolding.specs.Formed.{IsSourceFormed}
 use Rattle.flat_meaning.specs.Design.{Flat}
 use Rattle.flat_meaning.specs.Trees.{Selects}
 use Rattle.flat_model.specs.Laws.{IsNetOf}
-use Rattle.flat_model.proofs.Meanings.{sound_meaning, verdict_meaning}
+use Rattle.flat_model.proofs.Meanings.{is_net_run_of, net_run_of, register_same, sound_meaning, together_meaning, verdict_meaning}
 use Rattle.flat_model.proofs.NetDesign.{has_meaning}
 use Rattle.obligations.specs.Judged.{CanAudit}
+use Rattle.report.specs.Waived.{set_aside}
 use Rattle.audit_top.specs.declared.status.Status.{Status}
 use Rattle.audit_top.specs.declared.status.Status.TheVariants.{Done, Violations, Waived}
-use Rattle.audit_top.specs.Audits.{IsAuditOf, IsSoundBy, IsStatusOf, IsVerdictOn}
+use Rattle.audit_top.specs.Audits.{IsAuditOf, IsSoundBy, IsStatusOf, IsTogetherBy, IsVerdictOn, text_of}
 use Rattle.audit_top.specs.Described.{IsNetOfModules, ReadsAs}
 use Rattle.audit_top.specs.Replays.{IsDesign}
 use Rattle.audit_top.specs.Statuses.{audited_status}
@@ -41,9 +44,11 @@ use Rattle.audit_top.proofs.Described.{modules_formed, net_of_design}
 pub on_design : (net : Net) (domains : Domains) → CanAudit net domains → (r : Result VerdictEntry Stop)
     → IfOk r (λ e. CanAudit net domains → IsVerdictOf net domains none_extra e)
     → IfOk r (λ e. CanAudit net domains → e.findings ≡ [] → Sound (design_of net domains) e.covers (map (λ (r : Ring). r.bits) e.rings) none_extra)
+    → IfOk r (λ e. CanAudit net domains → (is : IsVerdictOf net domains none_extra e) → e.findings ≡ [] → (run : Trace) → IsRun (design_of net domains) run
+    → (x : Bit) → is_register_bit net x ≡ true → (group depth : ℕ) → IsTogether (design_of net domains) (net_trees net is.grays) is.syncs run x group depth)
     → IfOk r (IsVerdictOn net domains)
-on_design net domains can (Ok e) exact sound = record { exact = exact can; sound = sound can }
-on_design net domains can (Err s) exact sound = tt
+on_design net domains can (Ok e) exact sound together = record { exact = exact can; sound = sound can; together = together can (exact can) }
+on_design net domains can (Err s) exact sound together = tt
 
 -- where findings are listed there are some
 some_listed : (net : Net) (d : Design) (t : Trees) (syncs : List Sync) (fs : List Finding) (e : FindingEntry) (es : List FindingEntry)
@@ -61,27 +66,40 @@ module _ (f : Flat) (sel : Selects) (c : Constraints) (net : Net) (domains : Dom
       (subst (λ (rings : List (List Bit)). Sound d e.covers rings none_extra) (listed_bits net (design_of net domains) (net_trees net w.grays) w.syncs w.verdict e w.is_listed)
       (sound_meaning f sel c net domains is e.covers (map (λ (r : Ring). r.bits) e.rings) none_extra (on.sound none) d m))
 
-  found_some : (waived : Bool) → on.exact.verdict.findings ≢ [] → IsStatusOf f c on.exact.verdict (if waived then Waived else Violations)
+  -- a run of what the flat design means is one of the net's design
+  together_by : e.findings ≡ [] → IsTogetherBy f c on.exact.grays on.exact.syncs
+  together_by none d m run is_run x register group depth =
+      together_meaning f sel c net domains is d m on.exact.grays on.exact.syncs run x group depth
+      (on.together none (net_run_of f sel c net domains is d m run) (is_net_run_of f sel c net domains is d m run is_run) x
+      (register_same f sel c net domains is d m x register) group depth)
+
+  found_some : (waived : Bool) → on.exact.verdict.findings ≢ [] → IsStatusOf f c net domains e on.exact (if waived then Waived else Violations)
   found_some true some = some
   found_some false some = some
 
-  pub told_by : (aside : List (Option ℕ)) (es : List FindingEntry) → e.findings ≡ es → IsStatusOf f c on.exact.verdict (audited_status (length es) aside)
+  pub told_by : (aside : List (Option ℕ)) (es : List FindingEntry) → e.findings ≡ es → IsStatusOf f c net domains e on.exact (audited_status (length es) aside)
   told_by aside [] none =
       let w = on.exact in
-      (clean_listed net (design_of net domains) (net_trees net w.grays) w.syncs w.verdict e w.is_listed none, sound_by none)
+      record {
+        none = clean_listed net (design_of net domains) (net_trees net w.grays) w.syncs w.verdict e w.is_listed none;
+        sound = sound_by none;
+        together = together_by none;
+      }
   told_by aside (x ∷ es) found =
       let w = on.exact in
       let some : (length (x ∷ es) == 0) ≡ false = grind arith in
-      subst (λ (none : Bool). IsStatusOf f c w.verdict (if none then Done else (if list_all is_some aside then Waived else Violations))) (sym some)
+      subst (λ (none : Bool). IsStatusOf f c net domains e w (if none then Done else (if list_all is_some aside then Waived else Violations))) (sym some)
       (found_some (list_all is_some aside) (some_listed net (design_of net domains) (net_trees net w.grays) w.syncs w.verdict.findings x es
       (subst (AreEntries net (design_of net domains) (net_trees net w.grays) w.syncs w.verdict.findings) found w.is_listed.findings)))
 
 -- an audit of the design that the texts describe
-pub audited_texts : (text con : List ℕ) (modules : List ModuleTree) (c : Constraints) (net : Net) (domains : Domains) (e : VerdictEntry) (aside : List (Option ℕ)) (s : Status)
+pub audited_texts : (json : Bool) (text con : List ℕ) (modules : List ModuleTree) (c : Constraints) (net : Net) (domains : Domains) (e : VerdictEntry)
+    (aside : List (Option ℕ)) (s : Status) (answer : List ℕ)
     → ReadsAs text modules → IsMeaningOfConstraints con c → AreFit c → (AreFit c → IsDesign c net domains)
     → (IsSourceFormed modules → IsNetOfModules modules c net) → (CanAudit net domains → IsVerdictOn net domains e)
-    → s ≡ audited_status (length e.findings) aside → IsAuditOf text con s
-audited_texts text con modules c net domains e aside s reads means fits made unfolded judged is =
+    → set_aside net domains e.findings c.waivers ≡ Ok aside → s ≡ audited_status (length e.findings) aside
+    → answer ≡ text_of json net domains e c.waivers aside → IsAuditOf json text con s answer
+audited_texts json text con modules c net domains e aside s answer reads means fits made unfolded judged waived is told =
     let design = made fits in
     let of_modules = unfolded (modules_formed text modules reads) in
     let (sel, is_net) = net_of_design modules c net domains design of_modules in
@@ -89,10 +107,19 @@ audited_texts text con modules c net domains e aside s reads means fits made unf
     record {
       constraints = c;
       means = means;
-      flat = of_modules.flat;
-      describes = record { modules = modules; reads = reads; unfolds = of_modules.unfolds };
+      modules = modules;
+      reads = reads;
+      net = net;
+      of_modules = of_modules;
+      domains = domains;
+      design = design;
       meaning = has_meaning of_modules.flat sel c net domains is_net;
-      verdict = on.exact.verdict;
+      listed = e;
+      is_verdict = on.exact;
       exact = verdict_meaning of_modules.flat sel c net domains is_net none_extra e on.exact;
-      told = subst (IsStatusOf of_modules.flat c on.exact.verdict) (sym is) (told_by of_modules.flat sel c net domains is_net e on aside e.findings refl);
+      told = subst (IsStatusOf of_modules.flat c net domains e on.exact) (sym is) (told_by of_modules.flat sel c net domains is_net e on aside e.findings refl);
+      aside = aside;
+      waived = waived;
+      status_is = is;
+      answer_is = told;
     }

@@ -37,6 +37,10 @@ use Rattle.settling_sim.proofs.Stepped.{at-place}
 use Rattle.audit_top.specs.Described.{IsNetOfModules, ReadsAs, UnfoldsTo}
 use Rattle.audit_top.specs.Replays.{IsDesign}
 
+-- the tokens of a text end with their one end
+pub text_ended : (text : List ℕ) (ts : List Token) → tokens_of text ≡ Ok ts → IsEnded ts
+text_ended text ts are = texts_are_ended text ts are
+
 -- the modules that a text is parsed as are those that it reads as
 pub text_reads : (text : List ℕ) (ts : List Token) (parsed : Result Source Stop) → tokens_of text ≡ Ok ts
     → IfOk parsed (λ s. IsEnded ts → IsSource ts (source_of s))

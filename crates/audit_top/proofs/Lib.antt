@@ -1,6 +1,7 @@
 pub mod Added
 pub mod ConstraintNumbers
-pub mod Lines
+pub mod Paged
+mod Lines
 pub mod TokenNumbers
 pub mod ReadInTurn
 pub mod Answered
@@ -9,3 +10,4 @@ pub mod Replayed
 pub mod Replays
 pub mod Audits
 pub mod Described
+pub mod Refused

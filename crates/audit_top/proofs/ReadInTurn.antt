@@ -1,14 +1,13 @@
 -- Reads, one after the other.
-use Rattle.std.proofs.Common.{◌≡◌, ◌≢◌, ◌∙◌, ◌≤◌, ap, sym, subst, append-nil, inl, inr, ◌⊎◌, ◌++◌, ◌+◌, ◌∷◌, [], List, ℕ, Ok, Err, Option, append_assoc, arith, refl, Result}
-use Rattle.std.specs.Prelude.{IfSome}
-use Rattle.cdc_base.specs.Causes.{Rose, RoseBy}
+use Rattle.std.proofs.Common.{◌≡◌, ◌≢◌, ◌∙◌, ◌≤◌, ap, sym, subst, append-nil, inl, inr, ◌⊎◌, ◌++◌, ◌+◌, ◌∷◌, [], List, ℕ, Ok, Err, Option, Some, append_assoc, arith, refl, Result}
+use Rattle.cdc_base.specs.Causes.{Rose, RoseBy, StaysTold}
 use Rattle.cdc_base.specs.declared.fault.Fault.{Fault}
 use Rattle.audit_top.specs.declared.answer.Ending.{Ending}
 use Rattle.audit_top.specs.declared.answer.Ending.TheVariants.{Refused, Memory}
 use Rattle.audit_top.specs.declared.status.Status.{Status}
 use Rattle.audit_top.specs.declared.status.Status.TheVariants.{Netlist, Constraints, Record, ReadFault}
 use Rattle.audit_top.specs.declared.status.Status.TheVariants as status
-use Rattle.audit_top.specs.Runs.{Seen, Text, AskedFor, AskedInOrder, IsRefusedBy, IsUnread, IsTooLong, fault_at, max_bytes}
+use Rattle.audit_top.specs.Runs.{Seen, Text, AskedFor, AskedInOrder, IsLong, IsRefusedBy, IsUnread, IsTooLong, fault_at, max_bytes}
 use Rattle.audit_top.specs.Endings.{IsEnding, IsLengthEnding, IsOfLength, IsReadEnding, IsReadOf, IsReadOfBoth, IsReadOfThree}
 
 -- no count is lower than before
@@ -110,6 +109,14 @@ second_length net con mid now Memory ended = inl tt
 second_length net con mid now (Refused s f) (inl (is, fault, rose)) = inl (inr is)
 second_length net con mid now (Refused s f) (inr (is, fault, rose)) = inl (inl (is, fault))
 
+-- what is told stays told
+pub still_told : (held_before held_now : Option Text) (bytes : Text) → StaysTold held_before held_now → held_before ≡ Some bytes → held_now ≡ Some bytes
+still_told held_before held_now bytes stays told = subst (λ (o : Option Text). StaysTold o held_now) told stays
+
+-- so a file that is told to be too long is so after other reads
+long_then : (name : Text) (before now : Seen) → StaysTold (before.held name) (now.held name) → IsLong before name → IsLong now name
+long_then name before now stays (all, told, over) = (all, still_told (before.held name) (now.held name) all stays told, over)
+
 -- the first read ended
 pub first_ends : {T : Type 0} (net con : Text) (before now : Seen) (e : Ending) → IsReadOf net Netlist before now (Err e)
     → IsReadOfBoth {T = T} net con before now (Err e)
@@ -137,7 +144,7 @@ both_read net con before mid now bytes more texts first second = record {
   asks = asked_both net con before mid now (Ok more) (asked_ok net Netlist before mid bytes first) second.asks;
   ended = tt;
   long_net = λ long. absurd (first.short long);
-  long_con = λ (all, is, over). absurd (second.short (all, first.holds con ∙ is, over));
+  long_con = λ long. absurd (second.short (long_then con before mid (first.holds con) long));
 }
 
 -- ---- three files
@@ -205,7 +212,7 @@ third_of_three net con run before mid late now bytes more e first second third =
   asks = asked_third net con run before late now (Err e) (both_asked net con before mid late bytes more first second) third.asks;
   ended = read_ending run Record before late now e tt (both_later before mid late first.rising second.rising) third;
   long_net = λ long. absurd (first.short long);
-  long_con = λ (all, is, over). absurd (second.short (all, first.holds con ∙ is, over));
+  long_con = λ long. absurd (second.short (long_then con before mid (first.holds con) long));
   long_run = λ _. third_length net con run late now e third.ended;
 }
 
@@ -217,8 +224,8 @@ all_read net con run before mid late now bytes more most texts first second thir
   asks = asked_third net con run before late now (Ok most) (both_asked net con before mid late bytes more first second) third.asks;
   ended = tt;
   long_net = λ long. absurd (first.short long);
-  long_con = λ (all, is, over). absurd (second.short (all, first.holds con ∙ is, over));
-  long_run = λ (all, is, over). absurd (third.short (all, second.holds run ∙ (first.holds run ∙ is), over));
+  long_con = λ long. absurd (second.short (long_then con before mid (first.holds con) long));
+  long_run = λ long. absurd (third.short (long_then run mid late (second.holds run) (long_then run before mid (first.holds run) long)));
 }
 
 -- the status of a read that ended is that of its file
@@ -239,8 +246,3 @@ record_length run before now (Refused s f) read = elim read.ended [
   | inl (is, fault, rose) ↦ λ h. cc
   | inr (is, fault, rose) ↦ λ h. fault
 ]
-
--- what lies under a name lay there before the earlier reads
-pub told_before : (held_before held_now : Option Text) (bytes : Text) → held_now ≡ held_before → IfSome held_now (λ all. bytes ≡ all)
-    → IfSome held_before (λ all. bytes ≡ all)
-told_before held_before held_now bytes same told = subst (λ (o : Option Text). IfSome o (λ all. bytes ≡ all)) same told

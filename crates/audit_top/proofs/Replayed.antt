@@ -1,19 +1,19 @@
 -- What a replay answers, once it came to its end.
-use Rattle.std.proofs.Common.{◌≡◌, ◌∙◌, ap, sym, subst, inl, inr, ◌⊎◌, ◌∷◌, [], List, Ok, Err, refl, Result}
-use Rattle.std.specs.Prelude.{IfOk, IfErr, IfSome, MatchResult}
+use Rattle.std.proofs.Common.{◌≡◌, ◌∙◌, ap, sym, subst, inl, inr, ◌⊎◌, ◌∷◌, [], List, Some, None, Ok, Err, refl, Result}
+use Rattle.std.specs.Prelude.{IfOk, IfErr, MatchResult}
 use Rattle.cdc_base.specs.declared.fault.Fault.{Fault}
 use Rattle.cdc_base.specs.declared.list.NoMemory.{NoMemory}
 use Rattle.report.specs.Faults.{line_of}
-use Rattle.command_line.specs.Cli.{IsAccepted, file_words}
+use Rattle.command_line.specs.Cli.{IsAccepted, file_words, page_of}
 use Rattle.audit_top.specs.declared.answer.Answer.{Answer}
 use Rattle.audit_top.specs.declared.answer.Ending.{Ending}
 use Rattle.audit_top.specs.declared.answer.Ending.TheVariants.{Refused, Memory}
 use Rattle.audit_top.specs.declared.status.Status.{Status}
 use Rattle.audit_top.specs.declared.status.Status.TheVariants as status
-use Rattle.audit_top.specs.Runs.{Seen, Text, IsAnswer, IsLong, IsRefusedBy, IsRefusedForLength, IsOfStatus, IsReplayed, IsText, fault_at}
+use Rattle.audit_top.specs.Runs.{Seen, Text, IsAnswer, IsLong, IsRefusedBy, IsRefusedForLength, IsOfStatus, IsReplayedBy, IsReplayTold, IsText, fault_at}
 use Rattle.audit_top.specs.Endings.{IsAnswerTo, IsEnding, IsEndOfReplay, IsLengthEnding, IsOfFiles, IsOfLength, IsReadOfThree, IsReplayEnd}
 use Rattle.audit_top.specs.Replays.{IsReplayOfTexts, IsReplayUnder}
-use Rattle.audit_top.proofs.Answered.{refused_fits, line_tells, listed_ending, length_answer, length_answers, told_is}
+use Rattle.audit_top.proofs.Answered.{refused_fits, line_tells, listed_ending, length_answer, length_answers}
 
 texts_ended : (before now : Seen) (r : Result Answer Ending) → MatchResult r (λ a. a.status ≡ status.Done) IsOfFiles → IfErr r (IsEnding before now)
 texts_ended before now (Ok own) h = tt
@@ -24,14 +24,20 @@ texts_done : (r : Result Answer Ending) → MatchResult r (λ a. a.status ≡ st
 texts_done (Ok own) h = h
 texts_done (Err e) h = tt
 
-texts_exact : (name con run : Text) (r : Result Answer Ending) → IsReplayOfTexts con run r → IsReplayEnd name con run r
-texts_exact name con run (Ok own) h = h
-texts_exact name con run (Err Memory) h = tt
-texts_exact name con run (Err (Refused s f)) h = λ is. inr (h is)
+-- the bytes of all three files, which are told
+module _ (now : Seen) (net con run net_read con_read run_read : Text) (net_is : now.held net ≡ Some net_read) (con_is : now.held con ≡ Some con_read)
+    (run_is : now.held run ≡ Some run_read) where
+  all_told : (answer : Result Text Ending) → IsReplayUnder net_read con_read run_read answer → IsReplayTold now net con run answer
+  all_told answer h = (net_read, net_is, (con_read, con_is, (run_read, run_is, h)))
 
-length_exact : (name con run : Text) (e : Ending) → IsOfLength name e → IsReplayEnd name con run (Err e)
-length_exact name con run Memory h = tt
-length_exact name con run (Refused s f) h = λ is. inl (h is)
+  texts_exact : (r : Result Answer Ending) → IsReplayOfTexts net_read con_read run_read r → IsReplayEnd now net con run r
+  texts_exact (Ok own) h = all_told (Ok own.text) h
+  texts_exact (Err Memory) h = tt
+  texts_exact (Err (Refused s f)) h = λ is. inr (all_told (Err (Refused s f)) (h is))
+
+length_exact : (now : Seen) (net con run : Text) (e : Ending) → IsOfLength run e → IsReplayEnd now net con run (Err e)
+length_exact now net con run Memory h = tt
+length_exact now net con run (Refused s f) h = λ is. inl (h is)
 
 -- a file was not read whole
 pub unread_texts : {T : Type 0} (net con run : Text) (before now : Seen) (e : Ending) → IsReadOfThree {T = T} net con run before now (Err e)
@@ -39,15 +45,15 @@ pub unread_texts : {T : Type 0} (net con run : Text) (before now : Seen) (e : En
 unread_texts net con run before now e reads h = record {
   reads = record { asks = reads.asks; ended = reads.ended; long_net = reads.long_net; long_con = reads.long_con; long_run = reads.long_run };
   replayed = tt;
-  exact = λ con_bytes run_bytes _ _. length_exact run con_bytes run_bytes e h;
+  exact = length_exact now net con run e h;
 }
 
 -- all three files were read, and their texts have an answer or a refusal
-pub replayed_texts : {T : Type 0} (net con run : Text) (before now : Seen) (texts : T) (r : Result Answer Ending) (con_read run_read : Text)
+pub replayed_texts : {T : Type 0} (net con run : Text) (before now : Seen) (texts : T) (r : Result Answer Ending) (net_read con_read run_read : Text)
     → IsReadOfThree {T = T} net con run before now (Ok texts) → MatchResult r (λ a. a.status ≡ status.Done) IsOfFiles
-    → IfSome (before.held con) (λ all. con_read ≡ all) × IfSome (before.held run) (λ all. run_read ≡ all) → IsReplayOfTexts con_read run_read r
+    → (now.held net ≡ Some net_read) × (now.held con ≡ Some con_read) × (now.held run ≡ Some run_read) → IsReplayOfTexts net_read con_read run_read r
     → IsEndOfReplay net con run before now r
-replayed_texts net con run before now texts r con_read run_read reads h told exact = record {
+replayed_texts net con run before now texts r net_read con_read run_read reads h told exact = record {
   reads = record {
     asks = reads.asks;
     ended = texts_ended before now r h;
@@ -56,24 +62,21 @@ replayed_texts net con run before now texts r con_read run_read reads h told exa
     long_run = λ long. absurd (reads.long_run long);
   };
   replayed = texts_done r h;
-  exact = λ con_bytes run_bytes con_is run_is.
-      subst (λ (c : Text). IsReplayEnd run c run_bytes r) (told_is (before.held con) con_read con_bytes told.0 con_is)
-      (subst (λ (b : Text). IsReplayEnd run con_read b r) (told_is (before.held run) run_read run_bytes told.1 run_is)
-      (texts_exact run con_read run_read r exact));
+  exact = texts_exact now net con run net_read con_read run_read told.0 told.1 told.2 r exact;
 }
 
-line_replayed : (before now : Seen) (name con run : Text) (s : Status) (f : Fault) → IsRefusedBy before now s f
-    → (s ≡ status.Record → (f ≡ fault_at 600 name) ⊎ IsReplayUnder con run (Err (Refused s f))) → IsReplayed name con run s (line_of f)
-line_replayed before now name con run status.Record f refused h = (f, refl, h refl)
-line_replayed before now name con run status.Done f refused h = absurd refused
-line_replayed before now name con run status.Violations f refused h = absurd refused
-line_replayed before now name con run status.Waived f refused h = absurd refused
-line_replayed before now name con run status.Usage f refused h = tt
-line_replayed before now name con run status.Netlist f refused h = tt
-line_replayed before now name con run status.Constraints f refused h = tt
-line_replayed before now name con run status.ReadFault f refused h = tt
-line_replayed before now name con run status.WriteFault f refused h = tt
-line_replayed before now name con run status.Memory f refused h = tt
+line_replayed : (before now : Seen) (net con run : Text) (s : Status) (f : Fault) → IsRefusedBy before now s f
+    → (s ≡ status.Record → (f ≡ fault_at 600 run) ⊎ IsReplayTold now net con run (Err (Refused s f))) → IsReplayedBy now net con run s (line_of f)
+line_replayed before now net con run status.Record f refused h = (f, refl, h refl)
+line_replayed before now net con run status.Done f refused h = absurd refused
+line_replayed before now net con run status.Violations f refused h = absurd refused
+line_replayed before now net con run status.Waived f refused h = absurd refused
+line_replayed before now net con run status.Usage f refused h = tt
+line_replayed before now net con run status.Netlist f refused h = tt
+line_replayed before now net con run status.Constraints f refused h = tt
+line_replayed before now net con run status.ReadFault f refused h = tt
+line_replayed before now net con run status.WriteFault f refused h = tt
+line_replayed before now net con run status.Memory f refused h = tt
 
 done_of_none : (s : Status) → s ≡ status.Done → IsOfStatus s → ⊥
 done_of_none s h (inl is) = cc
@@ -89,7 +92,8 @@ all_length_answers : (s : Status) (f : Fault) (net con run : Text)
 all_length_answers s f net con run (inl h) = inl (length_answer status.Record s f run h)
 all_length_answers s f net con run (inr h) = inr (length_answers s f net con h)
 
-module _ (words : List Text) (before now : Seen) (net con run : Text) (accepted : IsAccepted words) (named : file_words words ≡ net ∷ con ∷ run ∷ []) where
+module _ (words : List Text) (before now : Seen) (net con run : Text) (accepted : IsAccepted words) (no_page : page_of words ≡ None)
+    (named : file_words words ≡ net ∷ con ∷ run ∷ []) where
   is_net : (n c : Text) (rest : List Text) → file_words words ≡ n ∷ c ∷ rest → net ≡ n
   is_net n c rest e = cc
 
@@ -99,18 +103,24 @@ module _ (words : List Text) (before now : Seen) (net con run : Text) (accepted 
   is_run : (n c r : Text) → file_words words ≡ n ∷ c ∷ r ∷ [] → run ≡ r
   is_run n c r e = cc
 
+  as_named : (n c r : Text) → file_words words ≡ n ∷ c ∷ r ∷ [] → (s : Status) (text : Text) → IsReplayedBy now net con run s text → IsReplayedBy now n c r s text
+  as_named n c r files s text h = subst (λ (x : Text). IsReplayedBy now x c r s text) (is_net n c (r ∷ []) files)
+      (subst (λ (x : Text). IsReplayedBy now net x r s text) (is_con n c (r ∷ []) files)
+      (subst (λ (x : Text). IsReplayedBy now net con x s text) (is_run n c r files) h))
+
   own_answer : (own : Answer) → IsEndOfReplay net con run before now (Ok own) → IsAnswer words before now own.status own.text
   own_answer own end = record {
     usage = λ is _. let done : own.status ≡ status.Done = end.replayed in cc;
     refused = λ not_accepted. absurd (not_accepted accepted);
     fits = done_fits before now own.status own.text end.replayed;
+    page = λ page is. cc;
     too_long = λ g of_file _ _. absurd (done_of_none own.status end.replayed of_file);
     long_net = λ n c rest _ files long. absurd (end.reads.long_net (subst (λ (x : Text). IsLong before x) (sym (is_net n c rest files)) long));
     long_con = λ n c rest _ files long. absurd (end.reads.long_con (subst (λ (x : Text). IsLong before x) (sym (is_con n c rest files)) long));
     long_run = λ n c r _ files long. absurd (end.reads.long_run (subst (λ (x : Text). IsLong before x) (sym (is_run n c r files)) long));
-    replayed = λ n c r con_bytes run_bytes _ files con_is run_is. subst (λ (s : Status). IsReplayed r con_bytes run_bytes s own.text) (sym end.replayed)
-        (end.exact con_bytes run_bytes (ap before.held (is_con n c (r ∷ []) files) ∙ con_is) (ap before.held (is_run n c r files) ∙ run_is));
-    audited = λ n c _ _ _ files _ _ _. cc;
+    replayed = λ n c r _ files. as_named n c r files own.status own.text
+        (subst (λ (s : Status). IsReplayedBy now net con run s own.text) (sym end.replayed) end.exact);
+    audited = λ n c _ files. cc;
   }
 
   line_answer : (s : Status) (f : Fault) → IsEndOfReplay net con run before now (Err (Refused s f)) → IsAnswer words before now s (line_of f)
@@ -118,6 +128,7 @@ module _ (words : List Text) (before now : Seen) (net con run : Text) (accepted 
     usage = λ is _. subst (λ (x : Status). IsRefusedBy before now x f) is end.reads.ended;
     refused = λ not_accepted. absurd (not_accepted accepted);
     fits = refused_fits before now s f end.reads.ended;
+    page = λ page is. cc;
     too_long = λ g of_file lines number. line_tells before now s f g of_file end.reads.ended lines number;
     long_net = λ n c rest _ files long. subst (λ (x : Text). IsRefusedForLength status.Netlist x s (line_of f)) (is_net n c rest files)
         (length_answer status.Netlist s f net (end.reads.long_net (subst (λ (x : Text). IsLong before x) (sym (is_net n c rest files)) long)));
@@ -130,10 +141,8 @@ module _ (words : List Text) (before now : Seen) (net con run : Text) (accepted 
         (subst (λ (x : Text). IsRefusedForLength status.Record r s (line_of f) ⊎ (IsRefusedForLength status.Constraints x s (line_of f) ⊎ IsRefusedForLength status.Netlist net s (line_of f))) (is_con n c (r ∷ []) files)
         (subst (λ (x : Text). IsRefusedForLength status.Record x s (line_of f) ⊎ (IsRefusedForLength status.Constraints con s (line_of f) ⊎ IsRefusedForLength status.Netlist net s (line_of f))) (is_run n c r files)
         (all_length_answers s f net con run (end.reads.long_run (subst (λ (x : Text). IsLong before x) (sym (is_run n c r files)) long)))));
-    replayed = λ n c r con_bytes run_bytes _ files con_is run_is. subst (λ (x : Text). IsReplayed x con_bytes run_bytes s (line_of f)) (is_run n c r files)
-        (line_replayed before now run con_bytes run_bytes s f end.reads.ended
-        (end.exact con_bytes run_bytes (ap before.held (is_con n c (r ∷ []) files) ∙ con_is) (ap before.held (is_run n c r files) ∙ run_is)));
-    audited = λ n c _ _ _ files _ _ _. cc;
+    replayed = λ n c r _ files. as_named n c r files s (line_of f) (line_replayed before now net con run s f end.reads.ended end.exact);
+    audited = λ n c _ files. cc;
   }
 
   one_answer : (ended : Result Answer Ending) (a : Answer) → IsEndOfReplay net con run before now ended

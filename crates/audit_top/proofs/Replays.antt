@@ -4,6 +4,7 @@ use Rattle.std.specs.Prelude.{IfOk, IfErr, slice_get, if◌then◌else◌}
 use Rattle.std.specs.Result.{IsErr}
 use Rattle.std.specs.Option.{option_map_or}
 use Rattle.std.proofs.lemmas.Bool.{cases_lt}
+use Rattle.cdc_base.specs.declared.fault.Fault.{Fault}
 use Rattle.cdc_base.specs.declared.fault.Stop.{Stop}
 use Rattle.cdc_base.specs.declared.fault.Stop.TheVariants as stop
 use Rattle.cdc_base.specs.declared.signal.Signal.{Signal}
@@ -13,6 +14,7 @@ use Rattle.cell_graph.specs.Shared.{IsShared}
 use Rattle.clock_constraints.specs.declared.Constraints.{Constraints}
 use Rattle.clock_constraints.specs.Files.{IsMeaning as IsMeaningOfConstraints}
 use Rattle.clock_constraints.specs.Fit.{AreFit}
+use Rattle.clock_constraints.specs.Refusals.{Gives}
 use Rattle.cofactor.specs.contracts.nodes.PlainCofactors.TheImpl as plain
 use Rattle.domains.specs.declared.Domains.{Domains}
 use Rattle.domains.specs.Assignment.{AreDomains}
@@ -24,6 +26,8 @@ use Rattle.cdc_model.proofs.Ascending.{in_map, parts}
 use Rattle.cdc_model.proofs.Found.{has_next, net_ascends}
 use Rattle.cdc_model.proofs.Justify.{in_slice}
 use Rattle.elaborate.specs.Words.{AreStarted}
+use Rattle.verilog_reading.specs.SourceTree.{ModuleTree}
+use Rattle.flat_unfolding.specs.Formed.{IsSourceFormed}
 use Rattle.settling_sim.specs.Opened.{AreStarts, CanOpen}
 use Rattle.settling_sim.specs.Starts.{HasStarts}
 use Rattle.settling_sim.specs.Runs.{HasCells}
@@ -37,7 +41,9 @@ use Rattle.audit_top.specs.declared.answer.Ending.{Ending}
 use Rattle.audit_top.specs.declared.answer.Ending.TheVariants.{Refused, Memory}
 use Rattle.audit_top.specs.declared.status.Status.{Status}
 use Rattle.audit_top.specs.declared.status.Status.TheVariants.{Netlist, Constraints as OfConstraints, Record}
+use Rattle.audit_top.specs.Described.{IsNetOfModules, ReadsAs}
 use Rattle.audit_top.specs.Endings.{IsOfDesign}
+use Rattle.audit_top.proofs.Described.{modules_formed}
 use Rattle.audit_top.specs.Replays.{CanReplay, IsDesign, IsReplayOf, IsReplayOfTexts, IsReplayUnder, ended_with, ending_of}
 
 -- ---- a net that runs
@@ -90,6 +96,10 @@ runs net is next = record {
 pub given_holds : {T : Type 0} (P : T → Type 0) (given : Result T Stop) (r : Result T Ending) → IfOk r (λ v. given ≡ Ok v) → IfOk given P → IfOk r P
 given_holds P given (Ok v) same holds = subst (λ (x : Result _ Stop). IfOk x P) same holds
 given_holds P given (Err e) same holds = tt
+
+-- and so does a layer whose answer is given whole
+pub given_gives : {T : Type 0} (given : Result T Stop) (told : Result T Fault) (v : T) → given ≡ Ok v → Gives given told → told ≡ Ok v
+given_gives given told v same gives = subst (λ (x : Result _ Stop). Gives x told) same gives
 
 pub of_design : {T : Type 0} (s : Status) (given : Result T Stop) (r : Result T Ending) → (s ≡ Netlist) ⊎ (s ≡ OfConstraints)
     → r ≡ ended_with s given → IfErr r IsOfDesign
@@ -163,20 +173,38 @@ module _ (net : Net) (domains : Domains) (bytes : List ℕ) where
 
 -- ---- the texts
 
--- where the design is refused no record is
-pub before_record : (con run : List ℕ) (r : Result Answer Ending) → IsErr r → IfErr r IsOfDesign → IsReplayOfTexts con run r
-before_record con run (Ok own) none of_design = cc
-before_record con run (Err Memory) none of_design = tt
-before_record con run (Err (Refused s f)) none (inl is) = λ h. cc
-before_record con run (Err (Refused s f)) none (inr is) = λ h. cc
+of_no_record : (s : Status) → (s ≡ Netlist) ⊎ (s ≡ OfConstraints) → s ≡ Record → ⊥
+of_no_record s (inl is) h = cc
+of_no_record s (inr is) h = cc
 
--- a replay over a design of the constraint file
-pub replayed_under : (con run : List ℕ) (c : Constraints) (net : Net) (domains : Domains) (answer : Result (List ℕ) Ending) → IsMeaningOfConstraints con c → AreFit c
-    → (AreFit c → IsDesign c net domains) → (CanReplay net domains → IsReplayOf net domains run answer) → IsReplayUnder con run answer
-replayed_under con run c net domains answer means fits made exact =
-    let design = made fits in record { constraints = c; means = means; net = net; domains = domains; design = design; replayed = exact design.can }
+no_error : (own : Answer) → IsErr {T = Answer} {E = Ending} (Ok own) → ⊥
+no_error own none = cc
+
+-- where the design is refused no record is
+pub before_record : (net con run : List ℕ) (r : Result Answer Ending) → IsErr r → IfErr r IsOfDesign → IsReplayOfTexts net con run r
+before_record net con run (Ok own) none of_design = absurd (no_error own none)
+before_record net con run (Err Memory) none of_design = tt
+before_record net con run (Err (Refused s f)) none of_design = λ h. absurd (of_no_record s of_design h)
+
+-- a replay over the design of both files
+pub replayed_under : (text con run : List ℕ) (modules : List ModuleTree) (c : Constraints) (net : Net) (domains : Domains) (answer : Result (List ℕ) Ending)
+    → ReadsAs text modules → IsMeaningOfConstraints con c → AreFit c → (IsSourceFormed modules → IsNetOfModules modules c net)
+    → (AreFit c → IsDesign c net domains) → (CanReplay net domains → IsReplayOf net domains run answer) → IsReplayUnder text con run answer
+replayed_under text con run modules c net domains answer reads means fits unfolded made exact =
+    let design = made fits in
+    record {
+      constraints = c;
+      means = means;
+      modules = modules;
+      reads = reads;
+      net = net;
+      of_modules = unfolded (modules_formed text modules reads);
+      domains = domains;
+      design = design;
+      replayed = exact design.can;
+    }
 
 -- where the record is
-pub record_refused : (con run : List ℕ) (e : Ending) → IsReplayUnder con run (Err e) → IsReplayOfTexts con run (Err e)
-record_refused con run Memory under = tt
-record_refused con run (Refused s f) under = λ _. under
+pub record_refused : (net con run : List ℕ) (e : Ending) → IsReplayUnder net con run (Err e) → IsReplayOfTexts net con run (Err e)
+record_refused net con run Memory under = tt
+record_refused net con run (Refused s f) under = λ _. under

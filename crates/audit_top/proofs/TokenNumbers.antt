@@ -17,9 +17,8 @@ use Rattle.verilog_lex.specs.declared.token.Piece.TheVariants.{Blank, Broken}
 use Rattle.verilog_lex.specs.declared.token.Piece.TheVariants as piece
 use Rattle.verilog_lex.specs.declared.token.Token.{Token}
 use Rattle.verilog_lex.specs.declared.token.TokenKind.{TokenKind}
-use Rattle.verilog_lex.specs.Pieces.{piece_of, word_or, word_piece, escaped_piece, plain_or, plain_piece, based_or, based_piece, number_piece, directive_piece, mark_or, mark_piece, closed, comment_piece, attribute_piece, extent, run, is_event}
+use Rattle.verilog_lex.specs.Pieces.{piece_of, word_or, word_piece, escaped_piece, number_or, plain_piece, based_piece, number_piece, directive_piece, mark_or, mark_piece, closed, comment_piece, attribute_piece, extent, run, is_event}
 use Rattle.verilog_lex.specs.Tokens.{Lexed, joined, tokens_from, tokens_of, next_place}
-use Rattle.verilog_lex.specs.Numbers.{small, value_in}
 use Rattle.verilog_lex.specs.Marks.{mark_of}
 use Rattle.refusals.specs.Numbers.{is_listed, token_numbers, HasNumberIn}
 
@@ -52,14 +51,9 @@ word : (k : Option Keyword) (w : List ℕ) (n : ℕ) → IsListed (word_or k w n
 word (Some k) w n = token _ _
 word None w n = either _ _ _ (refuse _ _ refl) (token _ _)
 
-plain : (v : Option ℕ) (n : ℕ) → IsListed (plain_or v n)
-plain None n = refuse _ _ refl
-plain (Some v) n = either _ _ _ (token _ _) (refuse _ _ refl)
-
-based : (w v : Option ℕ) (n : ℕ) → IsListed (based_or w v n)
-based None v n = refuse _ _ refl
-based (Some w) None n = refuse _ _ refl
-based (Some w) (Some v) n = token _ _
+numeral : (k : Option TokenKind) (n : ℕ) → IsListed (number_or k n)
+numeral None n = refuse _ _ refl
+numeral (Some k) n = token _ _
 
 mark : (m : Option MarkKind) (n : ℕ) (other : Piece) → IsListed other → IsListed (mark_or m n other)
 mark (Some m) n other h = token _ _
@@ -71,11 +65,11 @@ close None = refuse _ _ refl
 
 based_number : (size : List ℕ) (before : ℕ) (rest : List ℕ) → IsListed (based_piece size before rest)
 unfolding based_piece
-based_number size before rest = based _ _ _
+based_number size before rest = numeral _ _
 
 plain_number : (digits : List ℕ) → IsListed (plain_piece digits)
 unfolding plain_piece
-plain_number digits = plain (small (value_in 10 0 digits)) (length digits)
+plain_number digits = numeral _ _
 
 number : (text : List ℕ) → IsListed (number_piece text)
 unfolding number_piece
@@ -104,7 +98,8 @@ attribute text = close _
 a_mark : (text : List ℕ) → IsListed (mark_piece text)
 unfolding mark_piece
 a_mark text =
-    mark (mark_of (take 2 text)) (length (take 2 text)) _ (mark (mark_of (take 1 text)) 1 (Broken 101 []) (refuse 101 [] refl))
+    mark (mark_of (take 3 text)) (length (take 3 text)) _
+    (mark (mark_of (take 2 text)) (length (take 2 text)) _ (mark (mark_of (take 1 text)) 1 (Broken 101 []) (refuse 101 [] refl)))
 
 pieces : (text : List ℕ) → IsListed (piece_of text)
 unfolding piece_of

@@ -28,12 +28,6 @@ pub record ReadsAs (text : List ℕ) (modules : List ModuleTree) : Type 0 where
 abbrev pub UnfoldsTo : List ModuleTree → Constraints → Flat → Type 0
 UnfoldsTo modules c f = unfolded modules c.top c.resets ≡ good f
 
--- the text describes the flat design under the constraints
-pub record Describes (text : List ℕ) (c : Constraints) (f : Flat) : Type 0 where
-  pub modules : List ModuleTree
-  pub reads : ReadsAs text modules
-  pub unfolds : UnfoldsTo modules c f
-
 -- the net has the trees and the signals of the flat design that the modules unfold to, which is sound and has no loop
 pub record IsNetOfModules (modules : List ModuleTree) (c : Constraints) (net : Net) : Type 0 where
   pub flat : Flat

@@ -1,7 +1,8 @@
 -- How the parts of a command end.
-use Rattle.std.specs.Prelude.{ℕ, ◌≡◌, ◌+◌, ◌≤◌, ◌⊎◌, true, List, [], ◌∷◌, ◌++◌, length, Some, Result, Ok, Err, IfOk, IfErr, IfSome, IsErrAnd}
-use Rattle.cdc_base.specs.Causes.{Rose, RoseBy}
+use Rattle.std.specs.Prelude.{ℕ, Bool, ◌≡◌, ◌+◌, ◌≤◌, ◌⊎◌, true, List, [], ◌∷◌, ◌++◌, length, Some, Result, Ok, Err, IfOk, IfErr, IsErrAnd}
+use Rattle.cdc_base.specs.Causes.{Rose, RoseBy, StaysTold}
 use Rattle.cdc_base.specs.declared.fault.Fault.{Fault}
+use Rattle.command_line.specs.declared.Page.{Page}
 use Rattle.refusals.specs.Numbers.{is_listed}
 use Rattle.report.specs.Faults.{line_of}
 use Rattle.audit_top.specs.declared.answer.Answer.{Answer}
@@ -9,9 +10,9 @@ use Rattle.audit_top.specs.declared.answer.Ending.{Ending}
 use Rattle.audit_top.specs.declared.answer.Ending.TheVariants.{Refused, Memory}
 use Rattle.audit_top.specs.declared.status.Status.{Status}
 use Rattle.audit_top.specs.declared.status.Status.TheVariants.{Done, Usage, Netlist, Constraints, Record, ReadFault}
-use Rattle.audit_top.specs.Audits.{IsAudited, IsAuditOf}
-use Rattle.audit_top.specs.Replays.{IsReplayUnder}
-use Rattle.audit_top.specs.Runs.{Seen, Text, AskedInOrder, IsLong, IsRefusedBy, fault_at, max_bytes, numbers_of, usage_line}
+use Rattle.audit_top.specs.Audits.{IsAudited}
+use Rattle.audit_top.specs.Pages.{page_text}
+use Rattle.audit_top.specs.Runs.{Seen, Text, AskedInOrder, IsAuditedBy, IsLong, IsRefusedBy, IsReplayTold, fault_at, max_bytes, numbers_of, usage_line}
 
 -- want of memory, or this refusal
 abbrev pub IsRefusal : Status → Fault → Ending → Type 0
@@ -47,12 +48,12 @@ IsReadEnding name status before now (Refused s f) =
 
 -- one file was read whole, or its reading ended so
 pub record IsReadOf (name : Text) (status : Status) (before now : Seen) (result : Result (List ℕ) Ending) : Type 0 where
-  pub holds : (other : Text) → now.held other ≡ before.held other
+  pub holds : (other : Text) → StaysTold (before.held other) (now.held other)
   pub rising : (before.taken ≤ now.taken) × (before.faults ≤ now.faults)
   pub asks : (now.asked ≡ before.asked ++ name ∷ []) ⊎ ((result ≡ Err Memory) × (now.asked ≡ before.asked))
   pub within : IfOk result (λ bytes. length bytes ≤ max_bytes)
   pub short : IfOk result (λ bytes. IsLong before name → ⊥)
-  pub content : IfOk result (λ bytes. IfSome (before.held name) (λ all. bytes ≡ all))
+  pub content : IfOk result (λ bytes. now.held name ≡ Some bytes)
   pub ended : IfErr result (IsReadEnding name status before now)
 
 -- why a file over its limit has no answer of its own
@@ -68,11 +69,10 @@ pub record IsReadOfBoth {T : Type 0} (net con : Text) (before now : Seen) (resul
   pub long_con : IsLong before con → IsErrAnd result (λ e. IsLengthEnding Constraints con e ⊎ IsLengthEnding Netlist net e)
 
 -- an audit came to its end: both files were read in their order, and there is an answer or a refusal with its cause
-pub record IsEndOfAudit (net con : Text) (before now : Seen) (result : Result Answer Ending) : Type 0 where
+pub record IsEndOfAudit (json : Bool) (net con : Text) (before now : Seen) (result : Result Answer Ending) : Type 0 where
   pub reads : IsReadOfBoth net con before now result
   pub audited : IfOk result (λ answer. IsAudited answer.status)
-  pub exact : (net_bytes con_bytes : Text) → before.held net ≡ Some net_bytes → before.held con ≡ Some con_bytes
-      → IfOk result (λ answer. IsAuditOf net_bytes con_bytes answer.status)
+  pub exact : IfOk result (λ answer. IsAuditedBy now json net con answer.status answer.text)
 
 -- a read that ended refuses the record as too long alone
 abbrev pub IsOfLength : Text → Ending → Type 0
@@ -87,19 +87,22 @@ pub record IsReadOfThree {T : Type 0} (net con run : Text) (before now : Seen) (
   pub long_con : IsLong before con → IsErrAnd result (λ e. IsLengthEnding Constraints con e ⊎ IsLengthEnding Netlist net e)
   pub long_run : IsLong before run → IsErrAnd result (λ e. IsLengthEnding Record run e ⊎ (IsLengthEnding Constraints con e ⊎ IsLengthEnding Netlist net e))
 
--- how the replay of a record under a constraint file's bytes may end; the record may be too long
-abbrev pub IsReplayEnd : Text → Text → Text → Result Answer Ending → Type 0
-IsReplayEnd name con run (Ok answer) = IsReplayUnder con run (Ok answer.text)
-IsReplayEnd name con run (Err (Refused status fault)) =
-    status ≡ Record → (fault ≡ fault_at 600 name) ⊎ IsReplayUnder con run (Err (Refused status fault))
-IsReplayEnd name con run (Err Memory) = Unit {0}
+-- how the replay of a record may end, by the files as they are told; the record may be too long
+abbrev pub IsReplayEnd : Seen → Text → Text → Text → Result Answer Ending → Type 0
+IsReplayEnd now net con run (Ok answer) = IsReplayTold now net con run (Ok answer.text)
+IsReplayEnd now net con run (Err (Refused status fault)) =
+    status ≡ Record → (fault ≡ fault_at 600 run) ⊎ IsReplayTold now net con run (Err (Refused status fault))
+IsReplayEnd now net con run (Err Memory) = Unit {0}
 
 -- a replay came to its end: the files were read in their order, and it is done, or there is a refusal with its cause
 pub record IsEndOfReplay (net con run : Text) (before now : Seen) (result : Result Answer Ending) : Type 0 where
   pub reads : IsReadOfThree net con run before now result
   pub replayed : IfOk result (λ answer. answer.status ≡ Done)
-  pub exact : (con_bytes run_bytes : Text) → before.held con ≡ Some con_bytes → before.held run ≡ Some run_bytes
-      → IsReplayEnd run con_bytes run_bytes result
+  pub exact : IsReplayEnd now net con run result
+
+-- the answer to a word for a page
+abbrev pub IsPage : Page → Answer → Type 0
+IsPage page answer = (answer.status ≡ Done) × (answer.text ≡ page_text page)
 
 -- the answer to words that are refused
 abbrev pub IsUsage : Answer → Type 0

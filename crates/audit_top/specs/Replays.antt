@@ -14,6 +14,7 @@ use Rattle.cdc_model.specs.declared.record.Record.{Record as RunRecord}
 use Rattle.cdc_model.specs.Nets.{HasNextCells}
 use Rattle.obligations.specs.Judged.{CanAudit}
 use Rattle.settling_sim.specs.Starts.{HasStarts}
+use Rattle.verilog_reading.specs.SourceTree.{ModuleTree}
 use Rattle.run_file.specs.Files.{IsBroken, IsMeaning}
 use Rattle.run_file.specs.Names.{CanRead}
 use Rattle.run_report.specs.Printed.{IsRunText}
@@ -22,6 +23,7 @@ use Rattle.audit_top.specs.declared.answer.Ending.{Ending}
 use Rattle.audit_top.specs.declared.answer.Ending.TheVariants.{Refused, Memory}
 use Rattle.audit_top.specs.declared.status.Status.{Status}
 use Rattle.audit_top.specs.declared.status.Status.TheVariants.{Record}
+use Rattle.audit_top.specs.Described.{IsNetOfModules, ReadsAs}
 
 -- a layer's refusal, with its status
 abbrev pub ending_of : Status → Stop → Ending
@@ -59,17 +61,20 @@ pub record IsDesign (c : Constraints) (net : Net) (domains : Domains) : Type 0 w
   pub can : CanReplay net domains
   pub can_audit : CanAudit net domains
 
--- the answer is that to a record's bytes over some design under the constraints that a constraint file's bytes mean
-pub record IsReplayUnder (con run : List ℕ) (answer : Result (List ℕ) Ending) : Type 0 where
+-- the answer is that to a record's bytes over the design which a netlist's bytes describe under the constraints that a constraint file's bytes mean
+pub record IsReplayUnder (net_bytes con run : List ℕ) (answer : Result (List ℕ) Ending) : Type 0 where
   pub constraints : Constraints
   pub means : IsMeaningOfConstraints con constraints
+  pub modules : List ModuleTree
+  pub reads : ReadsAs net_bytes modules
   pub net : Net
+  pub of_modules : IsNetOfModules modules constraints net
   pub domains : Domains
   pub design : IsDesign constraints net domains
   pub replayed : IsReplayOf net domains run answer
 
 -- the answer to the texts, where no other file than the record is refused
-abbrev pub IsReplayOfTexts : List ℕ → List ℕ → Result Answer Ending → Type 0
-IsReplayOfTexts con run (Ok answer) = IsReplayUnder con run (Ok answer.text)
-IsReplayOfTexts con run (Err (Refused status fault)) = status ≡ Record → IsReplayUnder con run (Err (Refused status fault))
-IsReplayOfTexts con run (Err Memory) = Unit {0}
+abbrev pub IsReplayOfTexts : List ℕ → List ℕ → List ℕ → Result Answer Ending → Type 0
+IsReplayOfTexts net con run (Ok answer) = IsReplayUnder net con run (Ok answer.text)
+IsReplayOfTexts net con run (Err (Refused status fault)) = status ≡ Record → IsReplayUnder net con run (Err (Refused status fault))
+IsReplayOfTexts net con run (Err Memory) = Unit {0}

@@ -1,15 +1,20 @@
 -- What a run of the program answers, as far as its words, its files and its output tell.
-use Rattle.std.specs.Prelude.{ℕ, ◌≡◌, ◌+◌, ◌<◌, ◌⊎◌, true, List, [], ◌∷◌, ◌++◌, length, Option, Some, None, Ok, Err, codes}
+use Rattle.std.specs.Prelude.{ℕ, ◌≡◌, ◌+◌, ◌<◌, ◌⊎◌, true, List, [], ◌∷◌, ◌++◌, length, Option, Some, None, Result, Ok, Err, Bool, false, codes}
+use Rattle.std.specs.Str.{bytes_eq}
 use Rattle.cdc_base.specs.Causes.{Rose, RoseBy, IsAdded, IsFrontAdded}
 use Rattle.cdc_base.specs.declared.fault.Fault.{Fault}
-use Rattle.command_line.specs.Cli.{IsAccepted, file_words}
+use Rattle.command_line.specs.declared.Page.{Page}
+use Rattle.clap.specs.Words.{Row, subcommand_of}
+use Rattle.command_line.specs.Cli.{IsAccepted, cli, file_words, page_of, text_of}
 use Rattle.refusals.specs.Numbers.{is_listed, netlist_numbers, all_constraint_numbers}
 use Rattle.report.specs.Faults.{line_of}
 use Rattle.run_file.specs.Numbers.{record_numbers}
 use Rattle.run_report.specs.Refusals.{step_numbers}
+use Rattle.audit_top.specs.declared.answer.Ending.{Ending}
 use Rattle.audit_top.specs.declared.answer.Ending.TheVariants.{Refused}
 use Rattle.audit_top.specs.declared.status.Status.{Status}
 use Rattle.audit_top.specs.declared.status.Status.TheVariants.{Done, Violations, Usage, Netlist, Constraints, Record, ReadFault, WriteFault, Memory, Waived}
+use Rattle.audit_top.specs.Pages.{page_text}
 use Rattle.audit_top.specs.Audits.{IsAudited, IsAuditOf}
 use Rattle.audit_top.specs.Replays.{IsReplayUnder}
 
@@ -21,7 +26,7 @@ abbrev pub max_bytes : ℕ
 max_bytes = 8388608
 
 abbrev pub usage_line : Text
-usage_line = codes "usage: cdcaudit audit [--json] NET CON | replay NET CON RUN | selftest N" ++ 10 ∷ []
+usage_line = codes "usage: cdcaudit audit [--json] NET CON | replay NET CON RUN | selftest N | help" ++ 10 ∷ []
 
 -- what files tell: what lies under a name, which names were asked for, and the counts of bytes and of failed reads
 pub record Seen : Type 0 where
@@ -110,21 +115,44 @@ TellsOfLength before now text = (name : Text) × IsLastAsked name now × (text �
 abbrev pub IsOfStatus : Status → Type 0
 IsOfStatus s = (s ≡ Netlist) ⊎ ((s ≡ Constraints) ⊎ (s ≡ Record))
 
--- A replay of these bytes under the constraint file's bytes: it prints the run that the record fixes, or refuses the record, which may be too long,
--- for the rule that it breaks. It has no findings, and the other files may be refused.
-abbrev pub IsReplayed : Text → Text → Text → Status → Text → Type 0
-IsReplayed name con run Done text = IsReplayUnder con run (Ok text)
-IsReplayed name con run Record text = (fault : Fault) × (text ≡ line_of fault)
-    × ((fault ≡ fault_at 600 name) ⊎ IsReplayUnder con run (Err (Refused Record fault)))
-IsReplayed name con run Violations text = ⊥
-IsReplayed name con run Waived text = ⊥
-IsReplayed name con run _ text = Unit {0}
+-- there are bytes that are told of a file, and this holds of them
+abbrev pub Told : Seen → Text → (Text → Type 0) → Type 0
+Told now name P = (bytes : Text) × (now.held name ≡ Some bytes) × P bytes
+
+-- the words ask for JSON
+abbrev pub json_in : Option (Text × List Row) → Bool
+json_in None = false
+json_in (Some (name, rows)) = bytes_eq (text_of (codes "json") rows) (codes "true")
+
+abbrev pub wants_json : List Text → Bool
+wants_json words = json_in (subcommand_of cli words)
+
+-- An audit of both files, as they are told: the status and the text are those of their bytes. Each file may be refused.
+abbrev pub IsAuditedBy : Seen → Bool → Text → Text → Status → Text → Type 0
+IsAuditedBy now json net con status text =
+    IsAudited status → Told now net (λ net_bytes. Told now con (λ con_bytes. IsAuditOf json net_bytes con_bytes status text))
+
+-- what is answered to the bytes of all three files, as they are told
+abbrev pub IsReplayTold : Seen → Text → Text → Text → Result Text Ending → Type 0
+IsReplayTold now net con run answer =
+    Told now net (λ net_bytes. Told now con (λ con_bytes. Told now run (λ run_bytes. IsReplayUnder net_bytes con_bytes run_bytes answer)))
+
+-- A replay of the record under the constraints, each file as it is told: it prints the run that the record fixes, or refuses the record, which may be
+-- too long, for the rule that it breaks. It has no findings, and the other files may be refused.
+abbrev pub IsReplayedBy : Seen → Text → Text → Text → Status → Text → Type 0
+IsReplayedBy now net con run Done text = IsReplayTold now net con run (Ok text)
+IsReplayedBy now net con run Record text = (fault : Fault) × (text ≡ line_of fault)
+    × ((fault ≡ fault_at 600 run) ⊎ IsReplayTold now net con run (Err (Refused Record fault)))
+IsReplayedBy now net con run Violations text = ⊥
+IsReplayedBy now net con run Waived text = ⊥
+IsReplayedBy now net con run _ text = Unit {0}
 
 -- a status and a text, from the words and from what the files told
 pub record IsAnswer (words : List Text) (before now : Seen) (status : Status) (text : Text) : Type 0 where
   pub usage : status ≡ Usage → IsAccepted words → ⊥
   pub refused : (IsAccepted words → ⊥) → status ≡ Usage
   pub fits : IsText before now status text
+  pub page : (page : Page) → page_of words ≡ Some page → (status ≡ Done) × (text ≡ page_text page)
   pub too_long : (fault : Fault) → IsOfStatus status → text ≡ line_of fault → fault.number ≡ 600 → TellsOfLength before now text
   pub long_net : (net con : Text) (rest : List Text) → IsAccepted words → file_words words ≡ net ∷ con ∷ rest → IsLong before net
       → IsRefusedForLength Netlist net status text
@@ -132,10 +160,8 @@ pub record IsAnswer (words : List Text) (before now : Seen) (status : Status) (t
       → IsRefusedForLength Constraints con status text ⊎ IsRefusedForLength Netlist net status text
   pub long_run : (net con run : Text) → IsAccepted words → file_words words ≡ net ∷ con ∷ run ∷ [] → IsLong before run
       → IsRefusedForLength Record run status text ⊎ (IsRefusedForLength Constraints con status text ⊎ IsRefusedForLength Netlist net status text)
-  pub replayed : (net con run con_bytes run_bytes : Text) → IsAccepted words → file_words words ≡ net ∷ con ∷ run ∷ []
-      → before.held con ≡ Some con_bytes → before.held run ≡ Some run_bytes → IsReplayed run con_bytes run_bytes status text
-  pub audited : (net con net_bytes con_bytes : Text) → IsAccepted words → file_words words ≡ net ∷ con ∷ []
-      → before.held net ≡ Some net_bytes → before.held con ≡ Some con_bytes → IsAudited status → IsAuditOf net_bytes con_bytes status
+  pub replayed : (net con run : Text) → IsAccepted words → file_words words ≡ net ∷ con ∷ run ∷ [] → IsReplayedBy now net con run status text
+  pub audited : (net con : Text) → IsAccepted words → file_words words ≡ net ∷ con ∷ [] → IsAuditedBy now (wants_json words) net con status text
 
 -- what the output told before the run and tells after it, for a text that went to it
 abbrev pub IsWritten : Status → Status → Text → Option Text → Option Text → Type 0

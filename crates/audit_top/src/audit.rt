@@ -12,7 +12,9 @@ ghost use Rattle.audit_top.specs.Runs.{Seen, max_bytes};
 ghost use Rattle.audit_top.specs.Statuses.{audited_status};
 ghost use Rattle.audit_top.specs.Replays.{IsDesign};
 ghost use Rattle.audit_top.specs.Described.{IsNetOfModules, ReadsAs};
-ghost use Rattle.audit_top.specs.Audits.{IsAudited, IsAuditOf, IsVerdictOn};
+ghost use Rattle.audit_top.specs.Audits.{IsAudited, IsAuditOf, IsVerdictOn, text_of};
+ghost use Rattle.audit_top.specs.Refused.{HasCause, IsAuditRefused, IsDesignRefused, IsNetlistRefused, IsVerdictRefused};
+ghost use Rattle.clock_constraints.specs.declared.Constraints.{Constraints as ConstraintsOf};
 ghost use Rattle.audit_top.specs.Endings.{IsOfDesign, IsOfFiles, IsEndOfAudit};
 
 use crate::answer::{Answer, Ending, or_refused};
@@ -33,6 +35,7 @@ pub(crate) fn read_source(alloc: Global, text: &[u8]) -> Result<Source, Ending>
     ensures of_files { IfErr result IsOfFiles }
     ensures of_design { IfErr result IsOfDesign }
     ensures reads { IfOk result (λ source. ReadsAs text.now (source_of source)) }
+    ensures refused { IfErr result (HasCause (λ status fault. IsNetlistRefused text.now fault status)) }
 {
     let tokens = or_refused(Status::Netlist, verilog_lex::lex(alloc, text))?;
     or_refused(
@@ -50,6 +53,7 @@ fn elaborated(alloc: Global, source: &Source, constraints: &Constraints) -> Resu
     ensures started { IfOk result (λ net. AreStarted net.graph.signals) }
     ensures shared { IfOk result (λ net. IsShared net.graph) }
     ensures unfolded { IsSourceFormed (source_of source.now) → IfOk result (IsNetOfModules (source_of source.now) constraints.now) }
+    ensures refused { IsSourceFormed (source_of source.now) → IfErr result (HasCause (λ status fault. IsDesignRefused (source_of source.now) constraints.now fault status)) }
 {
     let resets = constraints.resets.as_slice();
     let flat = flat_design::flatten(alloc, source, &constraints.top, resets);
@@ -79,6 +83,7 @@ pub(crate) fn constrained(
     ensures of_design { IfErr result IsOfDesign }
     ensures design { AreFit constraints.now → IfOk result (λ made. IsDesign constraints.now made.0 made.1) }
     ensures unfolded { IsSourceFormed (source_of source.now) → IfOk result (λ made. IsNetOfModules (source_of source.now) constraints.now made.0) }
+    ensures refused { IsSourceFormed (source_of source.now) → IfErr result (HasCause (λ status fault. IsDesignRefused (source_of source.now) constraints.now fault status)) }
 {
     let net = elaborated(alloc, source, constraints)?;
     let domains = domains::assign(alloc, &net, constraints, &Plain);
@@ -91,6 +96,7 @@ pub(crate) fn constrained(
 fn verdict_on(alloc: Global, net: &Net, domains: &Domains) -> Result<Verdict, Ending>
     ensures of_files { IfErr result IsOfFiles }
     ensures exact { CanAudit net.now domains.now → IfOk result (IsVerdictOn net.now domains.now) }
+    ensures refused { CanAudit net.now domains.now → (c : ConstraintsOf) → IfErr result (HasCause (λ status fault. IsVerdictRefused c net.now domains.now fault status)) }
 {
     or_refused(Status::Netlist, obligations::audit(alloc, net, domains))
 }
@@ -130,7 +136,9 @@ fn verdict_text(
     verdict: &Verdict,
     waivers: &[Waiver],
     aside: &[Option<u32>],
-) -> Result<List<u8>, NoMemory> {
+) -> Result<List<u8>, NoMemory>
+    ensures { IfOk result (λ text. text ≡ text_of json net.now domains.now verdict.now waivers.now aside.now) }
+{
     if json {
         report::verdict_json(alloc, net, domains, verdict, waivers, aside, &[])
     } else {
@@ -142,7 +150,8 @@ fn verdict_text(
 /// the unfolding, of the cells, of the clocks, of the crossings, of the waivers.
 fn audit_texts(alloc: Global, json: bool, net: &[u8], con: &[u8]) -> Result<Answer, Ending>
     requires { length net.now ≤ max_bytes }
-    ensures exact { IfOk result (λ answer. IsAuditOf net.now con.now answer.status) }
+    ensures exact { IfOk result (λ answer. IsAuditOf json net.now con.now answer.status answer.text) }
+    ensures refused { IfErr result (HasCause (λ status fault. IsAuditRefused net.now con.now fault status)) }
     ensures ended { MatchResult result (λ answer. IsAudited answer.status) IsOfFiles }
 {
     let source = read_source(alloc, net)?;
@@ -177,7 +186,7 @@ pub fn audit<F: Files>(
 ) -> Result<Answer, Ending>
     ensures { let before : Seen = record { held = F.held files.old; asked = F.asked files.old; taken = F.taken files.old; faults = F.faults files.old } in
         let now : Seen = record { held = F.held files.new; asked = F.asked files.new; taken = F.taken files.new; faults = F.faults files.new } in
-        IsEndOfAudit net.now con.now before now result }
+        IsEndOfAudit json net.now con.now before now result }
 {
     let (net, con) = read_both(alloc, files, net, con)?;
     audit_texts(alloc, json, net.as_slice(), con.as_slice())

@@ -1,5 +1,5 @@
 //! The generated design: channels that each carry a byte from one clock to another under a toggle handshake.
-use cdc_base::{List, Name, NoMemory, Place, ResetPin};
+use cdc_base::{List, Name, NoMemory, NumberSize, Place, ResetPin};
 use clock_constraints::{ClockPin, Constraints, InputPin};
 use std::alloc::Global;
 use verilog_ast::{
@@ -34,7 +34,7 @@ fn plain(value: u64) -> Expr {
     Expr::Number {
         value,
         width: 32,
-        plain: true,
+        size: NumberSize::Plain,
     }
 }
 

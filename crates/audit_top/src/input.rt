@@ -1,5 +1,5 @@
 //! Reading the files that the words name.
-ghost use Rattle.std.specs.Prelude.{◌≡◌, ◌≤◌, length, IfOk, IfErr, IfSome};
+ghost use Rattle.std.specs.Prelude.{◌≡◌, ◌≤◌, length, Some, IfOk, IfErr};
 ghost use Rattle.audit_top.specs.Runs.{Seen, fault_at, max_bytes};
 ghost use Rattle.audit_top.specs.Endings.{IsRefusal, IsOfLength, IsReadOf, IsReadOfBoth, IsReadOfThree};
 
@@ -56,7 +56,7 @@ pub fn read_both<F: Files>(
         let now : Seen = record { held = F.held files.new; asked = F.asked files.new; taken = F.taken files.new; faults = F.faults files.new } in
         IsReadOfBoth net.now con.now before now result }
     ensures within { IfOk result (λ texts. (length texts.0 ≤ max_bytes) × (length texts.1 ≤ max_bytes)) }
-    ensures content { IfOk result (λ texts. IfSome (F.held files.old net.now) (λ all. texts.0 ≡ all) × IfSome (F.held files.old con.now) (λ all. texts.1 ≡ all)) }
+    ensures content { IfOk result (λ texts. (F.held files.new net.now ≡ Some texts.0) × (F.held files.new con.now ≡ Some texts.1)) }
 {
     let net = match read_text(alloc, files, net, Status::Netlist) {
         Ok(net) => net,
@@ -80,7 +80,7 @@ pub fn read_three<F: Files>(
         let now : Seen = record { held = F.held files.new; asked = F.asked files.new; taken = F.taken files.new; faults = F.faults files.new } in
         IsReadOfThree net.now con.now run.now before now result }
     ensures within { IfOk result (λ texts. length texts.0 ≤ max_bytes) }
-    ensures content { IfOk result (λ texts. IfSome (F.held files.old con.now) (λ all. texts.1 ≡ all) × IfSome (F.held files.old run.now) (λ all. texts.2 ≡ all)) }
+    ensures content { IfOk result (λ texts. (F.held files.new net.now ≡ Some texts.0) × (F.held files.new con.now ≡ Some texts.1) × (F.held files.new run.now ≡ Some texts.2)) }
     ensures of_length { IfErr result (IsOfLength run.now) }
 {
     let net = match read_text(alloc, files, net, Status::Netlist) {

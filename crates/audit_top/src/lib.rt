@@ -6,6 +6,7 @@ pub mod audit;
 pub mod generated;
 pub mod input;
 pub mod output;
+pub mod page;
 pub mod replay;
 pub mod selftest;
 pub mod status;

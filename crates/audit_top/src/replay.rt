@@ -36,7 +36,7 @@ pub fn replayed_text(
 /// the unfolding, of the cells, of the clocks, of the record, of its steps.
 fn replay_texts(alloc: Global, net: &[u8], con: &[u8], run: &[u8]) -> Result<Answer, Ending>
     requires { length net.now ≤ max_bytes }
-    ensures exact { IsReplayOfTexts con.now run.now result }
+    ensures exact { IsReplayOfTexts net.now con.now run.now result }
     ensures ended { MatchResult result (λ answer. answer.status ≡ Done) IsOfFiles }
 {
     let source = read_source(alloc, net)?;

@@ -7,6 +7,7 @@ ghost use Rattle.audit_top.specs.Runs.{Seen, Output, AsksByWords, IsAnswer, IsRu
 use crate::answer::{Answer, answer_of};
 use crate::audit::audit;
 use crate::output::write_lines;
+use crate::page;
 use crate::replay::replay;
 use crate::selftest::selftest;
 use crate::status::Status;
@@ -14,7 +15,7 @@ use cdc_base::{Files, List, NoMemory, Sink, SinkFault};
 use command_line::{Refusal, Request};
 use std::alloc::Global;
 
-const USAGE: &str = "usage: cdcaudit audit [--json] NET CON | replay NET CON RUN | selftest N\n";
+const USAGE: &str = "usage: cdcaudit audit [--json] NET CON | replay NET CON RUN | selftest N | help\n";
 
 fn usage(alloc: Global) -> Result<Answer, NoMemory>
     ensures { IfOk result IsUsage }
@@ -45,6 +46,7 @@ fn answer<F: Files>(alloc: Global, words: &[String], files: &mut F) -> Result<An
             answer_of(alloc, replay(alloc, files, net, con, run))
         }
         Ok(Request::Selftest { channels }) => answer_of(alloc, selftest(alloc, channels)),
+        Ok(Request::Show(page)) => page::show(alloc, page),
         Err(Refusal::Words) => usage(alloc),
         Err(Refusal::Memory) => Err(NoMemory),
     }

@@ -6,6 +6,9 @@ use Rattle.domains.specs.Fit.{Fit}
 use Rattle.refusals.specs.Numbers.{assignment_numbers}
 use Rattle.audit_top.specs.Endings.{IsOfDesign, IsOfFiles}
 use Rattle.audit_top.proofs.Replays.{given_holds, is_design, of_design}
+use Rattle.verilog_reading.specs.SourceTree.{source_of}
+use Rattle.audit_top.specs.Refused.{HasCause, IsDesignRefused}
+use Rattle.audit_top.proofs.Refused.{caused, domains_cause}
 use Rattle.audit_top.proofs.audit.constrained.Goals as goal
 
 pub returns-in_err-domains-clause-of_files : goal.returns-in_err-domains-clause-of_files
@@ -25,3 +28,13 @@ returns-clause-design c = λ fits.
     let assigned = given_holds (AreDomains plain.ghosts.reads net c.args.constraints.now) _ (Ok c.in_ok-domains.domains) c.in_ok-domains.ensures.given (c.assign-domains.ensures.domains is) in
     let fit = given_holds (Fit net) _ (Ok c.in_ok-domains.domains) c.in_ok-domains.ensures.given (c.assign-domains.ensures.fit is fits) in
     is_design _ _ _ is c.in_ok-net.ensures.next_cells c.in_ok-net.ensures.shared c.in_ok-net.ensures.started assigned fit c.in_ok-check_numbers.ensures
+
+pub returns-in_err-domains-clause-refused : goal.returns-in_err-domains-clause-refused
+returns-in_err-domains-clause-refused c = λ formed.
+    let modules = source_of c.args.source.now in
+    let constraints = c.args.constraints.now in
+    let is = c.in_ok-net.ensures.is_net in
+    let refused : IfErr c.or_refused.result (HasCause (λ status fault. IsDesignRefused modules constraints fault status))
+    = caused (λ status fault. IsDesignRefused modules constraints fault status) _ _ _ c.or_refused.ensures.exact
+    (domains_cause modules constraints c.in_ok-net.net (c.in_ok-net.ensures.unfolded formed) is _ (c.assign-domains.ensures.refused is)) in
+    search rules

@@ -9,6 +9,8 @@ use Rattle.audit_top.specs.Described.{IsNetOfModules}
 use Rattle.audit_top.specs.Endings.{IsOfDesign, IsOfFiles}
 use Rattle.audit_top.proofs.Described.{IsFlatOfModules, flat_of_modules, net_of_modules}
 use Rattle.audit_top.proofs.Replays.{given_holds, of_design}
+use Rattle.audit_top.specs.Refused.{HasCause, IsDesignRefused}
+use Rattle.audit_top.proofs.Refused.{caused, cells_cause, unfolding_cause}
 use Rattle.audit_top.proofs.audit.elaborated.Goals as goal
 
 pub returns-in_err-flat-clause-of_files : goal.returns-in_err-flat-clause-of_files
@@ -48,3 +50,22 @@ returns-clause-unfolded c = λ formed.
     (flat_of_modules modules constraints formed _ unfolds (c.flatten-flat.ensures.sizes formed)) in
     given_holds (IsNetOfModules modules constraints) _ _ c.or_refused-2.ensures.given
     (net_of_modules modules constraints c.in_ok-flat.flat flat _ c.elaborate.ensures.unfolds c.elaborate.ensures.accepted c.elaborate.ensures.signals)
+
+pub returns-in_err-flat-clause-refused : goal.returns-in_err-flat-clause-refused
+returns-in_err-flat-clause-refused c = λ formed.
+    let modules = source_of c.args.source.now in
+    let constraints = c.args.constraints.now in
+    let unfolds = rw c.as_slice-resets.ensures at (c.flatten-flat.ensures.exact formed) in
+    let refused : IfErr c.or_refused.result (HasCause (λ status fault. IsDesignRefused modules constraints fault status))
+    = caused (λ status fault. IsDesignRefused modules constraints fault status) _ _ _ c.or_refused.ensures.exact (unfolding_cause modules constraints _ unfolds) in
+    search rules
+
+pub returns-clause-refused : goal.returns-clause-refused
+returns-clause-refused c = λ formed.
+    let modules = source_of c.args.source.now in
+    let constraints = c.args.constraints.now in
+    let unfolds = rw c.as_slice-resets.ensures at (c.flatten-flat.ensures.exact formed) in
+    let flat = given_holds (IsFlatOfModules modules constraints) _ (Ok c.in_ok-flat.flat) c.in_ok-flat.ensures.given
+    (flat_of_modules modules constraints formed _ unfolds (c.flatten-flat.ensures.sizes formed)) in
+    caused (λ status fault. IsDesignRefused modules constraints fault status) _ _ _ c.or_refused-2.ensures.exact
+    (cells_cause modules constraints c.in_ok-flat.flat flat _ c.elaborate.ensures.refused)

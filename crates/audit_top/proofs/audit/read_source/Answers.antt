@@ -8,6 +8,8 @@ use Rattle.audit_top.specs.Described.{ReadsAs}
 use Rattle.audit_top.specs.Endings.{IsOfDesign, IsOfFiles}
 use Rattle.audit_top.proofs.Described.{text_reads}
 use Rattle.audit_top.proofs.Replays.{given_holds, of_design}
+use Rattle.audit_top.specs.Refused.{HasCause, IsNetlistRefused}
+use Rattle.audit_top.proofs.Refused.{caused, reading_cause, token_cause}
 use Rattle.audit_top.proofs.audit.read_source.Goals as goal
 
 pub returns-in_err-tokens-clause-of_files : goal.returns-in_err-tokens-clause-of_files
@@ -32,3 +34,17 @@ returns-clause-reads c =
     let are = given_holds (λ ts. tokens_of text ≡ Ok ts) _ (Ok c.in_ok-tokens.tokens) c.in_ok-tokens.ensures.given c.lex.ensures.tokens in
     given_holds (λ s. ReadsAs text (source_of s)) _ _ c.or_refused-2.ensures.given
     (text_reads text c.in_ok-tokens.tokens c.parse.result are (rw c.as_slice.ensures at c.parse.ensures.reading) (rw c.as_slice.ensures at c.parse.ensures.one))
+
+pub returns-in_err-tokens-clause-refused : goal.returns-in_err-tokens-clause-refused
+returns-in_err-tokens-clause-refused c =
+    let text = c.args.text.now in
+    let refused : IfErr c.or_refused.result (HasCause (λ status fault. IsNetlistRefused text fault status))
+    = caused (λ status fault. IsNetlistRefused text fault status) _ _ _ c.or_refused.ensures.exact (token_cause text _ c.lex.ensures.refused) in
+    search rules
+
+pub returns-clause-refused : goal.returns-clause-refused
+returns-clause-refused c =
+    let text = c.args.text.now in
+    let are = given_holds (λ ts. tokens_of text ≡ Ok ts) _ (Ok c.in_ok-tokens.tokens) c.in_ok-tokens.ensures.given c.lex.ensures.tokens in
+    caused (λ status fault. IsNetlistRefused text fault status) _ _ _ c.or_refused-2.ensures.exact
+    (reading_cause text c.in_ok-tokens.tokens c.parse.result are (rw c.as_slice.ensures at c.parse.ensures.refused))

@@ -1,4 +1,4 @@
-use Rattle.audit_top.proofs.ReadInTurn.{first_ends, second_ends, told_before}
+use Rattle.audit_top.proofs.ReadInTurn.{first_ends, second_ends, still_told}
 use Rattle.audit_top.proofs.input.read_both.Goals as goal
 
 pub returns-in-Err-clause-files : goal.returns-in-Err-clause-files
@@ -8,4 +8,4 @@ pub returns-in-Err-read_text-clause-files : goal.returns-in-Err-read_text-clause
 returns-in-Err-read_text-clause-files g c = second_ends _ _ _ _ _ _ _ c.in-Ok.ensures c.in-Err-read_text.ensures
 
 pub returns-in-Ok-read_text-clause-content : goal.returns-in-Ok-read_text-clause-content
-returns-in-Ok-read_text-clause-content g c = (c.in-Ok.ensures.content, told_before _ _ _ (c.in-Ok.ensures.holds c.args.con.now) c.in-Ok-read_text.ensures.content)
+returns-in-Ok-read_text-clause-content g c = (still_told _ _ _ (c.in-Ok-read_text.ensures.holds c.args.net.now) c.in-Ok.ensures.content, c.in-Ok-read_text.ensures.content)

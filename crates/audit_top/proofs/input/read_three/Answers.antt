@@ -1,5 +1,4 @@
-use Rattle.std.proofs.Common.{◌∙◌}
-use Rattle.audit_top.proofs.ReadInTurn.{first_of_three, second_of_three, third_of_three, all_read, netlist_length, constraints_length, record_length, told_before}
+use Rattle.audit_top.proofs.ReadInTurn.{first_of_three, second_of_three, third_of_three, all_read, netlist_length, constraints_length, record_length, still_told}
 use Rattle.audit_top.proofs.input.read_three.Goals as goal
 
 pub returns-in-Err-clause-files : goal.returns-in-Err-clause-files
@@ -25,6 +24,7 @@ returns-in-Err-read_text-2-clause-of_length g c = record_length _ _ _ _ c.in-Err
 
 pub returns-in-Ok-read_text-2-clause-content : goal.returns-in-Ok-read_text-2-clause-content
 returns-in-Ok-read_text-2-clause-content g c = (
-  told_before _ _ _ (c.in-Ok.ensures.holds c.args.con.now) c.in-Ok-read_text.ensures.content,
-  told_before _ _ _ (c.in-Ok-read_text.ensures.holds c.args.run.now ∙ c.in-Ok.ensures.holds c.args.run.now) c.in-Ok-read_text-2.ensures.content,
+  still_told _ _ _ (c.in-Ok-read_text-2.ensures.holds c.args.net.now) (still_told _ _ _ (c.in-Ok-read_text.ensures.holds c.args.net.now) c.in-Ok.ensures.content),
+  still_told _ _ _ (c.in-Ok-read_text-2.ensures.holds c.args.con.now) c.in-Ok-read_text.ensures.content,
+  c.in-Ok-read_text-2.ensures.content,
 )

@@ -8,5 +8,5 @@ returns-in_err-net g c =
     rw same (unread_texts _ _ _ _ _ _ c.in_err-net.ensures.files c.in_err-net.ensures.of_length)
 
 pub returns : goal.returns
-returns g c = replayed_texts _ _ _ _ _ _ _ _ _ c.in_ok-net.ensures.files c.replay_texts.ensures.ended
-    (rw c.as_slice-2.ensures c.in_ok-net.ensures.content.0, rw c.as_slice-3.ensures c.in_ok-net.ensures.content.1) c.replay_texts.ensures.exact
+returns g c = replayed_texts _ _ _ _ _ _ _ _ _ _ c.in_ok-net.ensures.files c.replay_texts.ensures.ended
+    (rw c.as_slice.ensures c.in_ok-net.ensures.content.0, rw c.as_slice-2.ensures c.in_ok-net.ensures.content.1, rw c.as_slice-3.ensures c.in_ok-net.ensures.content.2) c.replay_texts.ensures.exact

@@ -14,15 +14,15 @@ returns-in_err-constraints-clause-ended c =
     search rules
 
 pub returns-in_err-source-clause-exact : goal.returns-in_err-source-clause-exact
-returns-in_err-source-clause-exact c = before_record _ _ _ c.from_residual.ensures.0 (search rules)
+returns-in_err-source-clause-exact c = before_record _ _ _ _ c.from_residual.ensures.0 (search rules)
 
 pub returns-in_err-constraints-clause-exact : goal.returns-in_err-constraints-clause-exact
 returns-in_err-constraints-clause-exact c =
     let refused : IfErr c.or_refused.result IsOfDesign = of_design _ _ _ (inr refl) c.or_refused.ensures.exact in
-    before_record _ _ _ c.from_residual-in_err-constraints.ensures.0 (search rules)
+    before_record _ _ _ _ c.from_residual-in_err-constraints.ensures.0 (search rules)
 
 pub returns-in_err-net-clause-exact : goal.returns-in_err-net-clause-exact
-returns-in_err-net-clause-exact c = before_record _ _ _ c.from_residual-in_err-net.ensures.0 (search rules)
+returns-in_err-net-clause-exact c = before_record _ _ _ _ c.from_residual-in_err-net.ensures.0 (search rules)
 
 pub returns-in_err-text-clause-exact : goal.returns-in_err-text-clause-exact
 returns-in_err-text-clause-exact c =
@@ -30,11 +30,13 @@ returns-in_err-text-clause-exact c =
     let fits = given_holds AreFit _ (Ok c.in_ok-constraints.constraints) c.in_ok-constraints.ensures.given c.read.ensures.fit in
     let same : c.from_residual-in_err-text.result ≡ Err c.in_err-text.field-0.0
     = search (rules, c.in_err-text.was, c.from_residual-in_err-text.ensures.0, c.from_residual-in_err-text.ensures.1) in
-    rw same (record_refused _ _ _
-    (replayed_under _ _ c.in_ok-constraints.constraints c.in_ok-net.net c.in_ok-net.domains _ means fits c.in_ok-net.ensures.design c.in_err-text.ensures.exact))
+    rw same (record_refused _ _ _ _
+    (replayed_under _ _ _ _ c.in_ok-constraints.constraints c.in_ok-net.net c.in_ok-net.domains _ c.in_ok-source.ensures.reads means fits c.in_ok-net.ensures.unfolded
+    c.in_ok-net.ensures.design c.in_err-text.ensures.exact))
 
 pub returns-clause-exact : goal.returns-clause-exact
 returns-clause-exact c =
     let means = given_holds (IsMeaning c.args.con.now) _ (Ok c.in_ok-constraints.constraints) c.in_ok-constraints.ensures.given c.read.ensures.ok in
     let fits = given_holds AreFit _ (Ok c.in_ok-constraints.constraints) c.in_ok-constraints.ensures.given c.read.ensures.fit in
-    replayed_under _ _ c.in_ok-constraints.constraints c.in_ok-net.net c.in_ok-net.domains (Ok c.in_ok-text.text) means fits c.in_ok-net.ensures.design c.in_ok-text.ensures.exact
+    replayed_under _ _ _ _ c.in_ok-constraints.constraints c.in_ok-net.net c.in_ok-net.domains (Ok c.in_ok-text.text) c.in_ok-source.ensures.reads means fits c.in_ok-net.ensures.unfolded
+    c.in_ok-net.ensures.design c.in_ok-text.ensures.exact

@@ -1,0 +1,126 @@
+-- The causes of refusals, from those of the layers.
+use Rattle.std.proofs.Common.{◌≡◌, ◌<◌, ℕ, List, length, Option, Result, Ok, Err, refl, sym, subst}
+use Rattle.std.specs.Prelude.{IfOk, IfErr}
+use Rattle.cdc_base.specs.declared.fault.Fault.{Fault}
+use Rattle.cdc_base.specs.declared.fault.Stop.{Stop}
+use Rattle.cdc_base.specs.declared.fault.Stop.TheVariants as stop
+use Rattle.cdc_base.specs.declared.limits.TheConstants.{MAX_CROSSINGS}
+use Rattle.cell_graph.specs.declared.net.Net.{Net}
+use Rattle.cell_graph.specs.Cells.{HasCause as HasNumber}
+use Rattle.clock_constraints.specs.declared.Constraints.{Constraints as ConstraintsOf}
+use Rattle.clock_constraints.specs.Files.{IsMeaning, IsStopOf}
+use Rattle.clock_constraints.specs.Refusals.{Gives}
+use Rattle.cofactor.specs.contracts.nodes.PlainCofactors.TheImpl as plain
+use Rattle.domains.specs.declared.Domains.{Domains}
+use Rattle.domains.specs.Assignment.{IsBroken, Refuses}
+use Rattle.domains.specs.Nets.{IsNet}
+use Rattle.cdc_model.specs.declared.verdict.Verdict.{Verdict}
+use Rattle.cdc_model.specs.Facts.{none_extra}
+use Rattle.cdc_model.specs.Found.{crossings_of}
+use Rattle.cdc_model.specs.Listed.{IsVerdictOf}
+use Rattle.obligations.specs.Judged.{CanAudit}
+use Rattle.report.specs.Waived.{set_aside}
+use Rattle.flat_unfolding.specs.Formed.{IsSourceFormed}
+use Rattle.verilog_ast.specs.declared.Source.{Source}
+use Rattle.verilog_lex.specs.declared.token.Token.{Token}
+use Rattle.verilog_lex.specs.Tokens.{tokens_of}
+use Rattle.verilog_parse.specs.Refusals.{RefusesFirst}
+use Rattle.verilog_reading.specs.Refusals.{IsEnded}
+use Rattle.verilog_reading.specs.SourceTree.{ModuleTree}
+use Rattle.flat_form.specs.declared.flat.Flat.{Flat}
+use Rattle.flat_unfolding.specs.Unfolding.{IsUnfolding, unfolded}
+use Rattle.elaborate.specs.Refusals.{IsRefusedFor, Tells}
+use Rattle.audit_top.specs.declared.answer.Ending.{Ending}
+use Rattle.audit_top.specs.declared.answer.Ending.TheVariants.{Refused, Memory}
+use Rattle.audit_top.specs.declared.status.Status.{Status}
+use Rattle.audit_top.specs.declared.status.Status.TheVariants.{Netlist, Constraints}
+use Rattle.audit_top.specs.Replays.{ended_with}
+use Rattle.audit_top.specs.Refused.{HasCause, IsNetlistRefused, tokens, reading, IsDesignRefused, rule, cells, domains, AreTextsRefused, netlist, constraints, design, IsVerdictRefused, crossings, waivers, IsAuditRefused, texts, verdict}
+use Rattle.audit_top.specs.Described.{IsNetOfModules, ReadsAs}
+use Rattle.audit_top.specs.Replays.{IsDesign}
+use Rattle.audit_top.proofs.Described.{IsFlatOfModules, modules_formed, text_ended}
+
+-- a layer's refusal has the cause that the layer tells
+pub caused : {T : Type 0} (cause : Status → Fault → Type 0) (s : Status) (given : Result T Stop) (r : Result T Ending) → r ≡ ended_with s given
+    → IfErr given (Refuses (cause s)) → IfErr r (HasCause cause)
+caused cause s (Ok v) r is h = subst (λ (x : Result _ Ending). IfErr x (HasCause cause)) (sym is) tt
+caused cause s (Err (stop.Refused f)) r is h = subst (λ (x : Result _ Ending). IfErr x (HasCause cause)) (sym is) h
+caused cause s (Err stop.Memory) r is h = subst (λ (x : Result _ Ending). IfErr x (HasCause cause)) (sym is) tt
+
+pub token_cause : (text : List ℕ) (given : Result (List Token) Stop) → ((f : Fault) → given ≡ Err (stop.Refused f) → tokens_of text ≡ Err f)
+    → IfErr given (Refuses (λ f. IsNetlistRefused text f Netlist))
+token_cause text (Ok ts) h = tt
+token_cause text (Err (stop.Refused f)) h = tokens (h f refl)
+token_cause text (Err stop.Memory) h = tt
+
+pub reading_cause : (text : List ℕ) (ts : List Token) (given : Result Source Stop) → tokens_of text ≡ Ok ts
+    → IfErr given (λ e. IsEnded ts → RefusesFirst 255 ts e) → IfErr given (Refuses (λ f. IsNetlistRefused text f Netlist))
+reading_cause text ts (Ok s) are h = tt
+reading_cause text ts (Err (stop.Refused f)) are h = reading ts are (h (text_ended text ts are) f refl)
+reading_cause text ts (Err stop.Memory) are h = tt
+
+module _ (modules : List ModuleTree) (c : ConstraintsOf) where
+  pub unfolding_cause : (given : Result Flat Stop) → IsUnfolding (unfolded modules c.top c.resets) given
+      → IfErr given (Refuses (λ f. IsDesignRefused modules c f Netlist))
+  unfolding_cause (Ok flat) h = tt
+  unfolding_cause (Err (stop.Refused f)) h = rule h
+  unfolding_cause (Err stop.Memory) h = tt
+
+  pub cells_cause : (flat : Flat) → IsFlatOfModules modules c flat → (given : Result Net Stop) → IfErr given (Tells (IsRefusedFor flat))
+      → IfErr given (Refuses (λ f. IsDesignRefused modules c f Netlist))
+  cells_cause flat is (Ok net) h = tt
+  cells_cause flat is (Err (stop.Refused f)) h = cells flat is.unfolds is.flattened h
+  cells_cause flat is (Err stop.Memory) h = tt
+
+  pub domains_cause : (net : Net) → IsNetOfModules modules c net → IsNet net → (given : Result Domains Stop) → IfErr given (Refuses (IsBroken plain.ghosts.reads net c))
+      → IfErr given (Refuses (λ f. IsDesignRefused modules c f Constraints))
+  domains_cause net of_modules is (Ok d) h = tt
+  domains_cause net of_modules is (Err (stop.Refused f)) h = domains net of_modules is h
+  domains_cause net of_modules is (Err stop.Memory) h = tt
+
+pub crossings_cause : (c : ConstraintsOf) (net : Net) (d : Domains) → CanAudit net d → (given : Result Verdict Stop)
+    → IfErr given (HasNumber 603 (CanAudit net d → MAX_CROSSINGS < length (crossings_of net d))) → IfErr given (Refuses (λ f. IsVerdictRefused c net d f Netlist))
+crossings_cause c net d can (Ok v) h = tt
+crossings_cause c net d can (Err (stop.Refused f)) h = crossings h.0 (h.1 can)
+crossings_cause c net d can (Err stop.Memory) h = tt
+
+pub waivers_cause : (c : ConstraintsOf) (net : Net) (d : Domains) (v : Verdict) → IsVerdictOf net d none_extra v → (given : Result (List (Option ℕ)) Stop)
+    → Gives given (set_aside net d v.findings c.waivers) → IfErr given (Refuses (λ f. IsVerdictRefused c net d f Constraints))
+waivers_cause c net d v is (Ok a) h = tt
+waivers_cause c net d v is (Err (stop.Refused f)) h = waivers v is h
+waivers_cause c net d v is (Err stop.Memory) h = tt
+
+-- ---- the stages of an audit
+
+pub also : {T : Type 0} (first then : Status → Fault → Type 0) (r : Result T Ending) → ((s : Status) (f : Fault) → first s f → then s f)
+    → IfErr r (HasCause first) → IfErr r (HasCause then)
+also first then (Ok v) more h = tt
+also first then (Err (Refused s f)) more h = more s f h
+also first then (Err Memory) more h = tt
+
+module _ (text con : List ℕ) where
+  pub netlist_refused : {T : Type 0} (r : Result T Ending) → IfErr r (HasCause (λ s f. IsNetlistRefused text f s)) → IfErr r (HasCause (λ s f. AreTextsRefused text con f s))
+  netlist_refused r h = also (λ s f. IsNetlistRefused text f s) (λ s f. AreTextsRefused text con f s) r (λ s f x. netlist x) h
+
+  pub constraints_refused : (modules : List ModuleTree) → ReadsAs text modules → (given : Result ConstraintsOf Stop) (r : Result ConstraintsOf Ending)
+      → r ≡ ended_with Constraints given → IfErr given (IsStopOf con) → IfErr r (HasCause (λ s f. AreTextsRefused text con f s))
+  constraints_refused modules reads given r is h = caused (λ s f. AreTextsRefused text con f s) Constraints given r is (told given h)
+    where
+      told : (g : Result ConstraintsOf Stop) → IfErr g (IsStopOf con) → IfErr g (Refuses (λ f. AreTextsRefused text con f Constraints))
+      told (Ok c) h = tt
+      told (Err (stop.Refused f)) h = constraints modules reads refl h
+      told (Err stop.Memory) h = tt
+
+  pub design_refused : {T : Type 0} (modules : List ModuleTree) → ReadsAs text modules → (c : ConstraintsOf) → IsMeaning con c → (r : Result T Ending)
+      → (IsSourceFormed modules → IfErr r (HasCause (λ s f. IsDesignRefused modules c f s))) → IfErr r (HasCause (λ s f. AreTextsRefused text con f s))
+  design_refused modules reads c means r h = also (λ s f. IsDesignRefused modules c f s) (λ s f. AreTextsRefused text con f s) r
+      (λ s f x. design modules reads c means x) (h (modules_formed text modules reads))
+
+  pub texts_refused : {T : Type 0} (r : Result T Ending) → IfErr r (HasCause (λ s f. AreTextsRefused text con f s)) → IfErr r (HasCause (λ s f. IsAuditRefused text con f s))
+  texts_refused r h = also (λ s f. AreTextsRefused text con f s) (λ s f. IsAuditRefused text con f s) r (λ s f x. texts x) h
+
+  pub verdict_refused : {T : Type 0} (modules : List ModuleTree) → ReadsAs text modules → (c : ConstraintsOf) → IsMeaning con c → (net : Net)
+      → (IsSourceFormed modules → IsNetOfModules modules c net) → (d : Domains) → IsDesign c net d → (r : Result T Ending)
+      → IfErr r (HasCause (λ s f. IsVerdictRefused c net d f s)) → IfErr r (HasCause (λ s f. IsAuditRefused text con f s))
+  verdict_refused modules reads c means net of_modules d made r h = also (λ s f. IsVerdictRefused c net d f s) (λ s f. IsAuditRefused text con f s) r
+      (λ s f x. verdict modules reads c means net (of_modules (modules_formed text modules reads)) d made x) h

@@ -1,0 +1,67 @@
+-- Why texts have no verdict and no run, stage by stage in the order in which they are read.
+use Rattle.std.specs.Prelude.{◌≡◌, ◌<◌, ℕ, List, length, Ok, Err}
+use Rattle.cdc_base.specs.declared.fault.Fault.{Fault}
+use Rattle.cdc_base.specs.declared.limits.TheConstants.{MAX_CROSSINGS}
+use Rattle.cell_graph.specs.declared.net.Net.{Net}
+use Rattle.clock_constraints.specs.declared.Constraints.{Constraints as ConstraintsOf}
+use Rattle.clock_constraints.specs.Files.{IsBroken as IsBrokenFile, IsMeaning}
+use Rattle.cofactor.specs.contracts.nodes.PlainCofactors.TheImpl as plain
+use Rattle.domains.specs.declared.Domains.{Domains}
+use Rattle.domains.specs.Assignment.{IsBroken}
+use Rattle.domains.specs.Nets.{IsNet}
+use Rattle.cdc_model.specs.declared.verdict.Verdict.{Verdict}
+use Rattle.cdc_model.specs.Facts.{none_extra}
+use Rattle.cdc_model.specs.Found.{crossings_of}
+use Rattle.cdc_model.specs.Listed.{IsVerdictOf}
+use Rattle.verilog_lex.specs.declared.token.Token.{Token}
+use Rattle.verilog_lex.specs.Tokens.{tokens_of}
+use Rattle.verilog_parse.specs.Refusals.{TellsFirst}
+use Rattle.verilog_reading.specs.SourceTree.{ModuleTree}
+use Rattle.flat_form.specs.declared.flat.Flat.{Flat}
+use Rattle.flat_form.specs.View.{flat_of}
+use Rattle.flat_unfolding.specs.Outcome.{bad}
+use Rattle.flat_unfolding.specs.Unfolding.{unfolded}
+use Rattle.elaborate.specs.Refusals.{IsFlattened, IsRefusedFor}
+use Rattle.report.specs.Waived.{set_aside}
+use Rattle.audit_top.specs.declared.answer.Ending.{Ending}
+use Rattle.audit_top.specs.declared.answer.Ending.TheVariants.{Refused, Memory}
+use Rattle.audit_top.specs.declared.status.Status.{Status}
+use Rattle.audit_top.specs.declared.status.Status.TheVariants.{Netlist, Constraints}
+use Rattle.audit_top.specs.Described.{IsNetOfModules, ReadsAs, UnfoldsTo}
+use Rattle.audit_top.specs.Replays.{IsDesign}
+
+-- a refusal has such a cause, unless memory ran out
+abbrev pub HasCause : (Status → Fault → Type 0) → Ending → Type 0
+HasCause cause (Refused status fault) = cause status fault
+HasCause cause Memory = Unit {0}
+
+-- a netlist's bytes: the first token that breaks a rule; or the first token with which no source goes on
+pub data IsNetlistRefused (text : List ℕ) (fault : Fault) : Status → Type 0 where
+  tokens : tokens_of text ≡ Err fault → IsNetlistRefused text fault Netlist
+  reading : (ts : List Token) → tokens_of text ≡ Ok ts → TellsFirst 255 ts fault → IsNetlistRefused text fault Netlist
+
+-- modules under constraints: the first broken rule of their unfolding; the cause for which their flat design has no cells; or the rule of clocks and
+-- inputs that its net breaks
+pub data IsDesignRefused (modules : List ModuleTree) (c : ConstraintsOf) (fault : Fault) : Status → Type 0 where
+  rule : unfolded modules c.top c.resets ≡ bad fault → IsDesignRefused modules c fault Netlist
+  cells : (flat : Flat) → UnfoldsTo modules c (flat_of flat) → IsFlattened flat → IsRefusedFor flat fault → IsDesignRefused modules c fault Netlist
+  domains : (net : Net) → IsNetOfModules modules c net → IsNet net → IsBroken plain.ghosts.reads net c fault → IsDesignRefused modules c fault Constraints
+
+-- the bytes of both files: the netlist's; those of the constraint file, by the first rule that they break; or the design
+pub data AreTextsRefused (text con : List ℕ) (fault : Fault) (status : Status) : Type 0 where
+  netlist : IsNetlistRefused text fault status → AreTextsRefused text con fault status
+  constraints : (modules : List ModuleTree) → ReadsAs text modules → status ≡ Constraints → IsBrokenFile con fault → AreTextsRefused text con fault status
+  design : (modules : List ModuleTree) → ReadsAs text modules → (c : ConstraintsOf) → IsMeaning con c → IsDesignRefused modules c fault status
+      → AreTextsRefused text con fault status
+
+-- a net and its domains in an audit: too many crossings; or the first waiver that meets no finding of the verdict
+pub data IsVerdictRefused (c : ConstraintsOf) (net : Net) (domains : Domains) (fault : Fault) : Status → Type 0 where
+  crossings : fault.number ≡ 603 → MAX_CROSSINGS < length (crossings_of net domains) → IsVerdictRefused c net domains fault Netlist
+  waivers : (verdict : Verdict) → IsVerdictOf net domains none_extra verdict → set_aside net domains verdict.findings c.waivers ≡ Err fault
+      → IsVerdictRefused c net domains fault Constraints
+
+-- an audit of both files' bytes
+pub data IsAuditRefused (text con : List ℕ) (fault : Fault) (status : Status) : Type 0 where
+  texts : AreTextsRefused text con fault status → IsAuditRefused text con fault status
+  verdict : (modules : List ModuleTree) → ReadsAs text modules → (c : ConstraintsOf) → IsMeaning con c → (net : Net) → IsNetOfModules modules c net
+      → (domains : Domains) → IsDesign c net domains → IsVerdictRefused c net domains fault status → IsAuditRefused text con fault status
