@@ -1,7 +1,7 @@
 -- Statements whose expressions read the same bits have the same latches.
-use Rattle.std.proofs.Common.{◌≡◌, ℕ, zero, suc, ◌+◌, Bool, true, false, cond, not, ◌&&◌, ◌||◌, refl, sym, ap, ap₂, ◌∙◌}
+use Rattle.std.proofs.Common.{◌≡◌, ℕ, zero, suc, ◌+◌, ◌^◌, Bool, true, false, cond, not, ◌&&◌, ◌||◌, refl, sym, ap, ap₂, ◌∙◌}
 use Rattle.flat_meaning.specs.Full.{is_full}
-use Rattle.flat_meaning.specs.Flat.{Expr, Exprs, case_size, Target, Whole, Group, no_targets, Stmt, Null, Set, If, Case, Block, Items, no_items, default_item, item, Stmts, no_stmts, stmt}
+use Rattle.flat_meaning.specs.Flat.{Expr, Exprs, size, case_size, Target, Whole, Group, no_targets, Stmt, Null, Set, If, Case, Block, Items, no_items, default_item, item, Stmts, no_stmts, stmt}
 use Rattle.flat_meaning.specs.Assigned.{covers, reaches, surely, surely_case, surely_all, may_assign, may_assign_in}
 use Rattle.flat_meaning.specs.Deps.{Bits}
 use Rattle.flat_unfolding.specs.Names.{Memory}
@@ -118,7 +118,7 @@ writes-alike m i v w r n (suc more) =
     alike-more _ _ _ _ (alike-if (is_index i n) (is_index i n) _ _ _ _ (λ wid s k. refl) (alike-set false false (Whole (m.first + n)) (Whole (m.first + n)) v w refl r) (alike-itself Null)) (writes-alike m i v w r (suc n) more)
 
 pub alike-write : (m : Memory) (i v w : Expr) → SameReads v w → AreAlike (memory_write m i v) (memory_write m i w)
-alike-write m i v w r = alike-block _ _ (writes-alike m i v w r 0 m.words)
+alike-write m i v w r = alike-block _ _ (writes-alike m i v w r 0 (2 ^ size i))
 
 pub alike-unassigned : (i v w : Expr) → SameReads v w → AreAlike (unassigned i v) (unassigned i w)
 alike-unassigned i v w r = alike-set true true (Group no_targets) (Group no_targets) _ _ refl (λ wid s k. ap (λ p. expr_reads wid i s k || (p || false)) (r wid s k))

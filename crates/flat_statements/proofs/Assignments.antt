@@ -1,5 +1,5 @@
 -- What an assignment is and notes, by what its target and its value are.
-use Rattle.std.proofs.Common.{◌≡◌, ◌+◌, ◌^◌, ◌≤◌, Bool, true, false, cond, ◌&&◌, ◌==◌, List, [], Option, Some, None, refl, sym, ap, ap₂, subst, ◌∙◌, arith, eqb-true}
+use Rattle.std.proofs.Common.{◌≡◌, ◌+◌, ◌^◌, ◌≤◌, Bool, true, false, cond, ◌&&◌, nat_le, List, [], Option, Some, None, refl, sym, ap, ap₂, subst, ◌∙◌, arith, leb-true}
 use Rattle.verilog_reading.specs.ExprTree.{ExprTree, TargetTree, whole, index_of, part_of, join_of}
 use Rattle.verilog_reading.specs.StmtTree.{set}
 use Rattle.flat_meaning.specs.Flat.{size}
@@ -10,7 +10,7 @@ use Rattle.flat_form.specs.View.{expr_of, stmt_of}
 use Rattle.flat_form.specs.Sizes.{is_sized, kept_of}
 use Rattle.flat_form.proofs.Sized.{sized_width}
 use Rattle.flat_unfolding.specs.Outcome.{Text, Broken, breaks, breaks_if}
-use Rattle.flat_unfolding.specs.Names.{Memory, Meaning, a_param, a_signal, a_memory, an_instance, Look, meaning}
+use Rattle.flat_unfolding.specs.Names.{Memory, Meaning, a_param, a_signal, a_memory, no_value, Look, meaning}
 use Rattle.flat_unfolding.specs.Expressions.{Term, is_sound, read}
 use Rattle.flat_unfolding.specs.Memories.{memory_write}
 use Rattle.flat_unfolding.specs.Targets.{Aim, of_registers, Goal, fixed, a_word, nowhere, after, meant_goal, goal, first_name}
@@ -43,14 +43,14 @@ word-goal (a_word n j bs) r m i e h = let p = subst (IsGoal (a_word n j bs)) e h
 
 abbrev Meets : Goal → Type 0
 Meets (fixed b) = Unit {0}
-Meets (a_word m e bs) = (2 ^ size e ≡ m.words) × (m.first + m.words ≤ 2 ^ 32)
+Meets (a_word m e bs) = (2 ^ size e ≤ m.words) × (m.first + m.words ≤ 2 ^ 32)
 
 meets-after : (l : Look) (bs : List Broken) (g : Goal) → Meets g → Meets (after l of_registers bs g)
 meets-after l bs (fixed b) h = tt
 meets-after l bs (a_word m e cs) h = h
 
 module _ (l : Look) (x : Text) (v : Term) where
-  meets-memory : (m : Memory) (constant all : Bool) (b c : Aim) → (all ≡ true → 2 ^ size v.expr ≡ m.words) → m.first + m.words ≤ 2 ^ 32 → Meets (cond constant (fixed b) (cond all (a_word m v.expr []) (fixed c)))
+  meets-memory : (m : Memory) (constant all : Bool) (b c : Aim) → (all ≡ true → 2 ^ size v.expr ≤ m.words) → m.first + m.words ≤ 2 ^ 32 → Meets (cond constant (fixed b) (cond all (a_word m v.expr []) (fixed c)))
   meets-memory m true all b c h few = tt
   meets-memory m false true b c h few = (h refl, few)
   meets-memory m false false b c h few = tt
@@ -59,8 +59,8 @@ module _ (l : Look) (x : Text) (v : Term) where
   meets-meant None h = tt
   meets-meant (Some (a_param p)) h = tt
   meets-meant (Some (a_signal s)) h = tt
-  meets-meant (Some (a_memory m)) h = meets-memory m v.is_constant (2 ^ size v.expr == m.words) _ _ (eqb-true (2 ^ size v.expr) m.words) (h m refl)
-  meets-meant (Some an_instance) h = tt
+  meets-meant (Some (a_memory m)) h = meets-memory m v.is_constant (nat_le (2 ^ size v.expr) m.words) _ _ (leb-true (2 ^ size v.expr) m.words) (h m refl)
+  meets-meant (Some no_value) h = tt
 
   meets-chosen : (sound : Bool) (g : Goal) → Meets g → Meets (cond sound g (fixed (nowhere [])))
   meets-chosen true g h = h
@@ -78,14 +78,14 @@ meets-goal l h (join_of ts) = tt
 
 pub record IsWordOf (m : code.Memory) (i : FExpr) : Type 0 where
   pub sized : is_sized i ≡ true
-  pub words : 2 ^ (kept_of i).width ≡ m.words
+  pub words : 2 ^ (kept_of i).width ≤ m.words
   pub few : m.first + m.words ≤ 2 ^ 32
 
 pub word-of : (l : Look) → IsFit l → (t : TargetTree) (r : aim.Aim) (m : code.Memory) (i : FExpr) → r ≡ a.Word m i → IsGoal (goal l t) r → IsWordOf m i
 word-of l h t r m i e g =
     let p = word-goal (goal l t) r m i e g in
     let q = subst Meets p.1 (meets-goal l h t) in
-    record { sized = p.2; words = ap (λ w. 2 ^ w) (sized_width i p.2) ∙ q.0; few = q.1 }
+    record { sized = p.2; words = subst (λ w. 2 ^ w ≤ m.words) (sym (sized_width i p.2)) q.0; few = q.1 }
 
 -- ---- what it notes
 

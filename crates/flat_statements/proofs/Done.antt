@@ -325,7 +325,7 @@ module _ (l : Look) (k : Kind) where
     stmt = λ n. b ∙ ap (memory_write m i) (read-expr (read l e) v h (value n));
     sizes = λ n. z (read-sized (read l e) v h (value n));
     alike = subst (λ (p : Stmt). AreAlike p (memory_write m i (read l e).expr)) (sym b) (alike-write m i (expr_of v.expr) (read l e).expr h.reads);
-    full = subst IsFull (sym b) (writes-full m i (expr_of v.expr) 0 m.words);
+    full = subst IsFull (sym b) (writes-full m i (expr_of v.expr) 0 (2 ^ size i));
   })
     where
       value : (set_done l k false t (a_word m i bs) (read l e)).broken ≡ [] → (read l e).broken ≡ []

@@ -1,5 +1,5 @@
 -- What is done of a list's items, and what the rest will add.
-use Rattle.std.proofs.Common.{◌≡◌, ℕ, suc, ◌+◌, Bool, true, false, ◌&&◌, List, [], ◌∷◌, ◌++◌, map, refl, sym, ap, ap₂, subst, ◌∙◌, arith, append-nil}
+use Rattle.std.proofs.Common.{◌≡◌, ℕ, suc, ◌+◌, ◌^◌, ◌<◌, ◌≤◌, Bool, true, false, ◌&&◌, List, [], ◌∷◌, ◌++◌, map, refl, sym, ap, ap₂, subst, ◌∙◌, arith, append-nil}
 use Rattle.std.specs.Prelude.{All}
 use Rattle.std.proofs.lemmas.List.Elements.{All-tail}
 use Rattle.std.proofs.lemmas.Bool.{and_parts}
@@ -135,16 +135,17 @@ module _ (l : Look) where
 
 -- ---- words of a memory
 
-module _ (m : Memory) (i v : f.Expr) (sized : Bool) where
+-- so many words are written
+module _ (m : Memory) (i v : f.Expr) (sized : Bool) (count : ℕ) where
   abbrev write_at : ℕ → f.Stmt
   write_at n = f.If (is_index i n) (f.Set false (f.Whole (m.first + n)) v) f.Null
 
   pub record WritesSoFar (n : ℕ) (ws : List FStmt) : Type 0 where
-    pub whole : (more : ℕ) (ss : List f.Stmt) → n + more ≡ m.words → stmts_of ss ≡ writes_from m i v n more → stmts_of (map stmt_of ws ++ ss) ≡ writes_from m i v 0 m.words
+    pub whole : (more : ℕ) (ss : List f.Stmt) → n + more ≡ count → stmts_of ss ≡ writes_from m i v n more → stmts_of (map stmt_of ws ++ ss) ≡ writes_from m i v 0 count
     pub sizes : sized ≡ true → all_true (map stmt_keeps_sizes ws) ≡ true
 
   pub writes-start : WritesSoFar 0 []
-  writes-start = record { whole = λ more ss e h. h ∙ ap (writes_from m i v 0) (let d : more ≡ m.words = omega arith in d); sizes = λ e. refl }
+  writes-start = record { whole = λ more ss e h. h ∙ ap (writes_from m i v 0) (let d : more ≡ count = omega arith in d); sizes = λ e. refl }
 
   stmts-push : (ws : List FStmt) (w : FStmt) (ss : List f.Stmt) → stmts_of (map stmt_of (ws ++ w ∷ []) ++ ss) ≡ stmts_of (map stmt_of ws ++ (stmt_of w ∷ ss))
   stmts-push [] w ss = refl
@@ -156,10 +157,14 @@ module _ (m : Memory) (i v : f.Expr) (sized : Bool) where
 
   pub writes-step : (n : ℕ) (ws : List FStmt) (w : FStmt) → WritesSoFar n ws → stmt_of w ≡ write_at n → (sized ≡ true → stmt_keeps_sizes w ≡ true) → WritesSoFar (n + 1) (ws ++ w ∷ [])
   writes-step n ws w h e s = record {
-    whole = λ more ss t g. stmts-push ws w ss ∙ h.whole (suc more) (stmt_of w ∷ ss) (let d : n + suc more ≡ m.words = omega arith in d)
+    whole = λ more ss t g. stmts-push ws w ss ∙ h.whole (suc more) (stmt_of w ∷ ss) (let d : n + suc more ≡ count = omega arith in d)
         (ap₂ f.stmt e (g ∙ ap (λ j. writes_from m i v j more) (let d : n + 1 ≡ suc n = omega arith in d)));
     sizes = λ t. sizes-push ws w (h.sizes t) (s t);
   }
 
-  pub writes-end : (n : ℕ) (ws : List FStmt) → n ≡ m.words → WritesSoFar n ws → stmts_of (map stmt_of ws) ≡ writes_from m i v 0 m.words
-  writes-end n ws e h = ap stmts_of (sym (append-nil (map stmt_of ws))) ∙ h.whole 0 [] (let d : n + 0 ≡ m.words = omega arith in d) refl
+  pub writes-end : (n : ℕ) (ws : List FStmt) → n ≡ count → WritesSoFar n ws → stmts_of (map stmt_of ws) ≡ writes_from m i v 0 count
+  writes-end n ws e h = ap stmts_of (sym (append-nil (map stmt_of ws))) ∙ h.whole 0 [] (let d : n + 0 ≡ count = omega arith in d) refl
+
+-- how many words an index reaches, of those that a memory has
+pub values-are : (w k words values : ℕ) → w ≡ k → 2 ^ k ≤ words → words < 2 ^ 32 → (2 ^ w < 2 ^ 32 → values ≡ 2 ^ w) → values ≡ 2 ^ k
+values-are w k words values e l small h = let m : 2 ^ w ≤ words = subst (λ j. 2 ^ j ≤ words) (sym e) l in h (omega arith) ∙ ap (λ j. 2 ^ j) e

@@ -1,5 +1,5 @@
 -- Statements as the definition reads them assign no bit that a signal doesn't have, whatever rules they break.
-use Rattle.std.proofs.Common.{◌≡◌, ℕ, zero, suc, ◌+◌, ◌^◌, ◌<◌, ◌≤◌, Bool, true, false, cond, not, ◌&&◌, ◌||◌, ◌==◌, nat_lt, List, [], ◌++◌, map, Option, Some, None, refl, arith, rules, ltb-true, eqb-true}
+use Rattle.std.proofs.Common.{◌≡◌, ℕ, zero, suc, ◌+◌, ◌^◌, ◌<◌, ◌≤◌, Bool, true, false, cond, not, ◌&&◌, ◌||◌, ◌==◌, nat_lt, nat_le, List, [], ◌++◌, map, Option, Some, None, refl, arith, rules, ltb-true, eqb-true}
 use Rattle.std.proofs.lemmas.Bool.{and_parts, or_left, or_right}
 use Rattle.verilog_reading.specs.ExprTree.{TargetTree, whole, index_of, part_of, join_of, TargetTrees, no_parts, and_parts as more_parts}
 use Rattle.verilog_reading.specs.StmtTree.{StmtTree, null, set, when, either, switch, switch_else, block, StmtTrees, no_rows, and_rows, ArmTrees, no_arms, and_arms}
@@ -8,7 +8,7 @@ use Rattle.flat_meaning.specs.Full.{is_full}
 use Rattle.flat_meaning.specs.Assigned.{is_within, reaches, may_assign, may_assign_in, any_may_assign}
 use Rattle.flat_form.specs.View.{targets_of}
 use Rattle.flat_unfolding.specs.Outcome.{Text, Broken, breaks, breaks_if}
-use Rattle.flat_unfolding.specs.Names.{Range, Memory, Meaning, a_param, a_signal, a_memory, an_instance, Look, meaning, width_at, range_at}
+use Rattle.flat_unfolding.specs.Names.{Range, Memory, Meaning, a_param, a_signal, a_memory, no_value, Look, meaning, width_at, range_at}
 use Rattle.flat_unfolding.specs.Constants.{own_value}
 use Rattle.flat_unfolding.specs.Expressions.{Term, is_sound, as_bound, range_of, Select, bit_select, part_select, may_index, word_of, read}
 use Rattle.flat_unfolding.specs.Targets.{Aim, nowhere, Use, of_registers, Goal, fixed, a_word, meant_whole, select_aim, signal_aim, word_aim, memory_goal, after, meant_goal, index_goal, name_rules, as_fixed, meant_range, aim, aims, goal}
@@ -50,7 +50,7 @@ module _ (look : Look) where
     meant_whole-in x (Some (a_param p)) = no-bits
     meant_whole-in x (Some (a_signal s)) = whole-in s
     meant_whole-in x (Some (a_memory m)) = no-bits
-    meant_whole-in x (Some an_instance) = no-bits
+    meant_whole-in x (Some no_value) = no-bits
 
     select-in : (x : Text) (z : ℕ) (o : Option Select) → ((q : Select) → o ≡ Some q → IsInside (wid z) q) → StaysIn (select_aim look use_ x z o).target
     select-in x z None h = no-bits
@@ -71,7 +71,7 @@ module _ (look : Look) where
     word-in x (Some s) = whole-in s
 
     memory-in : (x : Text) (m : Memory) (i : Term) → GoalIn (memory_goal look use_ x m i)
-    memory-in x m i = go i.is_constant (2 ^ size i.expr == m.words)
+    memory-in x m i = go i.is_constant (nat_le (2 ^ size i.expr) m.words)
       where
         go : (b c : Bool) → GoalIn (cond b (fixed (word_aim look use_ x (word_of m (own_value i.expr)))) (cond c (a_word m i.expr []) (fixed (nowhere (breaks 315 x)))))
         go true c = word-in x (word_of m (own_value i.expr))
@@ -83,7 +83,7 @@ module _ (look : Look) where
     meant_goal-in x i (Some (a_param p)) = no-bits
     meant_goal-in x i (Some (a_signal s)) = signal-in x s i
     meant_goal-in x i (Some (a_memory m)) = memory-in x m i
-    meant_goal-in x i (Some an_instance) = no-bits
+    meant_goal-in x i (Some no_value) = no-bits
 
     after-in : (bs : List Broken) (g : Goal) → GoalIn g → GoalIn (after look use_ bs g)
     after-in bs (fixed a) h = h
@@ -109,8 +109,8 @@ module _ (look : Look) where
     range-in x (Some q) (Some (a_signal s)) = select-in x s (part_select (range_at look.entries s) q) (λ c. part_inside (range_at look.entries s) (wid s) q c (spans_at look.entries s))
     range-in x None (Some (a_memory m)) = no-bits
     range-in x (Some q) (Some (a_memory m)) = no-bits
-    range-in x None (Some an_instance) = no-bits
-    range-in x (Some q) (Some an_instance) = no-bits
+    range-in x None (Some no_value) = no-bits
+    range-in x (Some q) (Some no_value) = no-bits
 
     mutual
       aim-in : (t : TargetTree) → StaysIn (aim look use_ t).target
@@ -147,7 +147,7 @@ module _ (look : Look) where
   word_set-in : (blocking : Bool) (g : Goal) (v : Expr) → GoalIn g → StmtIn (word_set blocking g v)
   word_set-in blocking (fixed a) v h = h
   word_set-in true (a_word m i bs) v h = no-bits
-  word_set-in false (a_word m i bs) v h = writes-in m i v 0 m.words
+  word_set-in false (a_word m i bs) v h = writes-in m i v 0 (2 ^ size i)
 
   last-in : (is last : Items) → ItemsIn is → ItemsIn last → ItemsIn (with_last is last)
   last-in no_items last h g = g

@@ -24,11 +24,12 @@ use flat_form::cases::{case_size, is_full};
 use flat_form::copy::copy;
 use flat_form::flat::{FCaseItem, FExpr, FStmt, FTarget};
 use flat_form::memory::{boxed_stmt, push};
+use flat_form::size::width_of;
 use flat_names::expr::resolve;
 use flat_names::fault::{Faults, Rule};
 use flat_names::resolved::{Parts, Resolved};
 use flat_names::scope::{Look, Memory};
-use flat_names::select::is_index;
+use flat_names::select::{index_values, is_index};
 use flat_targets::target::{Aim, first_text, process_target};
 use std::alloc::Global;
 use verilog_ast::{CaseItem, Expr, Stmt, Target};
@@ -330,18 +331,20 @@ fn unassigned(alloc: Global, index: FExpr, value: FExpr) -> Result<FStmt, NoMemo
     })
 }
 
-/// An assignment to the word that a variable index chooses: for each word in order, if the index is its own.
+/// An assignment to the word that a variable index chooses: for each word that the index reaches, in order, if the index
+/// is its own.
 fn memory_write(
     alloc: Global,
     memory: Memory,
     index: &FExpr,
     value: &FExpr,
 ) -> Result<FStmt, NoMemory>
-    ensures { is_sized index.now ≡ true → 2 ^ (kept_of index.now).width ≡ memory.words → memory.first + memory.words ≤ 2 ^ 32
+    ensures { is_sized index.now ≡ true → 2 ^ (kept_of index.now).width ≤ memory.words → memory.first + memory.words ≤ 2 ^ 32
         → IfOk result (λ r. (stmt_of r ≡ memory_write_of (memory_of memory) (expr_of index.now) (expr_of value.now)) × (is_sized value.now ≡ true → stmt_keeps_sizes r ≡ true)) }
 {
     let mut writes = Vec::new(alloc);
-    for n in 0..memory.words {
+    let words = index_values(width_of(index));
+    for n in 0..words {
         let write = word_write(alloc, memory.first.saturating_add(n), index, n, value)?;
         push(&mut writes, write)?;
     }
