@@ -79,7 +79,7 @@ module _ {S : Type 0} (pins : List ResetPin) (table : IndexMap Text Meaning S) (
   stage-ends order p bs e r n h = subst (λ q. Ends (ShowsStage pins table d) q r) (sym (stage-judged s order p bs e)) (ends-so (judged order p bs e) r n h)
 
 pub look-shown : (pins : List ResetPin) (k : Look) (d : Design) (s : Stage) → ShowsNames k.names.now s.names → ShowsDesign pins d s.design → k.entries.now ≡ d.entries.items → k.active ≡ false → Shows k (look_of s)
-look-shown pins k d s n h e a = record { names = n.kept; indices = n.indices; entries = ap (map seen) e ∙ h.entries; active = a }
+look-shown pins k d s n h e a = record { names = n.kept; entries = ap (map seen) e ∙ h.entries; active = a }
 
 -- ---- one more part
 

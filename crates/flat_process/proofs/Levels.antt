@@ -38,7 +38,7 @@ sound-of false e = absurd (false≢true e)
 -- ---- a look at another level
 
 pub shows-level : (k : Look) (l : n.Look) (active : Bool) → Shows k l → Shows (record k { active = active }) (record l { active = active })
-shows-level k l active h = record { names = h.names; indices = h.indices; entries = h.entries; active = refl }
+shows-level k l active h = record { names = h.names; entries = h.entries; active = refl }
 
 pub fit-level : (l : n.Look) (active : Bool) → IsFit l → IsFit (record l { active = active })
 fit-level l active h = record { params = h.params; signals = h.signals; memories = h.memories; entries = h.entries; few = h.few }

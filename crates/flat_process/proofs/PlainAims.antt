@@ -7,7 +7,7 @@ use Rattle.flat_meaning.specs.Flat.{Whole, Part, target_sizes}
 use Rattle.flat_form.specs.View.{targets_of}
 use Rattle.flat_form.proofs.Sized.{word_width}
 use Rattle.flat_unfolding.specs.Outcome.{Text, Broken}
-use Rattle.flat_unfolding.specs.Names.{Range, Memory, Meaning, a_param, a_signal, a_memory, an_instance, Look, meaning, width_at, range_at}
+use Rattle.flat_unfolding.specs.Names.{Range, Memory, Meaning, a_param, a_signal, a_memory, no_value, Look, meaning, width_at, range_at}
 use Rattle.flat_unfolding.specs.Constants.{own_value, both}
 use Rattle.flat_unfolding.specs.Expressions.{Term, is_sound, as_bound, range_of, Select, one_bit, bit_select, part_select, word_of, read}
 use Rattle.flat_unfolding.specs.Targets.{Aim, nowhere, aim_at, behind, of_registers, total, group_of, Goal, fixed, a_word, name_rules, meant_whole, select_aim, signal_aim, word_aim, memory_goal, after, meant_goal, index_goal, as_fixed, meant_range, aim, aims}
@@ -58,7 +58,7 @@ module _ (l : Look) (fit : IsFit l) where
   plain-meant x (Some (a_param p)) e = plain-nowhere []
   plain-meant x (Some (a_signal s)) e = plain-whole s (fit.signals x s e)
   plain-meant x (Some (a_memory m)) e = plain-nowhere _
-  plain-meant x (Some an_instance) e = plain-nowhere []
+  plain-meant x (Some no_value) e = plain-nowhere []
 
   -- ---- constant indices
 
@@ -89,7 +89,7 @@ module _ (l : Look) (fit : IsFit l) where
   plain-goal x i (Some (a_param p)) e c = plain-nowhere []
   plain-goal x i (Some (a_signal s)) e c = plain-signal x s i (fit.signals x s e) c
   plain-goal x i (Some (a_memory m)) e c = plain-memory x m i (fit.memories x m e).1 c
-  plain-goal x i (Some an_instance) e c = plain-nowhere []
+  plain-goal x i (Some no_value) e c = plain-nowhere []
 
   plain-after : (bs : List Broken) (g : Goal) → IsPlainGoal g → IsPlainGoal (after l of_registers bs g)
   plain-after bs (fixed a) h = plain-behind bs a h
@@ -118,8 +118,8 @@ module _ (l : Look) (fit : IsFit l) where
   plain-range x (Some p) None e = plain-nowhere []
   plain-range x None (Some (a_param p)) e = plain-nowhere []
   plain-range x (Some q) (Some (a_param p)) e = plain-nowhere []
-  plain-range x None (Some an_instance) e = plain-nowhere []
-  plain-range x (Some p) (Some an_instance) e = plain-nowhere []
+  plain-range x None (Some no_value) e = plain-nowhere []
+  plain-range x (Some p) (Some no_value) e = plain-nowhere []
 
   -- ---- concatenations
 

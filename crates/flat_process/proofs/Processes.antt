@@ -14,7 +14,7 @@ use Rattle.flat_meaning.specs.Flat.{Stmt}
 use Rattle.flat_form.specs.declared.flat.FStmt.{FStmt}
 use Rattle.flat_form.specs.declared.flat.FStmt.TheVariants as form
 use Rattle.flat_unfolding.specs.Outcome.{Text, Broken, breaks, breaks_if}
-use Rattle.flat_unfolding.specs.Names.{Meaning, a_param, a_signal, a_memory, an_instance, Look, meaning, width_at, reset_at}
+use Rattle.flat_unfolding.specs.Names.{Meaning, a_param, a_signal, a_memory, no_value, Look, meaning, width_at, reset_at}
 use Rattle.flat_unfolding.specs.Expressions.{read}
 use Rattle.flat_unfolding.specs.Statements.{Kind, clocked, neither, done, done_all}
 use Rattle.flat_unfolding.specs.Resets as q
@@ -194,7 +194,7 @@ module _ (l : Look) where
       go (Some (a_param p)) k e = none-some s (sym e)
       go (Some (a_signal t)) k e = subst (λ i. i < length l.entries) (sym (some-same s t e)) (fit.signals c.name t k)
       go (Some (a_memory m)) k e = none-some s (sym e)
-      go (Some an_instance) k e = none-some s (sym e)
+      go (Some no_value) k e = none-some s (sym e)
 
   pub wide-clock : (k : v.Look) → Shows k l → IsFit l → (edges : List Edge) (s n : ℕ) → Some s ≡ clock_of l edges → n ≡ option_map_or (λ (x : Entry). x.width) (slice_get k.entries.now s) 1 → not (n == 1) ≡ is_wide_clock l edges
   wide-clock k h fit edges s n e w = ap (λ i. not (i == 1)) (w ∙ width-is k l h s (clock-there fit edges s e)) ∙ ap (λ o. option_map_or (λ i. not (width_at l.entries i == 1)) o false) e

@@ -8,7 +8,7 @@ use Rattle.std.proofs.lemmas.Bool.{false≢true, and_parts}
 use Rattle.std.proofs.lemmas.Slice.Eq.{bytes_eq-Decides}
 use Rattle.cdc_base.specs.declared.signal.ResetPin.{ResetPin}
 use Rattle.flat_unfolding.specs.Outcome.{Text}
-use Rattle.flat_unfolding.specs.Names.{Meaning, a_param, a_signal, a_memory, an_instance, Look, meaning, reset_at}
+use Rattle.flat_unfolding.specs.Names.{Meaning, a_param, a_signal, a_memory, no_value, Look, meaning, reset_at}
 use Rattle.verilog_reading.specs.ExprTree.{ExprTree}
 use Rattle.flat_unfolding.specs.Resets.{names_in, signals_among, resolves_to, is_one_reset, is_test, at_level, reset_signals}
 use Rattle.flat_names.specs.declared.design.Reset.{Reset}
@@ -43,7 +43,7 @@ by-joined (Some (a_signal s)) None b = refl
 by-joined (Some (a_signal s)) (Some xs) None = refl
 by-joined (Some (a_signal s)) (Some xs) (Some ys) = refl
 by-joined (Some (a_memory m)) a b = refl
-by-joined (Some an_instance) a b = refl
+by-joined (Some no_value) a b = refl
 
 module _ (l : Look) where
   among-both : (xs ys : List Text) → signals_among l (xs ++ ys) ≡ joined (signals_among l xs) (signals_among l ys)

@@ -402,7 +402,7 @@ module _ (l : n.Look) where
       go (Some (n.a_param q)) e h = none-some p h
       go (Some (n.a_signal s)) e h = subst (λ m. m < length l.entries) (ap (λ (x : ℕ × ℕ). x.0) (some-same (one_of l s v) p h)) (fit.signals x s e)
       go (Some (n.a_memory a)) e h = none-some p h
-      go (Some n.an_instance) e h = none-some p h
+      go (Some n.no_value) e h = none-some p h
 
 -- ---- rows that are no start value
 
@@ -484,7 +484,7 @@ names-word l t x i b e h k = k ∙ sym (ap (names_register l) (ap target_tree_of
     go (Some (n.a_param p)) q = absurd (false≢true q)
     go (Some (n.a_signal s)) q = absurd (false≢true q)
     go (Some (n.a_memory m)) q = refl
-    go (Some n.an_instance) q = absurd (false≢true q)
+    go (Some n.no_value) q = absurd (false≢true q)
 
 -- ---- items
 
@@ -499,7 +499,7 @@ declared-is s p x None v = ap (λ bs. judged by_number p bs s) (sym (append-nil 
 declared-is s p x (Some (n.a_param q)) v = ap (λ bs. judged by_number p bs s) (sym (append-nil v.broken))
 declared-is s p x (Some (n.a_signal sig)) v = refl
 declared-is s p x (Some (n.a_memory a)) v = ap (λ bs. judged by_number p bs s) (sym (append-nil v.broken))
-declared-is s p x (Some n.an_instance) v = ap (λ bs. judged by_number p bs s) (sym (append-nil v.broken))
+declared-is s p x (Some n.no_value) v = ap (λ bs. judged by_number p bs s) (sym (append-nil v.broken))
 
 -- an item ends with its start values, or with the refusal
 pub starts-end : {S : Type 0} (pins : List ResetPin) (table : IndexMap Text Meaning S) (d : Design) (s : Stage) (p : Place) (a : Starts) (m : Noted) (r : Result (Unit {0}) Stop)

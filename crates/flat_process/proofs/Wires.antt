@@ -26,7 +26,7 @@ use Rattle.flat_unfolding.specs.Outcome.{Broken, breaks, breaks_if}
 use Rattle.flat_unfolding.specs.Names as n
 use Rattle.flat_unfolding.specs.Names.{own_at}
 use Rattle.flat_unfolding.specs.Expressions.{Term, is_empty, is_sound, read}
-use Rattle.flat_unfolding.specs.Targets.{Aim, of_wires, aim, wire_aim, pick_rule, picked_rule, first_pick, as_target, driven, driven_at}
+use Rattle.flat_unfolding.specs.Targets.{Aim, of_wires, with_piece_rules, wire_aim, pick_rule, picked_rule, first_pick, as_target, driven, driven_at}
 use Rattle.flat_unfolding.specs.Wires.{gate_word, input_rules, gate_value}
 use Rattle.flat_unfolding.specs.Widths.{width_step, width_of, keeps_sizes, target_keeps_sizes}
 use Rattle.flat_unfolding.specs.Formed.{IsFormed}
@@ -83,16 +83,16 @@ assign-behind t v us bs x h = record {
 }
 
 -- a wire's target with what its variable index breaks
-pub wire-is : (l : n.Look) (t : TargetTree) (w : Fixed) → IsAim (aim l of_wires t) w → IsAim (wire_aim l t) w
+pub wire-is : (l : n.Look) (t : TargetTree) (w : Fixed) → IsAim (with_piece_rules l of_wires t) w → IsAim (wire_aim l t) w
 wire-is l t w h = record { sound = h.sound; width = h.width; target = h.target; sized = h.sized }
 
-pub wire-notes : (l : n.Look) (t : TargetTree) (w : Fixed) (a b g : Noted) → IsAim (aim l of_wires t) w → a ≡ all_noted g (aim l of_wires t).broken → b ≡ all_noted a (pick_rule l (target_of w.target)) → b ≡ all_noted g (wire_aim l t).broken
+pub wire-notes : (l : n.Look) (t : TargetTree) (w : Fixed) (a b g : Noted) → IsAim (with_piece_rules l of_wires t) w → a ≡ all_noted g (with_piece_rules l of_wires t).broken → b ≡ all_noted a (pick_rule l (target_of w.target)) → b ≡ all_noted g (wire_aim l t).broken
 wire-notes l t w a b g h i j =
-    j ∙ ap₂ (λ x y. all_noted x (pick_rule l y)) i h.target ∙ sym (noted-both g (aim l of_wires t).broken (pick_rule l (aim l of_wires t).target))
+    j ∙ ap₂ (λ x y. all_noted x (pick_rule l y)) i h.target ∙ sym (noted-both g (with_piece_rules l of_wires t).broken (pick_rule l (with_piece_rules l of_wires t).target))
 
 -- a wire's assignment, and all that it breaks
-pub wire-gives : (l : n.Look) (t : TargetTree) (v : Term) (w : Fixed) (x : FlatAssign) (g a b z : Noted) → IsAim (aim l of_wires t) w → a ≡ all_noted g (aim l of_wires t).broken → b ≡ all_noted a (pick_rule l (target_of w.target))
-    → IsAssign (aim l of_wires t).target v.expr v.broken x → z ≡ all_noted b v.broken → IsAssign (wire_aim l t).target v.expr ((wire_aim l t).broken ++ v.broken) x × (z ≡ all_noted g ((wire_aim l t).broken ++ v.broken))
+pub wire-gives : (l : n.Look) (t : TargetTree) (v : Term) (w : Fixed) (x : FlatAssign) (g a b z : Noted) → IsAim (with_piece_rules l of_wires t) w → a ≡ all_noted g (with_piece_rules l of_wires t).broken → b ≡ all_noted a (pick_rule l (target_of w.target))
+    → IsAssign (with_piece_rules l of_wires t).target v.expr v.broken x → z ≡ all_noted b v.broken → IsAssign (wire_aim l t).target v.expr ((wire_aim l t).broken ++ v.broken) x × (z ≡ all_noted g ((wire_aim l t).broken ++ v.broken))
 wire-gives l t v w x g a b z h i j is noted =
     (assign-behind (wire_aim l t).target v.expr (wire_aim l t).broken v.broken x is, then-noted g b z (wire_aim l t).broken v.broken (wire-notes l t w a b g h i j) noted)
 
@@ -124,7 +124,7 @@ driven-nowhere l v r w h e i s = record {
 }
 
 -- what is driven reads as a target
-pub driven-target : (l : n.Look) (e : ExprTree) (t : TargetTree) (w : Fixed) (g a b : Noted) → as_target e ≡ Some t → IsAim (aim l of_wires t) w → a ≡ all_noted g (aim l of_wires t).broken
+pub driven-target : (l : n.Look) (e : ExprTree) (t : TargetTree) (w : Fixed) (g a b : Noted) → as_target e ≡ Some t → IsAim (with_piece_rules l of_wires t) w → a ≡ all_noted g (with_piece_rules l of_wires t).broken
     → b ≡ all_noted a (pick_rule l (target_of w.target)) → IsAim (driven l e) w × (b ≡ all_noted g (driven l e).broken)
 driven-target l e t w g a b i h j k =
     subst (λ o. IsAim (driven_at l o (read l e)) w × (b ≡ all_noted g (driven_at l o (read l e)).broken)) (sym i) (wire-is l t w h, wire-notes l t w a b g h j k)

@@ -31,7 +31,7 @@ use flat_names::fault::{Faults, Order, Rule};
 use flat_names::resolved::Resolved;
 use flat_names::scope::{Look, Names};
 use flat_targets::target::{
-    Assigned, Fixed, expr_target, first_index, fixed_target, is_target, nowhere, whole_target,
+    Assigned, Fixed, first_index, is_target, nowhere, whole_target, wire_expr_target, wire_target,
 };
 use std::alloc::Global;
 use verilog_ast::{BinaryOp, Expr, GateKind, Target, UnaryOp};
@@ -104,7 +104,7 @@ fn wire_assign(
         → IfOk result (λ x. IsAssign (wire_aim l (target_tree_of target.now)).target (read l (tree_of value.now)).expr ((wire_aim l (target_tree_of target.now)).broken ++ (read l (tree_of value.now)).broken) x
         × (faults.new ≡ all_noted faults.old ((wire_aim l (target_tree_of target.now)).broken ++ (read l (tree_of value.now)).broken))) }
 {
-    let target = fixed_target(look, target, Assigned::Wires, faults)?;
+    let target = wire_target(look, target, faults)?;
     note_variable_index(look, &target, faults)?;
     assigned(look, target, value, faults)
 }
@@ -155,7 +155,7 @@ pub fn driven_target(look: &Look, expr: &Expr, faults: &mut Faults) -> Result<Fi
         → IfOk result (λ r. IsAim (driven l (tree_of expr.now)) r × (faults.new ≡ all_noted faults.old (driven l (tree_of expr.now)).broken)) }
 {
     if is_target(expr) {
-        let fixed = expr_target(look, expr, faults)?;
+        let fixed = wire_expr_target(look, expr, faults)?;
         note_variable_index(look, &fixed, faults)?;
         return Ok(fixed);
     }

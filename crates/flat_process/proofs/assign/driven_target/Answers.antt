@@ -10,7 +10,7 @@ returns-then-is_target c = λ l h fit formed.
     let e = tree_of c.args.expr.now in
     let t = some-of (as_target e) (sym c.is_target.ensures ∙ c.if-is_target.true) in
     let is = c.in_ok-fixed.ensures l t.0 h fit formed t.1 in
-    driven-target l e t.0 c.in_ok-fixed.fixed c.args.faults.now c.expr_target.new.faults c.note_variable_index.new.faults t.1 is.0 is.1 (c.in_ok-note_variable_index.ensures l h)
+    driven-target l e t.0 c.in_ok-fixed.fixed c.args.faults.now c.wire_expr_target.new.faults c.note_variable_index.new.faults t.1 is.0 is.1 (c.in_ok-note_variable_index.ensures l h)
 
 pub returns : goal.returns
 returns c = λ l h fit formed.

@@ -1,6 +1,6 @@
 use Rattle.verilog_reading.specs.ExprTree.{tree_of, target_tree_of}
 use Rattle.flat_unfolding.specs.Expressions.{read}
-use Rattle.flat_unfolding.specs.Targets.{of_wires, aim}
+use Rattle.flat_unfolding.specs.Targets.{of_wires, with_piece_rules}
 use Rattle.flat_targets.proofs.Aimed.{ok-then}
 use Rattle.flat_process.proofs.Wires.{wire-gives}
 use Rattle.flat_process.proofs.assign.wire_assign.Goals as goal
@@ -11,5 +11,5 @@ returns c = λ l h fit target value.
     let v = read l (tree_of c.args.value.now) in
     let is = c.in_ok-target.ensures l h fit target in
     ok-then c.assigned.result _ _
-    (λ x p. wire-gives l t v c.in_ok-target.target x c.args.faults.now c.fixed_target.new.faults c.note_variable_index.new.faults c.assigned.new.faults is.0 is.1 (c.in_ok-note_variable_index.ensures l h) p.0 p.1)
-    (c.assigned.ensures l (aim l of_wires t) h fit is.0 value)
+    (λ x p. wire-gives l t v c.in_ok-target.target x c.args.faults.now c.wire_target.new.faults c.note_variable_index.new.faults c.assigned.new.faults is.0 is.1 (c.in_ok-note_variable_index.ensures l h) p.0 p.1)
+    (c.assigned.ensures l (with_piece_rules l of_wires t) h fit is.0 value)
