@@ -63,7 +63,7 @@ declares-nothing prefix m s e =
 -- ---- a module is begun
 
 pub no-names : (table : Table) → ((x : Text) → kept_in table x ≡ None) → ShowsNames table []
-no-names table h = record { kept = λ x. ap (option_map meaning_of) (h x); indices = λ x w e. absurd (let f = sym (h x) ∙ e in search (rules, f)) }
+no-names table h = record { kept = λ x. ap (option_map meaning_of) (h x) }
 
 pub no-names-fit : (d : Design) → IsFitDesign d → IsFit (look_of (record { names = []; design = d }))
 no-names-fit d h = record {

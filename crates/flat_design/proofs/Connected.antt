@@ -4,7 +4,7 @@ use Rattle.std.specs.Prelude.{slice_get, option_map}
 use Rattle.cdc_base.specs.declared.signal.ResetPin.{ResetPin}
 use Rattle.flat_meaning.specs.Flat.{Expr, Target}
 use Rattle.flat_form.specs.Sizes.{is_word}
-use Rattle.flat_unfolding.specs.Names.{Names, Meaning, a_param, a_signal, a_memory, an_instance, Entry, width_of, meaning_in}
+use Rattle.flat_unfolding.specs.Names.{Names, Meaning, a_param, a_signal, a_memory, no_value, Entry, width_of, meaning_in}
 use Rattle.flat_unfolding.specs.Instances.{Link, into, out_of, into_port, out_of_port, connect_one, connect_all, connected}
 use Rattle.flat_unfolding.specs.Design.{Design, Stage, look_of, change_entry}
 use Rattle.flat_unfolding.proofs.Steps.{some_is}
@@ -40,14 +40,14 @@ into-alike d v r (Some (a_signal s)) = record {
   ranges = changed-ranges (λ (a : Entry). record a { reset = r }) (λ a. refl) s d.entries;
 }
 into-alike d v r (Some (a_memory a)) = alike-itself d.entries
-into-alike d v r (Some an_instance) = alike-itself d.entries
+into-alike d v r (Some no_value) = alike-itself d.entries
 
 out-alike : (d : Design) (t : Target) (m : Option Meaning) → AreRangedAlike d.entries (out_of_port d t m).entries
 out-alike d t None = alike-itself d.entries
 out-alike d t (Some (a_param p)) = alike-itself d.entries
 out-alike d t (Some (a_signal s)) = alike-itself d.entries
 out-alike d t (Some (a_memory a)) = alike-itself d.entries
-out-alike d t (Some an_instance) = alike-itself d.entries
+out-alike d t (Some no_value) = alike-itself d.entries
 
 pub one-alike : (names : Names) (d : Design) (link : Link) → AreRangedAlike d.entries (connect_one names d link).entries
 one-alike names d (into x v r) = into-alike d v r (meaning_in names x)

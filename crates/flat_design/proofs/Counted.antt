@@ -8,6 +8,7 @@ use Rattle.verilog_reading.specs.SourceTree.{ConnTree, ConnsTree, ordered, named
 use Rattle.flat_unfolding.specs.Outcome.{Text}
 use Rattle.flat_unfolding.specs.Names.{Look}
 use Rattle.flat_unfolding.specs.Constants.{is_counted}
+use Rattle.flat_unfolding.specs.Signs.{is_signed}
 use Rattle.flat_unfolding.specs.Expressions.{as_constant, read}
 use Rattle.flat_unfolding.specs.Formed.{IsFormed, IsFormedIf, AreConnsFormed}
 use Rattle.flat_unfolding.specs.Parameters as p
@@ -58,7 +59,7 @@ module _ (l : Look) (fit : IsFit l) where
       parts = none_of_both (as_constant (read l j.value)).broken (constants_of l js) b
 
       given : p.Override
-      given = record { value = (read l j.value).expr; is_counted = is_counted l.names j.value }
+      given = record { value = (read l j.value).expr; is_counted = is_counted l.names j.value; is_signed = is_signed l.names j.value }
 
       here : is_counted l.names j.value ≡ true → IsCountedValue (read l j.value).expr
       here c = counted-value l fit j.value f.0 (none_of_both (read l j.value).broken _ parts.0).0 c

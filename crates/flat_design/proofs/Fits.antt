@@ -13,7 +13,7 @@ use Rattle.verilog_reading.specs.StmtTree.{StmtTree}
 use Rattle.verilog_reading.specs.SourceTree.{DeclTree, BodyTree, param, decl, assign, gate, instance, always, initial, ModuleTree}
 use Rattle.flat_unfolding.specs.Outcome.{Text, good, by_number, each}
 use Rattle.flat_unfolding.specs.Names as n
-use Rattle.flat_unfolding.specs.Names.{Names, Meaning, a_signal, a_param, a_memory, an_instance, meaning, meaning_in, width_of, Direction, inner, inward, outward, direction_at}
+use Rattle.flat_unfolding.specs.Names.{Names, Meaning, a_signal, a_param, a_memory, no_value, meaning, meaning_in, width_of, Direction, inner, inward, outward, direction_at}
 use Rattle.flat_unfolding.specs.Design.{Design, Stage, look_of, with_design, change_entry}
 use Rattle.flat_unfolding.specs.Expressions.{Term, read}
 use Rattle.flat_unfolding.specs.Starts.{Starts, with_starts, start_of, initial_starts, so_far}
@@ -70,7 +70,7 @@ start-looks : (s t : Stage) (p : Place) (x : Text) (m : Option Meaning) (v : Ter
 start-looks s t p x (Some (a_signal sig)) v e = starts-look s t p _ e
 start-looks s t p x (Some (a_param q)) v e = subst (KeepsLook s) (judged_is by_number p v.broken s t e).1 refl
 start-looks s t p x (Some (a_memory a)) v e = subst (KeepsLook s) (judged_is by_number p v.broken s t e).1 refl
-start-looks s t p x (Some an_instance) v e = subst (KeepsLook s) (judged_is by_number p v.broken s t e).1 refl
+start-looks s t p x (Some no_value) v e = subst (KeepsLook s) (judged_is by_number p v.broken s t e).1 refl
 start-looks s t p x None v e = subst (KeepsLook s) (judged_is by_number p v.broken s t e).1 refl
 
 value-looks : (s t : Stage) (p : Place) (x : Text) (o : Option ExprTree) (kind : DeclKind) → value_item s p x o kind ≡ good t → KeepsLook s t
@@ -125,7 +125,7 @@ pub port-length : (resets : List ResetPin) (d : Design) (m : Option Meaning) →
 port-length resets d (Some (a_signal s)) = directed-length resets d s (direction_at d.entries s)
 port-length resets d (Some (a_param q)) = refl
 port-length resets d (Some (a_memory a)) = refl
-port-length resets d (Some an_instance) = refl
+port-length resets d (Some no_value) = refl
 port-length resets d None = refl
 
 directed-fit : (resets : List ResetPin) (d : Design) (s : ℕ) (side : Direction) → IsFitDesign d → IsFitDesign (directed_port resets d s side)
@@ -137,7 +137,7 @@ pub port-fit : (resets : List ResetPin) (d : Design) (m : Option Meaning) → Is
 port-fit resets d (Some (a_signal s)) h = directed-fit resets d s (direction_at d.entries s) h
 port-fit resets d (Some (a_param q)) h = h
 port-fit resets d (Some (a_memory a)) h = h
-port-fit resets d (Some an_instance) h = h
+port-fit resets d (Some no_value) h = h
 port-fit resets d None h = h
 
 pub top-fit : (resets : List ResetPin) (xs : List Text) (s : Stage) → IsFit (look_of s) → IsFit (look_of (top_ports resets xs s))

@@ -8,7 +8,7 @@ use Rattle.flat_form.specs.declared.flat.Flat as code
 use Rattle.flat_form.specs.View.{flat_of}
 use Rattle.flat_meaning.specs.Design.{Flat}
 use Rattle.flat_unfolding.specs.Outcome.{Text, good}
-use Rattle.flat_unfolding.specs.Design.{no_design}
+use Rattle.flat_unfolding.specs.Design.{Stage, no_design}
 use Rattle.flat_unfolding.specs.Declarations.{header_of}
 use Rattle.flat_unfolding.specs.Drivers.{is_double, is_undriven, refuse_first, driven_once}
 use Rattle.flat_unfolding.specs.Formed.{IsSourceFormed}
@@ -49,8 +49,8 @@ module _ (modules : List ModuleTree) (top : Text) (resets : List ResetPin) (f : 
   from_top_driven : (o : Option ModuleTree) → from_top modules resets top o ≡ good f → IsDriven f
   from_top_driven None e = absurd (search (rules, e))
   from_top_driven (Some m) e =
-      let g = good_then (visit modules (length modules) [] (m.name ∷ []) m [] (top_ports resets (header_of m)) no_design) finished f e in
-      let t = tried g.0 f g.2 in driven f t.0 t.1
+      let g = good_then (visit modules (length modules) [] (m.name ∷ []) m [] (top_ports resets (header_of m)) no_design) (λ (s : Stage). finished s.design) f e in
+      let t = tried g.0.design f g.2 in driven f t.0 t.1
 
   unfolded_driven : unfolded modules top resets ≡ good f → IsDriven f
   unfolded_driven e =

@@ -17,10 +17,10 @@ use Rattle.verilog_ast.specs.declared.ItemBody.{ItemBody}
 use Rattle.verilog_ast.specs.declared.ItemBody.TheVariants as bodies
 use Rattle.verilog_reading.specs.SourceTree.{ConnsTree, instance, ItemTree, body_of, item_of, ModuleTree, module_of}
 use Rattle.flat_unfolding.specs.Outcome.{Text, Outcome, good, then_}
-use Rattle.flat_unfolding.specs.Names.{Names, an_instance, is_declared, printed_part, Look}
+use Rattle.flat_unfolding.specs.Names.{Names, no_value, is_declared, printed_part, Look}
 use Rattle.flat_unfolding.specs.Parameters.{parameters}
 use Rattle.flat_unfolding.specs.Declarations.{header_decls, declarations}
-use Rattle.flat_unfolding.specs.Instances.{Link, overrides_of, links_of, connected}
+use Rattle.flat_unfolding.specs.Instances.{Link, overrides_of, links_of, connected, leaning_of}
 use Rattle.flat_unfolding.specs.Design.{Design, Stage, look_of}
 use Rattle.flat_unfolding.specs.Unfolding.{module_named, item, header_values, visit}
 use Rattle.flat_unfolding.specs.Formed.{IsBodyFormed, IsModuleFormed}
@@ -29,9 +29,10 @@ use Rattle.flat_names.specs.declared.scope.Meaning.TheVariants as m
 use Rattle.flat_names.specs.declared.design.Design as table
 use Rattle.flat_names.specs.Looks.{meaning_of, kept_in, IsFit}
 use Rattle.flat_names.specs.Designs.{ShowsNames, ShowsDesign, ShowsStage, Meets, Ends}
+use Rattle.flat_design.specs.declared.instance.Given.{Given}
 use Rattle.flat_design.specs.declared.visit.Open.{Open}
 use Rattle.flat_design.specs.declared.visit.Visit.{Visit}
-use Rattle.flat_design.specs.Visiting.{Frame, visited, rest_of, item_before, part_of, prefix_of, AreFrames, AreFitNames, IsVisiting, IsPlain, next_of, IsGrown, Goes, Begins, Table, Enters, Finds, AreEnds, end_rules}
+use Rattle.flat_design.specs.Visiting.{Frame, visited, closed, IsClosed, leaning_in, rest_of, item_before, part_of, prefix_of, IsFrame, AreFrames, AreFitNames, IsVisiting, IsPlain, next_of, IsGrown, Goes, Begins, Table, Enters, Finds, AreEnds, end_rules}
 use Rattle.flat_design.proofs.Fits.{fit-stage, KeepsLook, still-fit, values-look}
 use Rattle.flat_design.proofs.Connected.{connected-fit, connected-count}
 use Rattle.flat_design.proofs.Stacks.{AreNamedApart, innermost, left-behind}
@@ -102,16 +103,44 @@ plain-if (bodies.Initial body) h = tt
 
 module _ (pins : List ResetPin) (modules : List Module) (apart : AreNamedApart modules) (opens outer : List Open) (o : Open) (marks : List Bool) (kept : table.Design) (d : Design) (popped : opens ≡ outer ++ o ∷ []) where
   -- a module without an item that is left
-  pub is-left : (frames : List Frame) → IsVisiting pins modules opens marks kept frames d → item_at modules o.module o.next ≡ None
-      → (fs : List Frame) × (rest_of (map module_of modules) frames d ≡ rest_of (map module_of modules) fs d) × IsVisiting pins modules outer (slice_set marks o.module false) kept fs d
+  pub record IsLeft (frames : List Frame) : Type 0 where
+    pub f : Frame
+    pub fs : List Frame
+    pub rest : rest_of (map module_of modules) frames d ≡ then_ (closed f (record { names = f.names; design = d })) (λ u. rest_of (map module_of modules) fs d)
+    pub is : IsFrame modules o f
+    pub names : AreFitNames f.names (length d.entries)
+    pub visiting : IsVisiting pins modules outer (slice_set marks o.module false) kept fs d
+
+  pub is-left : (frames : List Frame) → IsVisiting pins modules opens marks kept frames d → item_at modules o.module o.next ≡ None → IsLeft frames
   is-left frames h none =
       let i = innermost pins modules apart opens outer o marks kept d popped frames h.frames_are in
       let no = drop-none i.is.tree.items o.next (sym (ap (option_and_then (λ (q : Module). slice_get q.items o.next)) i.is.found) ∙ none) in
-      let items : i.f.items ≡ [] = i.is.items ∙ ap (map item_of) no in (
-        i.fs,
-        ap (λ fs. rest_of (map module_of modules) fs d) i.frames_are ∙ rest-none (map module_of modules) i.f i.fs d items,
-        left-behind pins modules apart opens outer o marks kept d popped i.f i.fs (subst (λ fs. IsVisiting pins modules opens marks kept fs d) i.frames_are h) i.is i.around,
-      )
+      let items : i.f.items ≡ [] = i.is.items ∙ ap (map item_of) no in
+      let v = subst (λ fs. IsVisiting pins modules opens marks kept fs d) i.frames_are h in
+      record {
+        f = i.f;
+        fs = i.fs;
+        rest = ap (λ fs. rest_of (map module_of modules) fs d) i.frames_are ∙ rest-none (map module_of modules) i.f i.fs d items;
+        is = i.is;
+        names = All-head (λ (g : Frame). AreFitNames g.names (length d.entries)) i.f i.fs v.names;
+        visiting = left-behind pins modules apart opens outer o marks kept d popped i.f i.fs v i.is i.around;
+      }
+
+  -- what was given to it is wide enough, or it is refused
+  pub left-on : (frames : List Frame) (l : IsLeft frames) (v : Visit) → closed l.f (record { names = l.f.names; design = d }) ≡ good tt → v.open.items ≡ outer → v.is_open.items ≡ slice_set marks o.module false → v.design ≡ kept
+      → Goes pins modules (rest_of (map module_of modules) frames d) (Ok tt) v
+  left-on frames l v e stack flags same = (
+    l.fs,
+    d,
+    l.rest ∙ ap (λ q. then_ q (λ u. rest_of (map module_of modules) l.fs d)) e,
+    subst (λ (os : List Open). IsVisiting pins modules os v.is_open.items v.design l.fs d) (sym stack)
+        (subst (λ (ms : List Bool). IsVisiting pins modules outer ms v.design l.fs d) (sym flags)
+        (subst (λ (k : table.Design). IsVisiting pins modules outer (slice_set marks o.module false) k l.fs d) (sym same) l.visiting)),
+  )
+
+  pub left-refused : (frames : List Frame) (l : IsLeft frames) (v : Visit) (e : Stop) → IsClosed (closed l.f (record { names = l.f.names; design = d })) (Err e) → Goes pins modules (rest_of (map module_of modules) frames d) (Err e) v
+  left-refused frames l v (Refused q) h = l.rest ∙ ap (λ r. then_ r (λ u. rest_of (map module_of modules) l.fs d)) h
+  left-refused frames l v Memory h = tt
 
   -- a module with an item that is left
   pub record HasNext (i : Item) (o' : Open) (frames : List Frame) : Type 0 where
@@ -138,7 +167,7 @@ module _ (pins : List ResetPin) (modules : List Module) (apart : AreNamedApart m
             outer,
             record o { next = next },
             refl,
-            record { tree = k.is.tree; found = k.is.found; is = k.is.is; items = ap (λ j. map item_of (drop j k.is.tree.items)) (sym e ∙ sym is); names = k.is.names },
+            record { tree = k.is.tree; found = k.is.found; is = k.is.is; items = ap (λ j. map item_of (drop j k.is.tree.items)) (sym e ∙ sym is); names = k.is.names; given = k.is.given; place = k.is.place },
             k.prefix,
             k.around,
           );
@@ -200,32 +229,25 @@ module _ (pins : List ResetPin) (modules : List Module) where
 
 -- the instance's name is new in the table and in the list alike
 pub named-instance : (old new : Table) (names : Names) (x : Text) → ShowsNames old names → is_declared names x ≡ false
-    → ((y : Text) → kept_in new y ≡ cond (pointwise ◌==◌ x y) (Some m.Instance) (kept_in old y)) → ShowsNames new (names ++ ((x, an_instance) ∷ []))
-named-instance old new names x h fresh e = record {
-  kept = λ y. ap (option_map meaning_of) (e y) ∙ kept (bytes_eq x y) y refl;
-  indices = λ y w k. indices (bytes_eq x y) y w (sym (e y) ∙ k);
-}
+    → ((y : Text) → kept_in new y ≡ cond (pointwise ◌==◌ x y) (Some m.NoValue) (kept_in old y)) → ShowsNames new (names ++ ((x, no_value) ∷ []))
+named-instance old new names x h fresh e = record { kept = λ y. ap (option_map meaning_of) (e y) ∙ kept (bytes_eq x y) y refl }
   where
-    behind : (ns : Names) → is_declared ns x ≡ false → found_in (ns ++ ((x, an_instance) ∷ [])) x ≡ Some an_instance
-    behind [] f = ap (λ b. cond b (Some an_instance) None) ((bytes_eq-Decides x x).1 refl)
+    behind : (ns : Names) → is_declared ns x ≡ false → found_in (ns ++ ((x, no_value) ∷ [])) x ≡ Some no_value
+    behind [] f = ap (λ b. cond b (Some no_value) None) ((bytes_eq-Decides x x).1 refl)
     behind (p ∷ ns) f = go (bytes_eq p.0 x) f (behind ns)
       where
-        go : (b : Bool) → is_some (cond b (Some p.1) (found_in ns x)) ≡ false → (is_declared ns x ≡ false → found_in (ns ++ ((x, an_instance) ∷ [])) x ≡ Some an_instance)
-            → cond b (Some p.1) (found_in (ns ++ ((x, an_instance) ∷ [])) x) ≡ Some an_instance
+        go : (b : Bool) → is_some (cond b (Some p.1) (found_in ns x)) ≡ false → (is_declared ns x ≡ false → found_in (ns ++ ((x, no_value) ∷ [])) x ≡ Some no_value)
+            → cond b (Some p.1) (found_in (ns ++ ((x, no_value) ∷ [])) x) ≡ Some no_value
         go true f g = absurd (search (rules, f))
         go false f g = g f
 
-    other : (ns : Names) (y : Text) → bytes_eq x y ≡ false → found_in (ns ++ ((x, an_instance) ∷ [])) y ≡ found_in ns y
-    other [] y k = ap (λ b. cond b (Some an_instance) None) k
+    other : (ns : Names) (y : Text) → bytes_eq x y ≡ false → found_in (ns ++ ((x, no_value) ∷ [])) y ≡ found_in ns y
+    other [] y k = ap (λ b. cond b (Some no_value) None) k
     other (p ∷ ns) y k = ap (λ o. cond (bytes_eq p.0 y) (Some p.1) o) (other ns y k)
 
-    kept : (b : Bool) (y : Text) → bytes_eq x y ≡ b → option_map meaning_of (cond b (Some m.Instance) (kept_in old y)) ≡ found_in (names ++ ((x, an_instance) ∷ [])) y
-    kept true y k = sym (ap (found_in (names ++ ((x, an_instance) ∷ []))) (sym ((bytes_eq-Decides x y).0 k)) ∙ behind names fresh)
+    kept : (b : Bool) (y : Text) → bytes_eq x y ≡ b → option_map meaning_of (cond b (Some m.NoValue) (kept_in old y)) ≡ found_in (names ++ ((x, no_value) ∷ [])) y
+    kept true y k = sym (ap (found_in (names ++ ((x, no_value) ∷ []))) (sym ((bytes_eq-Decides x y).0 k)) ∙ behind names fresh)
     kept false y k = h.kept y ∙ sym (other names y k)
-
-    indices : (b : Bool) (y : Text) (w : _) → cond b (Some m.Instance) (kept_in old y) ≡ Some (m.Memory w) → 2 ^ w.index_width ≡ w.words
-    indices true y w k = absurd (search (rules, k))
-    indices false y w k = h.indices y w k
 
 module _ (pins : List ResetPin) (modules : List Module) (f : Frame) (fs : List Frame) (d : Design) (p : Place) (child x : Text) (params ports : ConnsTree) where
   abbrev the_item : ItemTree
@@ -256,13 +278,13 @@ module _ (pins : List ResetPin) (modules : List Module) (f : Frame) (fs : List F
     t = module_of k
 
     -- its overrides or connections break a rule
-    pub not-joined : (T U : Type 0) (sides : IndexMap Text (Option Bool) T) (v : Visit) (e : Stop) → AreEnds {T = T} {U = U} pins sides the_stage p t params ports (Err e)
+    pub not-joined : (T : Type 0) (sides : IndexMap Text (Option Bool) T) (v : Visit) (e : Stop) → AreEnds pins sides the_stage p t params ports (Err e)
         → Goes pins modules (next_of (map module_of modules) f fs d the_item) (Err e) v
-    not-joined T U sides v (Refused q) h = instance-bad (map module_of modules) f fs d p t child params x ports q found.named found.new found.fresh h
-    not-joined T U sides v Memory h = tt
+    not-joined T sides v (Refused q) h = instance-bad (map module_of modules) f fs d p t child params x ports q found.named found.new found.fresh h
+    not-joined T sides v Memory h = tt
 
     module _ (apart : AreNamedApart modules) (opens : List Open) (o : Open) (marks : List Bool) (kept : table.Design) (h : IsVisiting pins modules (opens ++ o ∷ []) marks kept (f ∷ fs) d)
-        (part : part_of modules o ≡ printed_part x ++ codes ".") (names : Table) (shows : ShowsNames names (f.names ++ ((x, an_instance) ∷ []))) (right : end_rules the_stage t params ports ≡ []) where
+        (part : part_of modules o ≡ printed_part x ++ codes ".") (names : Table) (shows : ShowsNames names (f.names ++ ((x, no_value) ∷ []))) (right : end_rules the_stage t params ports ≡ []) where
       abbrev deep : f.depth ≡ suc (f.depth - 1)
       deep = one-deeper modules (opens ++ o ∷ []) f fs number k h.frames_are h.different found.at found.new h.bounded.0
 
@@ -274,7 +296,7 @@ module _ (pins : List ResetPin) (modules : List Module) (f : Frame) (fs : List F
 
       to-come : Stage → Outcome Design
       to-come s = then_ (header_values t (connected (links_of (look_of the_stage) t ports) s)) (λ (u : Stage). rest_of (map module_of modules)
-          (record { tree = t; names = u.names; items = t.items; prefix = f.prefix ++ printed_part x ++ codes "."; depth = f.depth - 1 } ∷ record f { names = f.names ++ ((x, an_instance) ∷ []) } ∷ fs) u.design)
+          (record { tree = t; names = u.names; items = t.items; prefix = f.prefix ++ printed_part x ++ codes "."; depth = f.depth - 1; given = leaning_of (look_of the_stage) t params ports; place = Some p } ∷ record f { names = f.names ++ ((x, no_value) ∷ []) } ∷ fs) u.design)
 
       next-is : next_of (map module_of modules) f fs d the_item ≡ then_ begun to-come
       unfolding to-come
@@ -296,27 +318,28 @@ module _ (pins : List ResetPin) (modules : List Module) (f : Frame) (fs : List F
         begins = next-is ∙ ap (λ (r : Outcome Stage). then_ r to-come) is
 
         -- its module is entered, or refused by a start value in its header
-        pub goes-in : (inner : Table) (old v : Visit) (r : Result (Unit {0}) Stop) → old.open.items ≡ renamed → old.is_open.items ≡ marks → Enters pins number inner old (header_values t (connected links s)) r v
+        pub goes-in : (inner : Table) (given : Given) (old v : Visit) (r : Result (Unit {0}) Stop) → map leaning_in given.params.items ++ map leaning_in given.ports.items ≡ leaning_of (look_of the_stage) t params ports → given.place ≡ Some p
+            → old.open.items ≡ renamed → old.is_open.items ≡ marks → Enters pins number inner given old (header_values t (connected links s)) r v
             → Goes pins modules (next_of (map module_of modules) f fs d the_item) r v
         unfolding to-come
-        goes-in inner old v (Err Memory) stack same e = tt
-        goes-in inner old v (Err (Refused q)) stack same e =
+        goes-in inner given old v (Err Memory) leans at stack same e = tt
+        goes-in inner given old v (Err (Refused q)) leans at stack same e =
             begins ∙ ap (λ (y : Outcome Stage). then_ y (λ (u : Stage). rest_of (map module_of modules)
-            (record { tree = t; names = u.names; items = t.items; prefix = f.prefix ++ printed_part x ++ codes "."; depth = f.depth - 1 } ∷ record f { names = f.names ++ ((x, an_instance) ∷ []) } ∷ fs) u.design)) e
-        goes-in inner old v (Ok u) stack same e =
+            (record { tree = t; names = u.names; items = t.items; prefix = f.prefix ++ printed_part x ++ codes "."; depth = f.depth - 1; given = leaning_of (look_of the_stage) t params ports; place = Some p } ∷ record f { names = f.names ++ ((x, no_value) ∷ []) } ∷ fs) u.design)) e
+        goes-in inner given old v (Ok u) leans at stack same e =
             let w = e.0 in
             let looks = values-look t.place (connected links s) (header_decls t) w e.1 in
             let more : length d.entries ≤ length w.design.entries =
             subst (λ (c : ℕ). length d.entries ≤ c) (sym (ap (λ (l : Look). length l.entries) looks ∙ connected-count s.names s.design links)) (begun-more (overrides_of (look_of the_stage) t params) t (prefix_of modules renamed) d s is) in
             let inside = entered pins modules apart opens o marks kept f fs d h x names shows part number k found.at inner v.design w e.2
-            (still-fit (connected links s) w looks (connected-fit links s fit)) more (f.depth - 1) deep found.new in
-            let frame : Frame = record { tree = t; names = w.names; items = t.items; prefix = f.prefix ++ printed_part x ++ codes "."; depth = f.depth - 1 } in
-            let around : Frame = record f { names = f.names ++ ((x, an_instance) ∷ []) } in
-            let opened : Open = record { «module» = number; names = inner; next = 0 } in (
+            (still-fit (connected links s) w looks (connected-fit links s fit)) more (f.depth - 1) deep found.new given (leaning_of (look_of the_stage) t params ports) p leans at in
+            let frame : Frame = record { tree = t; names = w.names; items = t.items; prefix = f.prefix ++ printed_part x ++ codes "."; depth = f.depth - 1; given = leaning_of (look_of the_stage) t params ports; place = Some p } in
+            let around : Frame = record f { names = f.names ++ ((x, no_value) ∷ []) } in
+            let opened : Open = record { «module» = number; names = inner; next = 0; given = given } in (
               frame ∷ around ∷ fs,
               w.design,
               begins ∙ ap (λ (y : Outcome Stage). then_ y (λ (u : Stage). rest_of (map module_of modules)
-                  (record { tree = t; names = u.names; items = t.items; prefix = f.prefix ++ printed_part x ++ codes "."; depth = f.depth - 1 } ∷ around ∷ fs) u.design)) e.1,
+                  (record { tree = t; names = u.names; items = t.items; prefix = f.prefix ++ printed_part x ++ codes "."; depth = f.depth - 1; given = leaning_of (look_of the_stage) t params ports; place = Some p } ∷ around ∷ fs) u.design)) e.1,
               subst (λ (os : List Open). IsVisiting pins modules os v.is_open.items v.design (frame ∷ around ∷ fs) w.design) (sym (e.3 ∙ ap (λ (os : List Open). os ++ opened ∷ []) stack))
                   (subst (λ (ms : List Bool). IsVisiting pins modules (renamed ++ opened ∷ []) ms v.design (frame ∷ around ∷ fs) w.design) (sym (e.4 ∙ ap (λ (ms : List Bool). slice_set ms number true) same)) inside),
             )

@@ -54,13 +54,13 @@ module _ (pins : List ResetPin) (names : Table) (design : Design) (s : Stage) (h
   pub stage-looks : look.names.now ≡ names → look.active ≡ false → Shows look (look_of s)
   stage-looks e f =
       let shows = subst (λ (t : Table). ShowsNames t s.names) (sym e) h.names in
-      record { names = shows.kept; indices = shows.indices; entries = ap (λ (xs : List Entry). map seen xs) entries ∙ h.design.entries; active = f }
+      record { names = shows.kept; entries = ap (λ (xs : List Entry). map seen xs) entries ∙ h.design.entries; active = f }
 
   pub stage-resets : ShowsResets pins look.entries.now s.design.entries
   stage-resets t = subst (λ (xs : List Entry). IsReset pins (reset_of xs t) (reset_at s.design.entries t)) (sym entries) (h.design.resets t)
 
 -- the refusal of an instance's overrides or connections
-pub ends-refused : {T : Type 0} (U : Type 0) (pins : List ResetPin) (sides : IndexMap Text (Option Bool) T) (s : Stage) (p : Place) (m : ModuleTree) (params ports : ConnsTree) (e : Stop)
-    → IsBad (judged by_number p (end_rules s m params ports) (tt {0})) e → AreEnds {U = U} pins sides s p m params ports (Err e)
-ends-refused U pins sides s p m params ports (Refused f) h = h
-ends-refused U pins sides s p m params ports Memory h = tt
+pub ends-refused : {T : Type 0} (pins : List ResetPin) (sides : IndexMap Text (Option Bool) T) (s : Stage) (p : Place) (m : ModuleTree) (params ports : ConnsTree) (e : Stop)
+    → IsBad (judged by_number p (end_rules s m params ports) (tt {0})) e → AreEnds pins sides s p m params ports (Err e)
+ends-refused pins sides s p m params ports (Refused f) h = h
+ends-refused pins sides s p m params ports Memory h = tt

@@ -10,10 +10,10 @@ pub mod Going
 pub mod HeaderValues
 pub mod Joined
 pub mod Joints
+pub mod Leaning
 pub mod Libraries
 pub mod Links
 pub mod Longer
-pub mod OpenInputs
 pub mod Overrides
 pub mod Pins
 pub mod Places
@@ -21,6 +21,7 @@ pub mod Resets
 pub mod Shown
 pub mod Sides
 pub mod Stacks
+pub mod Taken
 pub mod Top
 pub mod TopInputs
 pub mod TopPorts

@@ -3,10 +3,10 @@ use Rattle.std.proofs.Common.{◌≡◌, ℕ, ◌+◌, ◌≤◌, false, not, �
 use Rattle.cdc_base.specs.declared.fault.Place.{Place}
 use Rattle.verilog_reading.specs.SourceTree.{ParamTree, DeclTree, ModuleTree}
 use Rattle.flat_unfolding.specs.Outcome.{Text, good, then_, each, refused_if, judged}
-use Rattle.flat_unfolding.specs.Names.{Names, a_memory, Range, Entry}
+use Rattle.flat_unfolding.specs.Names.{Names, a_signal, a_memory, Range, Entry}
 use Rattle.flat_unfolding.specs.Memories.{word_names}
 use Rattle.flat_unfolding.specs.Parameters.{Overrides, range_read, parameter_order, parameter, params_of, parameters}
-use Rattle.flat_unfolding.specs.Declarations.{Site, entry, numbered, is_plain_output, added, add_declared, declared_again, declaration_order, declaration, declaration_rules, has_direction, again, array_read, header_of, header_twice, directed, sites, declarations}
+use Rattle.flat_unfolding.specs.Declarations.{Site, entry, taken_names, is_plain_port, added, add_declared, declared_again, declaration_order, declaration, declaration_rules, has_direction, again, array_read, header_of, header_twice, directed, sites, declarations}
 use Rattle.flat_unfolding.specs.Design.{Design, Stage, look_of}
 use Rattle.flat_unfolding.proofs.Steps.{good_is, good_then, judged_is, each_keeps}
 use Rattle.flat_unfolding.proofs.Entries.{same_length, length_of_both}
@@ -24,9 +24,9 @@ declared-more : (c : ℕ) (s : Stage) (at : Site) (d : DeclTree) (r : Option Ran
 declared-more c s at d r (Some i) n t e h = subst (HasMore c) (good_is _ t e) (subst (λ k. c ≤ k) (sym (same_length (declared_again d.kind) i s.design.entries)) h)
 declared-more c s at d r None (Some n) t e h =
     let words = word_names d.name 0 n in
-    added-more c s (map (entry at d.kind r false) words) (numbered (length s.design.entries) words ++ ((d.name, a_memory (record { first = length s.design.entries; words = n })) ∷ [])) t e h
+    added-more c s (map (entry at d.kind r false) words) (taken_names words ++ ((d.name, a_memory (record { first = length s.design.entries; words = n })) ∷ [])) t e h
 declared-more c s at d r None None t e h =
-    added-more c s (entry at d.kind r (is_plain_output d.kind && not at.in_header) d.name ∷ []) (numbered (length s.design.entries) (d.name ∷ [])) t e h
+    added-more c s (entry at d.kind r (is_plain_port d.kind && not at.in_header) d.name ∷ []) ((d.name, a_signal (length s.design.entries)) ∷ []) t e h
 
 declaration-more : (c : ℕ) (s : Stage) (q : Site × DeclTree) (t : Stage) → declaration s q ≡ good t → HasMore c s → HasMore c t
 declaration-more c s q t e h = let g = good_then (judged declaration_order q.0.place (declaration_rules (look_of s) q.0 q.1) (tt {0}))

@@ -1,7 +1,8 @@
 -- Overrides so far, and one more: of two for one name the first counts.
-use Rattle.std.proofs.Common.{◌≡◌, ◌==◌, Bool, true, false, cond, List, [], ◌∷◌, ◌++◌, Option, Some, None, refl, sym, ap, ap₂, subst, ◌∙◌, rules, append-nil}
+use Rattle.std.proofs.Common.{◌≡◌, ◌==◌, Bool, true, false, cond, List, [], ◌∷◌, ◌++◌, map, Option, Some, None, refl, sym, ap, ap₂, subst, ◌∙◌, rules, append-nil}
 use Rattle.std.specs.Prelude.{is_some, filter_map, option_map, bytes_eq}
 use Rattle.std.specs.Cmp.Lexicographic.{pointwise}
+use Rattle.std.specs.List.{cons_option}
 use Rattle.std.specs.Map.{lookup}
 use Rattle.std.proofs.lemmas.List.Elements.{filter_map-append}
 use Rattle.std.proofs.lemmas.Slice.Eq.{bytes_eq-Decides}
@@ -13,20 +14,24 @@ use Rattle.flat_form.specs.Sizes.{is_sized}
 use Rattle.flat_unfolding.specs.Outcome.{Text}
 use Rattle.flat_unfolding.specs.Names.{Look}
 use Rattle.flat_unfolding.specs.Constants.{is_counted}
+use Rattle.flat_unfolding.specs.Signs.{leans}
 use Rattle.flat_unfolding.specs.Expressions.{as_constant, read}
 use Rattle.flat_unfolding.specs.Parameters as p
 use Rattle.flat_unfolding.specs.Parameters.{overridable}
-use Rattle.flat_unfolding.specs.Instances.{Joint, joints, joint_rules, override_rules, override, overrides_of}
+use Rattle.flat_unfolding.specs.Instances.{Leaning, Joint, joints, joint_rules, override_rules, override, leaning_joint}
 use Rattle.flat_unfolding.proofs.Steps.{none_of_both}
 use Rattle.flat_unfolding.proofs.Terms.{sound_is}
 use Rattle.flat_names.specs.declared.resolved.Resolved.{Resolved}
 use Rattle.flat_names.specs.Noting.{Noted, all_noted}
 use Rattle.flat_names.specs.Pieces.{IsRead}
+use Rattle.flat_names.specs.Signs.{signs_of}
 use Rattle.flat_names.proofs.Notes.{then-noted}
 use Rattle.flat_declarations.specs.declared.parameter.Override.{Override}
 use Rattle.flat_declarations.specs.Declaring.{override_of, given_in, IsGivenSized, ShowsOverrides}
-use Rattle.flat_design.specs.Visiting.{joint_if, constants_of, AreOverridden}
+use Rattle.flat_design.specs.Visiting.{leaning_in, leaning_if, override_by, joint_if, constants_of, GivesOverrides, AreOverridden}
+use Rattle.flat_design.specs.declared.instance.Overridden.{Overridden}
 use Rattle.flat_design.proofs.Joints.{flat-both}
+use Rattle.flat_design.proofs.Leaning.{override-is, leaning-is}
 
 -- ---- a list of names with one more
 
@@ -86,44 +91,50 @@ module _ {S : Type 0} (old new : IndexMap Text Override S) (xs : List (Text × p
   pub shows-more : ShowsOverrides new (xs ++ (x, q) ∷ [])
   shows-more = record { found = found-more; sized = sized-more }
 
-module _ {S : Type 0} (l : Look) (js : List Joint) (old : IndexMap Text Override S) (h : AreOverridden l js old) where
+module _ (l : Look) (js : List Joint) (old : Overridden) (h : AreOverridden l js old) where
   parts-of : (j : Joint) → constants_of l (js ++ j ∷ []) ≡ [] → (constants_of l js ≡ []) × (constants_of l (j ∷ []) ≡ [])
   parts-of j b = none_of_both (constants_of l js) (constants_of l (j ∷ [])) (sym (flat-both (λ (i : Joint). (as_constant (read l i.value)).broken) js (j ∷ [])) ∙ b)
 
   -- an override for no name
   pub override-unnamed : (v : ExprTree) → AreOverridden l (js ++ (record { name = None; value = v }) ∷ []) old
   override-unnamed v b =
-      let j : Joint = record { name = None; value = v } in
-      subst (ShowsOverrides old) (sym (filter_map-append (override l) js (j ∷ []) ∙ append-nil (filter_map (override l) js))) (h (parts-of j b).0)
+      let j : Joint = record { name = None; value = v } in let now = h (parts-of j b).0 in (
+        subst (ShowsOverrides old.overrides) (sym (filter_map-append (override l) js (j ∷ []) ∙ append-nil (filter_map (override l) js))) now.0,
+        now.1 ∙ sym (filter_map-append (leaning_joint l) js (j ∷ []) ∙ ap (λ o. filter_map (leaning_joint l) js ++ cons_option o []) (unnamed (leans l.names v)) ∙ append-nil (filter_map (leaning_joint l) js)),
+      )
+    where
+      unnamed : (b : Bool) → cond {A = Option Leaning} b None None ≡ None
+      unnamed true = refl
+      unnamed false = refl
 
-  pub override-more : (new : IndexMap Text Override S) (x : Text) (v : ExprTree) (o : Override)
-      → ((y : Text) → given_in new y ≡ cond (is_some (given_in old x)) (given_in old y) (cond (pointwise ◌==◌ x y) (Some o) (given_in old y)))
-      → ((as_constant (read l v)).broken ≡ [] → (override_of o ≡ record { value = (read l v).expr; is_counted = is_counted l.names v }) × (is_sized o.value ≡ true))
-      → AreOverridden l (js ++ (record { name = Some x; value = v }) ∷ []) new
-  override-more new x v o set right b =
+  pub override-more : (new : Overridden) (x : Text) (v : ExprTree) (r : Resolved)
+      → ((y : Text) → given_in new.overrides y ≡ cond (is_some (given_in old.overrides x)) (given_in old.overrides y) (cond (pointwise ◌==◌ x y) (Some (override_by r)) (given_in old.overrides y)))
+      → map leaning_in new.leaning.items ≡ map leaning_in old.leaning.items ++ leaning_if r x
+      → IsRead (as_constant (read l v)) r → is_some r.count ≡ is_counted l.names v → r.signs ≡ signs_of l.names v → AreOverridden l (js ++ (record { name = Some x; value = v }) ∷ []) new
+  override-more new x v r set leaning is counted signs b =
       let j : Joint = record { name = Some x; value = v } in
       let ps = parts-of j b in
-      let r = right (sym (append-nil (as_constant (read l v)).broken) ∙ ps.1) in
-      subst (ShowsOverrides new) (ap (λ (q : p.Override). filter_map (override l) js ++ (x, q) ∷ []) r.0 ∙ sym (filter_map-append (override l) js (j ∷ [])))
-      (shows-more old new (filter_map (override l) js) x o set (h ps.0) r.1)
+      let none : (as_constant (read l v)).broken ≡ [] = sym (append-nil (as_constant (read l v)).broken) ∙ ps.1 in
+      let sound : r.is_sound ≡ true = is.sound ∙ sound_is (as_constant (read l v)) none in
+      let now = h ps.0 in (
+        subst (ShowsOverrides new.overrides) (ap (λ (q : p.Override). filter_map (override l) js ++ (x, q) ∷ []) (override-is l v r is counted signs sound) ∙ sym (filter_map-append (override l) js (j ∷ [])))
+            (shows-more old.overrides new.overrides (filter_map (override l) js) x (override_by r) set now.0 (is.sized sound)),
+        leaning ∙ ap₂ (λ a c. a ++ c) now.1 (leaning-is l v r x (is.expr sound) (is.sized sound) signs) ∙ sym (filter_map-append (leaning_joint l) js (j ∷ [])),
+      )
 
 -- no override
-pub overrides-none : {S : Type 0} (l : Look) (table : IndexMap Text Override S) → table.entries ≡ [] → AreOverridden l [] table
-overrides-none l table e b = record {
-  found = λ x. ap (λ es. option_map override_of (lookup (pointwise ◌==◌ x) es)) e;
-  sized = λ x. subst (λ es. IsGivenSized (lookup (pointwise ◌==◌ x) es)) (sym e) tt;
-}
+pub overrides-none : (l : Look) (o : Overridden) → o.overrides.entries ≡ [] → o.leaning.items ≡ [] → AreOverridden l [] o
+overrides-none l o e d b = (
+  record {
+    found = λ x. ap (λ es. option_map override_of (lookup (pointwise ◌==◌ x) es)) e;
+    sized = λ x. subst (λ es. IsGivenSized (lookup (pointwise ◌==◌ x) es)) (sym e) tt;
+  },
+  ap (map leaning_in) d,
+)
 
 -- ---- one override more, with what is noted
 
--- a constant that breaks no rule
-pub right-override : (l : Look) (v : ExprTree) (r : Resolved) (b : Bool) → IsRead (as_constant (read l v)) r → is_some r.count ≡ is_counted l.names v → b ≡ is_some r.count → (as_constant (read l v)).broken ≡ []
-    → (override_of (record { value = r.expr; is_counted = b }) ≡ record { value = (read l v).expr; is_counted = is_counted l.names v }) × (is_sized r.expr ≡ true)
-right-override l v r b h c e none =
-    let sound : r.is_sound ≡ true = h.sound ∙ sound_is (as_constant (read l v)) none in
-    (ap₂ (λ x z. let o : p.Override = record { value = x; is_counted = z } in o) (h.expr sound) (e ∙ c), h.sized sound)
-
-module _ {S : Type 0} (l : Look) (js : List Joint) (new : IndexMap Text Override S) (f g : Noted) where
+module _ (l : Look) (js : List Joint) (new : Overridden) (f g : Noted) where
   -- a table with what is given to a name, where there is a value, and the rules that it breaks
   abbrev pub IsGiven : Option Text → Option ExprTree → Type 0
   IsGiven x v = AreOverridden l (js ++ joint_if x v) new × (g ≡ all_noted f (constants_of l (joint_if x v)))
@@ -136,13 +147,13 @@ module _ {S : Type 0} (l : Look) (js : List Joint) (new : IndexMap Text Override
 
 -- ---- all overrides
 
-module _ {S : Type 0} (l : Look) (m : ModuleTree) (table : IndexMap Text Override S) (f0 f1 f2 : Noted) where
+module _ (l : Look) (m : ModuleTree) (o : Overridden) (f0 f1 f2 : Noted) where
   -- what overrides are, and what is noted of them
   abbrev pub AreAllGiven : List Text → ConnsTree → Type 0
-  AreAllGiven names given = let bs = joint_rules m.name names given ++ constants_of l (joints names given) in (f2 ≡ all_noted f0 bs) × (bs ≡ [] → ShowsOverrides table (filter_map (override l) (joints names given)))
+  AreAllGiven names given = let bs = joint_rules m.name names given ++ constants_of l (joints names given) in (f2 ≡ all_noted f0 bs) × (bs ≡ [] → GivesOverrides l (joints names given) o)
 
   pub overrides-are : (names : List Text) (given kept : ConnsTree) → names ≡ overridable m → given ≡ kept → f1 ≡ all_noted f0 (joint_rules m.name names kept)
-      → AreOverridden l (joints names kept) table × (f2 ≡ all_noted f1 (constants_of l (joints names kept))) → (f2 ≡ all_noted f0 (override_rules l m given)) × (override_rules l m given ≡ [] → ShowsOverrides table (overrides_of l m given))
+      → AreOverridden l (joints names kept) o × (f2 ≡ all_noted f1 (constants_of l (joints names kept))) → (f2 ≡ all_noted f0 (override_rules l m given)) × (override_rules l m given ≡ [] → GivesOverrides l (joints (overridable m) given) o)
   overrides-are names given kept d same e h =
       let rules_ = joint_rules m.name names kept in
       let constants = constants_of l (joints names kept) in

@@ -17,7 +17,7 @@ use Rattle.flat_unfolding.specs.Outcome.{Text}
 use Rattle.flat_unfolding.specs.Declarations.{header_of}
 use Rattle.flat_unfolding.specs.Instances.{port_direction, if_among}
 use Rattle.flat_unfolding.proofs.Steps.{some_is}
-use Rattle.flat_design.specs.Visiting.{port_in, side_of, ShowsPorts, name_at, is_input_at, IsPlace, side_named}
+use Rattle.flat_design.specs.Visiting.{port_in, side_of, ShowsPorts, name_at, IsPlace, side_named}
 
 -- ---- where a name stands
 
@@ -95,27 +95,3 @@ copied-at xs k (Some x) e h = sym (slice_get_read xs (length xs) k x.now refl (l
 
 pub header-count : (m : ModuleTree) (header : List Port) → m.ports ≡ map port_of header → length header ≡ length (header_of m)
 header-count m header e = sym (length-map m.ports (λ (p : PortTree). p.name) ∙ ap length e ∙ length-map header port_of)
-
--- ---- each name stands once
-
-apart-at : (x : Text) (es : List (Text × Option Bool)) (k : ℕ) (y : Text) → AllByRecursion (λ z. bytes_eq x z ≡ false) (keys_of es) → option_map (λ (p : Text × Option Bool). p.0) (slice_get es k) ≡ Some y → bytes_eq x y ≡ false
-apart-at x [] k y h e = absurd (search (rules, e))
-apart-at x (p ∷ es) zero y h e = ap (bytes_eq x) (sym (some_is p.0 y e)) ∙ h.0
-apart-at x (p ∷ es) (suc k) y h e = apart-at x es k y h.1 e
-
-pub one-place : (es : List (Text × Option Bool)) → IsDistinct (pointwise ◌==◌) (keys_of es) → (i j : ℕ) (x : Text) → option_map (λ (p : Text × Option Bool). p.0) (slice_get es i) ≡ Some x
-    → option_map (λ (p : Text × Option Bool). p.0) (slice_get es j) ≡ Some x → i ≡ j
-one-place [] d i j x e f = absurd (search (rules, e))
-one-place (p ∷ es) d zero zero x e f = refl
-one-place (p ∷ es) d zero (suc j) x e f =
-    absurd (let t = apart-at p.0 es j x (IsDistinct-head (pointwise ◌==◌) p.0 (keys_of es) d) f in let u = sym t ∙ (bytes_eq-Decides p.0 x).1 (some_is p.0 x e) in search (rules, u))
-one-place (p ∷ es) d (suc i) zero x e f =
-    absurd (let t = apart-at p.0 es i x (IsDistinct-head (pointwise ◌==◌) p.0 (keys_of es) d) e in let u = sym t ∙ (bytes_eq-Decides p.0 x).1 (some_is p.0 x f) in search (rules, u))
-one-place (p ∷ es) d (suc i) (suc j) x e f = ap suc (one-place es (IsDistinct-tail (pointwise ◌==◌) p.0 (keys_of es) d) i j x e f)
-
--- ---- places of inputs
-
-pub input-within : (es : List (Text × Option Bool)) (k : ℕ) → is_input_at es k ≡ true → k < length es
-input-within [] k e = absurd (search (rules, e))
-input-within (p ∷ es) zero e = omega arith
-input-within (p ∷ es) (suc k) e = let l = input-within es k e in omega (arith, l)

@@ -19,16 +19,13 @@ use Rattle.flat_names.specs.Looks.{IsFit}
 use Rattle.flat_names.specs.Designs.{Ends}
 use Rattle.flat_declarations.specs.declared.parameter.Override.{Override}
 use Rattle.flat_declarations.specs.Declaring.{override_of, given_in, IsGivenSized, ShowsOverrides, AreFitOverrides}
+use Rattle.flat_design.specs.declared.instance.Given.{Given}
 use Rattle.flat_design.specs.declared.visit.Open.{Open}
 use Rattle.flat_design.specs.declared.visit.Visit.{Visit}
-use Rattle.flat_design.specs.Visiting.{Frame, rest_of, AreMarked, AreFitNames, IsFitDesign, IsVisiting, Goes, Begins, Table, Enters}
+use Rattle.flat_design.specs.Visiting.{Frame, leaning_in, rest_of, AreMarked, AreFitNames, IsFitDesign, IsVisiting, Goes, Begins, Table, Enters}
 use Rattle.flat_design.proofs.Fits.{names-fit, design-fit, still-fit, values-look, top-fit}
 use Rattle.flat_design.proofs.Stacks.{AreNamedApart, mark-entered}
 use Rattle.flat_design.proofs.Visits.{visit-is}
-
-then-good : {A : Type 0} (o : Outcome A) → then_ o (λ a. good a) ≡ o
-then-good (good a) = refl
-then-good (bad e) = refl
 
 -- no module is visited at first
 none-visited : (modules : List Module) → AreMarked modules (map (λ (q : Module). false) modules) []
@@ -44,13 +41,13 @@ module _ (pins : List ResetPin) (modules : List Module) (apart : AreNamedApart m
   top_begun = then_ (parameters [] t (record { names = []; design = no_design })) (λ (s : Stage). declarations [] t s)
 
   abbrev pub top_visit : Outcome Design
-  top_visit = visit (map module_of modules) (length modules) [] (m.name ∷ []) t [] (top_ports pins (header_of t)) no_design
+  top_visit = then_ (visit (map module_of modules) (length modules) [] (m.name ∷ []) t [] (top_ports pins (header_of t)) no_design) (λ (s : Stage). good s.design)
 
   abbrev depth : ℕ
   depth = length modules - 1
 
   to-come : Stage → Outcome Design
-  to-come s = then_ (header_values t (top_ports pins (header_of t) s)) (λ (u : Stage). rest_of (map module_of modules) (record { tree = t; names = u.names; items = t.items; prefix = []; depth = depth } ∷ []) u.design)
+  to-come s = then_ (header_values t (top_ports pins (header_of t) s)) (λ (u : Stage). rest_of (map module_of modules) (record { tree = t; names = u.names; items = t.items; prefix = []; depth = depth; given = []; place = None } ∷ []) u.design)
 
   deep : length modules ≡ suc depth
   deep = let l = slice_get_within modules top m at in omega (arith, l)
@@ -58,9 +55,8 @@ module _ (pins : List ResetPin) (modules : List Module) (apart : AreNamedApart m
   top-is : top_visit ≡ then_ top_begun to-come
   unfolding to-come
   top-is =
-      ap (λ (k : ℕ). visit (map module_of modules) k [] (m.name ∷ []) t [] (top_ports pins (header_of t)) no_design) deep
-      ∙ sym (then-good (visit (map module_of modules) (suc depth) [] (m.name ∷ []) t [] (top_ports pins (header_of t)) no_design))
-      ∙ visit-is (map module_of modules) depth [] (m.name ∷ []) t [] (top_ports pins (header_of t)) no_design (λ (d : Design). good d)
+      ap (λ (k : ℕ). then_ (visit (map module_of modules) k [] (m.name ∷ []) t [] (top_ports pins (header_of t)) no_design) (λ (s : Stage). good s.design)) deep
+      ∙ visit-is (map module_of modules) depth [] (m.name ∷ []) t [] (top_ports pins (header_of t)) no_design (λ (s : Stage). good s.design)
 
   pub top-not-begun : (S : Type 0) (e : Stop) (kept : table.Design) (P : Design → Type 0) → Begins {S = S} pins top_begun (Err e) kept → Ends P top_visit (Err e)
   top-not-begun S (Refused f) kept P b = top-is ∙ ap (λ (o : Outcome Stage). then_ o to-come) b
@@ -71,23 +67,23 @@ module _ (pins : List ResetPin) (modules : List Module) (apart : AreNamedApart m
     begins = top-is ∙ ap (λ (o : Outcome Stage). then_ o to-come) is
 
     -- refused by a start value in its header
-    pub top-refused : (inner : Table) (old v : Visit) (e : Stop) (P : Design → Type 0) → Enters pins top inner old (header_values t (top_ports pins (header_of t) s)) (Err e) v → Ends P top_visit (Err e)
+    pub top-refused : (inner : Table) (given : Given) (old v : Visit) (e : Stop) (P : Design → Type 0) → Enters pins top inner given old (header_values t (top_ports pins (header_of t) s)) (Err e) v → Ends P top_visit (Err e)
     unfolding to-come
-    top-refused inner old v (Refused f) P h = begins ∙ ap (λ (o : Outcome Stage). then_ o (λ (u : Stage). rest_of (map module_of modules) (record { tree = t; names = u.names; items = t.items; prefix = []; depth = depth } ∷ []) u.design)) h
-    top-refused inner old v Memory P h = tt
+    top-refused inner given old v (Refused f) P h = begins ∙ ap (λ (o : Outcome Stage). then_ o (λ (u : Stage). rest_of (map module_of modules) (record { tree = t; names = u.names; items = t.items; prefix = []; depth = depth; given = []; place = None } ∷ []) u.design)) h
+    top-refused inner given old v Memory P h = tt
 
-    pub top-entered : (inner : Table) (old v : Visit) → old.open.items ≡ [] → old.is_open.items ≡ map (λ (q : Module). false) modules
-        → Enters pins top inner old (header_values t (top_ports pins (header_of t) s)) (Ok tt) v → Goes pins modules top_visit (Ok tt) v
+    pub top-entered : (inner : Table) (given : Given) (old v : Visit) → map leaning_in given.params.items ++ map leaning_in given.ports.items ≡ [] → given.place ≡ None → old.open.items ≡ [] → old.is_open.items ≡ map (λ (q : Module). false) modules
+        → Enters pins top inner given old (header_values t (top_ports pins (header_of t) s)) (Ok tt) v → Goes pins modules top_visit (Ok tt) v
     unfolding to-come
-    top-entered inner old v none marks h =
+    top-entered inner given old v leans place none marks h =
         let w = h.0 in
-        let frame : Frame = record { tree = t; names = w.names; items = t.items; prefix = []; depth = depth } in
-        let opened : Open = record { «module» = top; names = inner; next = 0 } in
+        let frame : Frame = record { tree = t; names = w.names; items = t.items; prefix = []; depth = depth; given = []; place = None } in
+        let opened : Open = record { «module» = top; names = inner; next = 0; given = given } in
         let looks = values-look t.place (top_ports pins (header_of t) s) (header_decls t) w h.1 in
         let well = still-fit (top_ports pins (header_of t) s) w looks (top-fit pins (header_of t) s fit) in
         let d = deep in
         let visiting : IsVisiting pins modules (opened ∷ []) (slice_set (map (λ (q : Module). false) modules) top true) v.design (frame ∷ []) w.design = record {
-          frames_are = ([], opened, refl, record { tree = m; found = at; is = refl; items = refl; names = h.2.names }, refl, refl);
+          frames_are = ([], opened, refl, record { tree = m; found = at; is = refl; items = refl; names = h.2.names; given = leans; place = place }, refl, refl);
           marks_are = mark-entered modules apart (map (λ (q : Module). false) modules) top m at [] (none-visited modules);
           design = h.2.design;
           fit = design-fit w well;
@@ -97,7 +93,7 @@ module _ (pins : List ResetPin) (modules : List Module) (apart : AreNamedApart m
         } in (
           frame ∷ [],
           w.design,
-          begins ∙ ap (λ (o : Outcome Stage). then_ o (λ (u : Stage). rest_of (map module_of modules) (record { tree = t; names = u.names; items = t.items; prefix = []; depth = depth } ∷ []) u.design)) h.1,
+          begins ∙ ap (λ (o : Outcome Stage). then_ o (λ (u : Stage). rest_of (map module_of modules) (record { tree = t; names = u.names; items = t.items; prefix = []; depth = depth; given = []; place = None } ∷ []) u.design)) h.1,
           subst (λ (os : List Open). IsVisiting pins modules os v.is_open.items v.design (frame ∷ []) w.design) (sym (h.3 ∙ ap (λ (os : List Open). os ++ opened ∷ []) none))
               (subst (λ (ms : List Bool). IsVisiting pins modules (opened ∷ []) ms v.design (frame ∷ []) w.design) (sym (h.4 ∙ ap (λ (ms : List Bool). slice_set ms top true) marks)) visiting),
         )

@@ -7,7 +7,7 @@ use denote.Enum.Bare.{sameb}
 use Rattle.cdc_base.specs.declared.signal.ResetPin.{ResetPin}
 use Rattle.flat_unfolding.specs.Outcome.{Text}
 use Rattle.flat_unfolding.specs.Names as n
-use Rattle.flat_unfolding.specs.Names.{Meaning, a_param, a_signal, a_memory, an_instance, meaning_in, Direction, inner, inward, outward, direction_at}
+use Rattle.flat_unfolding.specs.Names.{Meaning, a_param, a_signal, a_memory, no_value, meaning_in, Direction, inner, inward, outward, direction_at}
 use Rattle.flat_unfolding.specs.Targets.{is_input}
 use Rattle.flat_unfolding.specs.Design as u
 use Rattle.flat_unfolding.specs.Design.{Stage, with_design, change_entry}
@@ -56,14 +56,14 @@ signal-port None s e = absurd (search (rules, e))
 signal-port (Some (a_param q)) s e = absurd (search (rules, e))
 signal-port (Some (a_signal t)) s e = ap (λ i. Some (a_signal i)) (some_is t s e)
 signal-port (Some (a_memory a)) s e = absurd (search (rules, e))
-signal-port (Some an_instance) s e = absurd (search (rules, e))
+signal-port (Some no_value) s e = absurd (search (rules, e))
 
 no-port : (pins : List ResetPin) (d : u.Design) (m : Option Meaning) → if_signal m ≡ None → top_port pins d m ≡ d
 no-port pins d None e = refl
 no-port pins d (Some (a_param q)) e = refl
 no-port pins d (Some (a_signal t)) e = absurd (search (rules, e))
 no-port pins d (Some (a_memory a)) e = refl
-no-port pins d (Some an_instance) e = refl
+no-port pins d (Some no_value) e = refl
 
 module _ (pins : List ResetPin) (table : Table) (old new : Design) (x : Text) (xs : List Text) (t : Stage) (h : ShowsStage pins table old t) (fit : AreFitNames t.names (length t.design.entries)) where
   -- what is left of the ports once the first is done

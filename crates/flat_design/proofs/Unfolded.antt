@@ -9,12 +9,13 @@ use Rattle.flat_meaning.specs.Design as meaning
 use Rattle.flat_form.specs.declared.flat.Flat.{Flat}
 use Rattle.flat_unfolding.specs.Outcome.{Text, Outcome, good, bad, then_}
 use Rattle.flat_unfolding.specs.Declarations.{header_of}
-use Rattle.flat_unfolding.specs.Design.{Design, no_design}
+use Rattle.flat_unfolding.specs.Design.{Design, Stage, no_design}
 use Rattle.flat_unfolding.specs.Unfolding as law
 use Rattle.flat_unfolding.specs.Unfolding.{module_named, visit, top_ports, modules_differ, from_top, unfolded, IsUnfolding}
 use Rattle.flat_names.specs.Noting.{Refuses}
 use Rattle.flat_names.specs.Designs.{Ends}
 use Rattle.flat_design.specs.Visiting.{Lists}
+use Rattle.flat_design.proofs.Visits.{then-then}
 
 as-many : (modules : List Module) → length (map module_of modules) ≡ length modules
 as-many [] = refl
@@ -41,11 +42,12 @@ module _ (modules : List Module) (top : Text) (resets : List ResetPin) where
 
     module _ (m : Module) (named : module_named top (map module_of modules) ≡ Some (module_of m)) where
       abbrev pub visit_of : Outcome Design
-      visit_of = visit (map module_of modules) (length modules) [] (m.name ∷ []) (module_of m) [] (top_ports resets (header_of (module_of m))) no_design
+      visit_of = then_ (visit (map module_of modules) (length modules) [] (m.name ∷ []) (module_of m) [] (top_ports resets (header_of (module_of m))) no_design) (λ (s : Stage). good s.design)
 
       visits : unfolding_of ≡ then_ visit_of law.finished
       visits = goes-on ∙ ap (from_top (map module_of modules) resets top) named
-          ∙ ap (λ (k : ℕ). then_ (visit (map module_of modules) k [] (m.name ∷ []) (module_of m) [] (top_ports resets (header_of (module_of m))) no_design) law.finished) (as-many modules)
+          ∙ ap (λ (k : ℕ). then_ (visit (map module_of modules) k [] (m.name ∷ []) (module_of m) [] (top_ports resets (header_of (module_of m))) no_design) (λ (s : Stage). law.finished s.design)) (as-many modules)
+          ∙ sym (then-then (visit (map module_of modules) (length modules) [] (m.name ∷ []) (module_of m) [] (top_ports resets (header_of (module_of m))) no_design) (λ (s : Stage). good s.design) law.finished)
 
       -- the visit is refused
       pub not-visited : (e : Stop) (P : Design → Type 0) → Ends P visit_of (Err e) → IsUnfolding unfolding_of (Err e)

@@ -1,34 +1,42 @@
 -- Steps of a visit, by the definition.
 use Rattle.std.proofs.Common.{◌≡◌, ℕ, suc, Bool, true, false, List, [], ◌∷◌, ◌++◌, Option, Some, refl, ap, ◌∙◌, rules}
 use Rattle.std.specs.Prelude.{codes}
+use Rattle.std.specs.List.{list_any}
 use Rattle.cdc_base.specs.declared.fault.Place.{Place}
 use Rattle.cdc_base.specs.declared.fault.Fault.{Fault}
 use Rattle.cdc_base.specs.Words.{is_in}
 use Rattle.verilog_reading.specs.SourceTree.{ConnsTree, instance, ItemTree, ModuleTree}
 use Rattle.flat_unfolding.specs.Outcome.{Text, Broken, Outcome, good, bad, then_, each, refused_if, Order, by_number, judged}
-use Rattle.flat_unfolding.specs.Names.{is_declared, printed_part, an_instance}
+use Rattle.flat_unfolding.specs.Names.{is_declared, printed_part, no_value}
 use Rattle.flat_unfolding.specs.Design.{Design, Stage, look_of}
 use Rattle.flat_unfolding.specs.Parameters.{Overrides, parameters}
 use Rattle.flat_unfolding.specs.Declarations.{declarations}
-use Rattle.flat_unfolding.specs.Instances.{overrides_of, links_of, connected}
+use Rattle.flat_unfolding.specs.Instances.{overrides_of, links_of, connected, leaning_of, is_short}
 use Rattle.flat_unfolding.specs.Unfolding.{module_named, instance_item, item, header_values, visit}
-use Rattle.flat_design.specs.Visiting.{Frame, visited, rest_of, next_of, end_rules}
+use Rattle.flat_design.specs.Visiting.{Frame, visited, closed, rest_of, next_of, end_rules}
 
-then-then : {A B C : Type 0} (o : Outcome A) (f : A → Outcome B) (g : B → Outcome C) → then_ (then_ o f) g ≡ then_ o (λ a. then_ (f a) g)
+pub then-then : {A B C : Type 0} (o : Outcome A) (f : A → Outcome B) (g : B → Outcome C) → then_ (then_ o f) g ≡ then_ o (λ a. then_ (f a) g)
 then-then (good a) f g = refl
 then-then (bad e) f g = refl
 
+then-same : {A B : Type 0} (o : Outcome A) (f g : A → Outcome B) → ((a : A) → f a ≡ g a) → then_ o f ≡ then_ o g
+then-same (good a) f g h = h a
+then-same (bad e) f g h = refl
+
 module _ (modules : List ModuleTree) where
   -- a module whose items are done
-  pub rest-none : (f : Frame) (fs : List Frame) (d : Design) → f.items ≡ [] → rest_of modules (f ∷ fs) d ≡ rest_of modules fs d
-  rest-none f fs d e = ap (λ (is : List ItemTree). then_ (each (item modules (visited (f ∷ fs)) f.prefix (visit modules f.depth)) (record { names = f.names; design = d }) is) (λ (s : Stage). rest_of modules fs s.design)) e
+  pub rest-none : (f : Frame) (fs : List Frame) (d : Design) → f.items ≡ [] → rest_of modules (f ∷ fs) d ≡ then_ (closed f (record { names = f.names; design = d })) (λ u. rest_of modules fs d)
+  rest-none f fs d e =
+      ap (λ (is : List ItemTree). then_ (each (item modules (visited (f ∷ fs)) f.prefix (visit modules f.depth)) (record { names = f.names; design = d }) is)
+      (λ (s : Stage). then_ (closed f s) (λ u. rest_of modules fs s.design))) e
 
   -- a module with an item that is left
   pub rest-next : (f : Frame) (fs : List Frame) (d : Design) (i : ItemTree) (is : List ItemTree) → f.items ≡ i ∷ is → rest_of modules (f ∷ fs) d ≡ next_of modules (record f { items = is }) fs d i
   rest-next f fs d i is e =
-      ap (λ (js : List ItemTree). then_ (each (item modules (visited (f ∷ fs)) f.prefix (visit modules f.depth)) (record { names = f.names; design = d }) js) (λ (s : Stage). rest_of modules fs s.design)) e
+      ap (λ (js : List ItemTree). then_ (each (item modules (visited (f ∷ fs)) f.prefix (visit modules f.depth)) (record { names = f.names; design = d }) js)
+      (λ (s : Stage). then_ (closed f s) (λ u. rest_of modules fs s.design))) e
       ∙ then-then (item modules (visited (f ∷ fs)) f.prefix (visit modules f.depth) (record { names = f.names; design = d }) i)
-      (λ (t : Stage). each (item modules (visited (f ∷ fs)) f.prefix (visit modules f.depth)) t is) (λ (s : Stage). rest_of modules fs s.design)
+      (λ (t : Stage). each (item modules (visited (f ∷ fs)) f.prefix (visit modules f.depth)) t is) (λ (s : Stage). then_ (closed f s) (λ u. rest_of modules fs s.design))
 
 -- ---- an instance that breaks no rule
 
@@ -54,29 +62,13 @@ regroup {B = B} {C = C} (good a) f g h k = go (f a)
 
 module _ (modules : List ModuleTree) where
   -- the visit of a module goes on with the stack
-  pub visit-is : (n : ℕ) (prefix : Text) (visiting : List Text) (m : ModuleTree) (given : Overrides) (ports : Stage → Stage) (d : Design) (k : Design → Outcome Design)
+  pub visit-is : (n : ℕ) (prefix : Text) (visiting : List Text) (m : ModuleTree) (given : Overrides) (ports : Stage → Stage) (d : Design) (k : Stage → Outcome Design)
       → then_ (visit modules (suc n) prefix visiting m given ports d) k
       ≡ then_ (then_ (parameters given m (record { names = []; design = d })) (λ (s : Stage). declarations prefix m s))
-      (λ (t : Stage). then_ (header_values m (ports t)) (λ (u : Stage). then_ (each (item modules visiting prefix (visit modules n)) u m.items) (λ (v : Stage). k v.design)))
+      (λ (t : Stage). then_ (header_values m (ports t)) (λ (u : Stage). then_ (each (item modules visiting prefix (visit modules n)) u m.items) k))
   visit-is n prefix visiting m given ports d k =
       regroup (parameters given m (record { names = []; design = d })) (λ (s : Stage). declarations prefix m s) (λ (t : Stage). header_values m (ports t))
-      (λ (u : Stage). then_ (each (item modules visiting prefix (visit modules n)) u m.items) (λ (v : Stage). good v.design)) k
-      ∙ after (then_ (parameters given m (record { names = []; design = d })) (λ (s : Stage). declarations prefix m s))
-    where
-      behind : (u : Stage) → then_ (then_ (each (item modules visiting prefix (visit modules n)) u m.items) (λ (v : Stage). good v.design)) k
-          ≡ then_ (each (item modules visiting prefix (visit modules n)) u m.items) (λ (v : Stage). k v.design)
-      behind u = then-then (each (item modules visiting prefix (visit modules n)) u m.items) (λ (v : Stage). good v.design) k
-
-      values : (o : Outcome Stage) → then_ o (λ (u : Stage). then_ (then_ (each (item modules visiting prefix (visit modules n)) u m.items) (λ (v : Stage). good v.design)) k)
-          ≡ then_ o (λ (u : Stage). then_ (each (item modules visiting prefix (visit modules n)) u m.items) (λ (v : Stage). k v.design))
-      values (good u) = behind u
-      values (bad e) = refl
-
-      after : (o : Outcome Stage)
-          → then_ o (λ (t : Stage). then_ (header_values m (ports t)) (λ (u : Stage). then_ (then_ (each (item modules visiting prefix (visit modules n)) u m.items) (λ (v : Stage). good v.design)) k))
-          ≡ then_ o (λ (t : Stage). then_ (header_values m (ports t)) (λ (u : Stage). then_ (each (item modules visiting prefix (visit modules n)) u m.items) (λ (v : Stage). k v.design)))
-      after (good t) = values (header_values m (ports t))
-      after (bad e) = refl
+      (λ (u : Stage). each (item modules visiting prefix (visit modules n)) u m.items) k
 
   module _ (f : Frame) (fs : List Frame) (d : Design) (p : Place) (m : ModuleTree) (child : Text) (params : ConnsTree) (x : Text) (ports : ConnsTree) where
     abbrev here : Stage
@@ -86,10 +78,17 @@ module _ (modules : List ModuleTree) where
     below = f.prefix ++ printed_part x ++ codes "."
 
     abbrev pub around : Frame
-    around = record f { names = f.names ++ ((x, an_instance) ∷ []) }
+    around = record f { names = f.names ++ ((x, no_value) ∷ []) }
 
     abbrev pub inside : ℕ → Stage → Frame
-    inside n u = record { tree = m; names = u.names; items = m.items; prefix = below; depth = n }
+    inside n u = record { tree = m; names = u.names; items = m.items; prefix = below; depth = n; given = leaning_of (look_of here) m params ports; place = Some p }
+
+    -- E306 of what is too short, once its module is visited
+    abbrev judge : Stage → Outcome (Unit {0})
+    judge t = refused_if (list_any (is_short t) (leaning_of (look_of here) m params ports)) 306 (Some p) m.name
+
+    abbrev after : Stage → Outcome Stage
+    after t = then_ (judge t) (λ u. good (record { names = f.names ++ ((x, no_value) ∷ []); design = t.design }))
 
     -- what is still to come once the parameters and declarations of its module are read
     abbrev pub entering : ℕ → Stage → Outcome Design
@@ -103,11 +102,13 @@ module _ (modules : List ModuleTree) where
         ap (λ (o : Option ModuleTree). then_ (instance_item modules (visited (f ∷ fs)) f.prefix (visit modules f.depth) here p o child params x ports) g) named
         ∙ ap (λ (o : Outcome Stage). then_ o g)
         (unrefused (is_in (visited (f ∷ fs)) m.name) 303 (Some p) m.name _ new ∙ unrefused (is_declared f.names x) 304 (Some p) x _ fresh ∙ unbroken by_number p (end_rules here m params ports) _ right)
-        ∙ then-then (visit modules f.depth below (m.name ∷ visited (f ∷ fs)) m (overrides_of (look_of here) m params) (connected (links_of (look_of here) m ports)) d)
-        (λ (e : Design). good (record { names = f.names ++ ((x, an_instance) ∷ []); design = e })) g
+        ∙ then-then (visit modules f.depth below (m.name ∷ visited (f ∷ fs)) m (overrides_of (look_of here) m params) (connected (links_of (look_of here) m ports)) d) after g
+        ∙ then-same (visit modules f.depth below (m.name ∷ visited (f ∷ fs)) m (overrides_of (look_of here) m params) (connected (links_of (look_of here) m ports)) d)
+        (λ (t : Stage). then_ (after t) g) (λ (t : Stage). then_ (judge t) (λ u. rest_of modules (around ∷ fs) t.design))
+        (λ (t : Stage). then-then (judge t) (λ u. good (record { names = f.names ++ ((x, no_value) ∷ []); design = t.design })) g)
         ∙ ap (λ k. then_ (visit modules k below (m.name ∷ visited (f ∷ fs)) m (overrides_of (look_of here) m params) (connected (links_of (look_of here) m ports)) d)
-        (λ (e : Design). rest_of modules (around ∷ fs) e)) depth
-        ∙ visit-is n below (m.name ∷ visited (f ∷ fs)) m (overrides_of (look_of here) m params) (connected (links_of (look_of here) m ports)) d (λ (e : Design). rest_of modules (around ∷ fs) e)
+        (λ (t : Stage). then_ (judge t) (λ u. rest_of modules (around ∷ fs) t.design))) depth
+        ∙ visit-is n below (m.name ∷ visited (f ∷ fs)) m (overrides_of (look_of here) m params) (connected (links_of (look_of here) m ports)) d (λ (t : Stage). then_ (judge t) (λ u. rest_of modules (around ∷ fs) t.design))
 
     -- an instance whose overrides or connections break a rule
     pub instance-bad : (e : Fault) → module_named child modules ≡ Some m → is_in (visited (f ∷ fs)) m.name ≡ false → is_declared f.names x ≡ false
@@ -118,5 +119,4 @@ module _ (modules : List ModuleTree) where
         ap (λ (o : Option ModuleTree). then_ (instance_item modules (visited (f ∷ fs)) f.prefix (visit modules f.depth) here p o child params x ports) g) named
         ∙ ap (λ (o : Outcome Stage). then_ o g)
         (unrefused (is_in (visited (f ∷ fs)) m.name) 303 (Some p) m.name _ new ∙ unrefused (is_declared f.names x) 304 (Some p) x _ fresh
-        ∙ ap (λ (o : Outcome (Unit {0})). then_ o (λ u. then_ (visit modules f.depth below (m.name ∷ visited (f ∷ fs)) m (overrides_of (look_of here) m params) (connected (links_of (look_of here) m ports)) d)
-        (λ (t : Design). good (record { names = f.names ++ ((x, an_instance) ∷ []); design = t })))) wrong)
+        ∙ ap (λ (o : Outcome (Unit {0})). then_ o (λ u. then_ (visit modules f.depth below (m.name ∷ visited (f ∷ fs)) m (overrides_of (look_of here) m params) (connected (links_of (look_of here) m ports)) d) after)) wrong)

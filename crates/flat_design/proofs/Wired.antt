@@ -60,7 +60,7 @@ signal-named None s e = absurd (search (rules, e))
 signal-named (Some (n.a_param p)) s e = absurd (search (rules, e))
 signal-named (Some (n.a_signal t)) s e = ap (λ i. Some (n.a_signal i)) (sym (some_is s t e))
 signal-named (Some (n.a_memory a)) s e = absurd (search (rules, e))
-signal-named (Some n.an_instance) s e = absurd (search (rules, e))
+signal-named (Some n.no_value) s e = absurd (search (rules, e))
 
 module _ (names : n.Names) (o : u.Design) where
   pub port-signal : (link : Link) (s : ℕ) → Some s ≡ if_signal (meaning_in names (port_of link)) → AreFitNames names (length o.entries) → (s < length o.entries) × (connect_at o s link ≡ connect_one names o link)
@@ -75,7 +75,7 @@ module _ (names : n.Names) (o : u.Design) where
       go (Some (n.a_param p)) e = refl
       go (Some (n.a_signal s)) e = absurd (search (rules, e))
       go (Some (n.a_memory a)) e = refl
-      go (Some n.an_instance) e = refl
+      go (Some n.no_value) e = refl
   no-signal (out_of x t) = go (meaning_in names x)
     where
       go : (m : Option n.Meaning) → None ≡ if_signal m → out_of_port o t m ≡ o
@@ -83,7 +83,7 @@ module _ (names : n.Names) (o : u.Design) where
       go (Some (n.a_param p)) e = refl
       go (Some (n.a_signal s)) e = absurd (search (rules, e))
       go (Some (n.a_memory a)) e = refl
-      go (Some n.an_instance) e = refl
+      go (Some n.no_value) e = refl
 
 -- ---- connections so far
 

@@ -1,5 +1,5 @@
 -- Instances and the visit of modules: what the tables and the stack of open modules show of the definition's.
-use Rattle.std.specs.Prelude.{◌||◌, unwrap_or, slice_set, find, Vec, ◌≡◌, ℕ, zero, suc, ◌+◌, ◌-◌, ◌<◌, ◌≤◌, ◌^◌, ◌==◌, Bool, true, false, cond, ◌&&◌, not, List, [], ◌∷◌, ◌++◌, length, map, filter_map, flat_map, drop, All, Option, Some, None, is_some, option_map, option_and_then, slice_get, bytes_eq, codes, Result, Ok, Err}
+use Rattle.std.specs.Prelude.{◌||◌, unwrap_or, slice_set, find, Vec, ◌≡◌, ℕ, zero, suc, ◌+◌, ◌-◌, ◌<◌, ◌≤◌, ◌^◌, ◌==◌, Bool, true, false, cond, ◌&&◌, not, List, [], ◌∷◌, ◌++◌, length, map, filter, filter_map, flat_map, drop, All, Option, Some, None, is_some, option_map, option_and_then, slice_get, bytes_eq, codes, Result, Ok, Err}
 use Rattle.std.specs.Option.{option_map_or}
 use Rattle.std.specs.Global.{Global}
 use Rattle.std.specs.declared.hash.BuildHasherDefault.{BuildHasherDefault}
@@ -25,13 +25,15 @@ use Rattle.verilog_reading.specs.ExprTree.{ExprTree}
 use Rattle.verilog_reading.specs.SourceTree.{DeclTree, ConnsTree, BodyTree, decl, instance, ItemTree, ModuleTree, conns_of, item_of, module_of}
 use Rattle.flat_meaning.specs.Flat.{Expr, Read, Target, Whole}
 use Rattle.flat_form.specs.View.{expr_of, target_of}
-use Rattle.flat_form.specs.Sizes.{is_word}
-use Rattle.flat_unfolding.specs.Outcome.{Text, Broken, Outcome, good, bad, then_, each, by_number, judged}
+use Rattle.flat_form.specs.Sizes.{is_word, kept_of}
+use Rattle.flat_unfolding.specs.Outcome.{Text, Broken, Outcome, good, bad, then_, each, refused_if, by_number, judged}
 use Rattle.flat_unfolding.specs.Names as n
 use Rattle.flat_unfolding.specs.Names.{Names, Direction, inner, inward, outward, width_of, width_at, is_declared, meaning_in, Look, printed_part}
 use Rattle.flat_unfolding.specs.Expressions.{as_constant, read}
 use Rattle.flat_unfolding.specs.Declarations.{header_of}
-use Rattle.flat_unfolding.specs.Instances.{Joint, override, override_rules, overrides_of, connection_rules, links_of, port_direction, Link, into, out_of, linked, into_port, out_of_port}
+use Rattle.flat_unfolding.specs.Parameters.{overridable}
+use Rattle.flat_unfolding.specs.Instances as of
+use Rattle.flat_unfolding.specs.Instances.{Joint, joints, override, override_rules, connection_rules, port_direction, Link, into, out_of, linked, into_port, out_of_port, leaning_joint, takes_input, is_short}
 use Rattle.flat_unfolding.specs.Design.{Design, Stage, look_of}
 use Rattle.flat_unfolding.specs.Unfolding.{item, visit, instance_item, modules_differ, module_named}
 use Rattle.flat_unfolding.specs.Unfolding as law
@@ -41,10 +43,16 @@ use Rattle.flat_names.specs.declared.design.Entry as kept
 use Rattle.flat_names.specs.declared.design.Reset.{Reset}
 use Rattle.flat_names.specs.declared.design.Design as table
 use Rattle.flat_names.specs.declared.scope.Meaning.{Meaning}
-use Rattle.flat_names.specs.Looks.{IsFitParam, IsFit}
+use Rattle.flat_names.specs.declared.scope.Meaning.TheVariants as scope
+use Rattle.flat_names.specs.declared.resolved.Resolved.{Resolved}
+use Rattle.flat_names.specs.Looks.{param_of, IsFitParam, IsFit}
 use Rattle.flat_names.specs.Designs.{ShowsNames, ShowsDesign, ShowsStage, IsReset, reset_of}
 use Rattle.flat_declarations.specs.declared.parameter.Override.{Override}
 use Rattle.flat_design.specs.declared.instance.Connection.{Connection}
+use Rattle.flat_design.specs.declared.instance.Leaning.{Leaning}
+use Rattle.flat_design.specs.declared.instance.Overridden.{Overridden}
+use Rattle.flat_design.specs.declared.instance.Connected.{Connected}
+use Rattle.flat_design.specs.declared.instance.Given.{Given}
 use Rattle.flat_design.specs.declared.instance.End.{End}
 use Rattle.flat_design.specs.declared.instance.End.TheVariants as ends
 use Rattle.flat_design.specs.declared.visit.Library.{Library}
@@ -58,6 +66,10 @@ use Rattle.flat_declarations.specs.Declaring.{given_in, ShowsOverrides}
 -- what a table has for the name of a port: whether it is an input, where it has a direction
 abbrev pub port_in : {S : Type 0} → IndexMap Text (Option Bool) S → Text → Option (Option Bool)
 port_in ports x = get_by (pointwise ◌==◌ x) ports
+
+-- ports as the code has them
+abbrev pub PortTable : Type 0
+PortTable = IndexMap Text (Option Bool) (BuildHasherDefault FoldHasher)
 
 abbrev pub side_of : Option Direction → Option Bool
 side_of None = None
@@ -84,18 +96,21 @@ sides_with (d ∷ ds) x o = sides_with ds x (cond (awaits o && (is_some (side_of
 pub record ShowsPorts {S : Type 0} (ports : IndexMap Text (Option Bool) S) (m : ModuleTree) : Type 0 where
   pub kept : (x : Text) → port_in ports x ≡ cond (is_in (header_of m) x) (Some (side_of (port_direction m x))) None
 
--- the name of the port at a place, and whether the port there is an input
+-- the name of the port at a place
 abbrev pub name_at : {S : Type 0} → IndexMap Text (Option Bool) S → ℕ → Option Text
 name_at ports place = option_map (λ (p : Text × Option Bool). p.0) (slice_get ports.entries place)
 
-abbrev pub is_an_input : Option Bool → Bool
-is_an_input (Some true) = true
-is_an_input o = false
-
-abbrev pub is_input_at : List (Text × Option Bool) → ℕ → Bool
-is_input_at ports place = option_map_or (λ (p : Text × Option Bool). is_an_input p.1) (slice_get ports place) false
-
 -- ---- what instances give
+
+abbrev pub leaning_in : Leaning → of.Leaning
+leaning_in g = record { name = g.name; bits = g.bits }
+
+-- what leans of a value that is given to a name, and the override that the value makes
+abbrev pub leaning_if : Resolved → Text → List of.Leaning
+leaning_if r x = cond r.signs.leans (record { name = x; bits = (kept_of r.expr).width } ∷ []) []
+
+abbrev pub override_by : Resolved → Override
+override_by r = record { value = r.expr; is_counted = is_some r.count; is_signed = r.signs.is_signed }
 
 -- an expression that is given to a name, if there is one
 abbrev pub joint_if : Option Text → Option ExprTree → List Joint
@@ -106,9 +121,12 @@ module _ (l : Look) where
   abbrev pub constants_of : List Joint → List Broken
   constants_of js = flat_map (λ (j : Joint). (as_constant (read l j.value)).broken) js
 
-  -- a table has these overrides, where no rule is broken
-  abbrev pub AreOverridden : {S : Type 0} → List Joint → IndexMap Text Override S → Type 0
-  AreOverridden js given = constants_of js ≡ [] → ShowsOverrides given (filter_map (override l) js)
+  -- a table with these overrides, and what leans of them
+  abbrev pub GivesOverrides : List Joint → Overridden → Type 0
+  GivesOverrides js o = ShowsOverrides o.overrides (filter_map (override l) js) × (map leaning_in o.leaning.items ≡ filter_map (leaning_joint l) js)
+
+  abbrev pub AreOverridden : List Joint → Overridden → Type 0
+  AreOverridden js o = constants_of js ≡ [] → GivesOverrides js o
 
   abbrev pub read_of : ModuleTree → List Joint → List Broken
   read_of m js = flat_map (λ (j : Joint). (linked l m j).broken) js
@@ -132,13 +150,6 @@ abbrev pub placed : Option ℕ → Option Bool → Option (ℕ × Bool)
 placed (Some place) (Some side) = Some (place, side)
 placed place side = None
 
--- the names of ports with a direction that something is given to
-abbrev pub directed_names : ModuleTree → List Joint → List Text
-directed_names m js = filter_map (λ (j : Joint). option_and_then (λ x. cond (is_some (side_named m j.name)) (Some x) None) j.name) js
-
-abbrev pub AreSides : {S : Type 0} → ModuleTree → IndexMap Text (Option Bool) S → List Joint → List Connection → Type 0
-AreSides m ports js cs = AllZip (λ (c : Connection) x. name_at ports c.port ≡ Some x) cs (directed_names m js)
-
 abbrev pub IsEnd : List ResetPin → End → Link → Type 0
 IsEnd pins (ends.Input value reset) (into x v r) = (expr_of value ≡ v) × (keeps_sizes value ≡ true) × IsReset pins reset r
 IsEnd pins (ends.Output target) (out_of x t) = (target_of target ≡ t) × (target_keeps_sizes target ≡ true)
@@ -151,14 +162,13 @@ port_of (out_of x t) = x
 abbrev pub IsLinkOf : {S : Type 0} → List ResetPin → IndexMap Text (Option Bool) S → Connection → Link → Type 0
 IsLinkOf pins ports c link = (name_at ports c.port ≡ Some (port_of link)) × IsEnd pins c.end link
 
-pub record AreLinked {S : Type 0} (pins : List ResetPin) (l : Look) (m : ModuleTree) (ports : IndexMap Text (Option Bool) S) (js : List Joint) (cs : List Connection) : Type 0 where
-  pub sides : AreSides m ports js cs
-  pub links : read_of l m js ≡ [] → AllZip (IsLinkOf pins ports) cs (filter_map (λ (j : Joint). (linked l m j).link) js)
+-- the connections, and what leans of them
+abbrev pub GivesLinks : {S : Type 0} → List ResetPin → Look → ModuleTree → IndexMap Text (Option Bool) S → List Joint → Connected → Type 0
+GivesLinks pins l m ports js c =
+    AllZip (IsLinkOf pins ports) c.connections.items (filter_map (λ (j : Joint). (linked l m j).link) js) × (map leaning_in c.leaning.items ≡ filter_map (leaning_joint l) (filter (takes_input m) js))
 
--- an input of which the test tells nothing, or none
-abbrev pub Opens : (ℕ → Bool) → List (Text × Option Bool) → Bool → Type 0
-Opens is_met ports true = (place : ℕ) × (is_input_at ports place ≡ true) × (is_met place ≡ false)
-Opens is_met ports false = (place : ℕ) → is_input_at ports place ≡ true → is_met place ≡ true
+abbrev pub AreLinked : {S : Type 0} → List ResetPin → Look → ModuleTree → IndexMap Text (Option Bool) S → List Joint → Connected → Type 0
+AreLinked pins l m ports js c = read_of l m js ≡ [] → GivesLinks pins l m ports js c
 
 -- the signal that a name stands for
 abbrev pub if_signal : Option n.Meaning → Option ℕ
@@ -174,6 +184,11 @@ pub record AreFitNames (names : Names) (count : ℕ) : Type 0 where
   pub params : (x : Text) (p : n.Param) → meaning_in names x ≡ Some (n.a_param p) → IsFitParam p
   pub signals : (x : Text) (s : ℕ) → meaning_in names x ≡ Some (n.a_signal s) → s < count
   pub memories : (x : Text) (a : n.Memory) → meaning_in names x ≡ Some (n.a_memory a) → (1 ≤ a.words) × (a.first + a.words ≤ count)
+
+abbrev pub IsFitMeaning : ℕ → Meaning → Type 0
+IsFitMeaning count (scope.Param p) = IsFitParam (param_of p)
+IsFitMeaning count (scope.Signal s) = s < count
+IsFitMeaning count v = Unit {0}
 
 pub record IsFitDesign (d : Design) : Type 0 where
   pub entries : (s : ℕ) (a : n.Entry) → slice_get d.entries s ≡ Some a → is_word (width_of a.range) ≡ true
@@ -198,23 +213,35 @@ Lists modules (Err Memory) = Unit {0}
 
 -- ---- the stack of modules that are being visited, the innermost first
 
--- a module that is being visited: its names, the items that are left of it, the printed names of the instances from the top to it, and the bound on the
--- depth of visits of its instances
+-- a module that is being visited: its names, the items that are left of it, the printed names of the instances from the top to it, the bound on the
+-- depth of visits of its instances, and what was given to it that leans, with the place of its instance
 pub record Frame : Type 0 where
   pub tree : ModuleTree
   pub names : Names
   pub items : List ItemTree
   pub prefix : Text
   pub depth : ℕ
+  pub given : List of.Leaning
+  pub place : Option Place
 
 abbrev pub visited : List Frame → List Text
 visited frames = map (λ (f : Frame). f.tree.name) frames
+
+-- E306: what was given to a module is too short for it
+abbrev pub closed : Frame → Stage → Outcome (Unit {0})
+closed f s = refused_if (list_any (is_short s) f.given) 306 f.place f.tree.name
+
+-- a module ends so, or with that refusal
+abbrev pub IsClosed : Outcome (Unit {0}) → Result (Unit {0}) Stop → Type 0
+IsClosed o (Ok u) = o ≡ good tt
+IsClosed o (Err (Refused e)) = o ≡ bad e
+IsClosed o (Err Memory) = Unit {0}
 
 module _ (modules : List ModuleTree) where
   -- what is still to come: the innermost module's items, then the module around it goes on with the design and its own names
   abbrev pub rest_of : List Frame → Design → Outcome Design
   rest_of [] d = good d
-  rest_of (f ∷ fs) d = then_ (each (item modules (visited (f ∷ fs)) f.prefix (visit modules f.depth)) (record { names = f.names; design = d }) f.items) (λ s. rest_of fs s.design)
+  rest_of (f ∷ fs) d = then_ (each (item modules (visited (f ∷ fs)) f.prefix (visit modules f.depth)) (record { names = f.names; design = d }) f.items) (λ s. then_ (closed f s) (λ u. rest_of fs s.design))
 
 abbrev pub named_part : ItemBody → Text
 named_part (body.Instance child params x ports) = printed_part x ++ codes "."
@@ -240,6 +267,8 @@ pub record IsFrame (modules : List Module) (o : Open) (f : Frame) : Type 0 where
   pub is : f.tree ≡ module_of tree
   pub items : f.items ≡ map item_of (drop o.next tree.items)
   pub names : ShowsNames o.names f.names
+  pub given : map leaning_in o.given.params.items ++ map leaning_in o.given.ports.items ≡ f.given
+  pub place : o.given.place ≡ f.place
 
 abbrev pub AreFrames : List Module → List Open → List Frame → Type 0
 AreFrames modules opens [] = opens ≡ []
@@ -302,11 +331,11 @@ abbrev pub Table : Type 0
 Table = IndexMap Text Meaning (BuildHasherDefault FoldHasher)
 
 -- a module is entered with the start values in its header, or refused by one of them
-abbrev pub Enters : List ResetPin → ℕ → Table → Visit → Outcome Stage → Result (Unit {0}) Stop → Visit → Type 0
-Enters pins number names old o (Ok u) new = (t : Stage) × (o ≡ good t) × ShowsStage pins names new.design t
-    × (new.open.items ≡ old.open.items ++ (record { «module» = number; names = names; next = 0 }) ∷ []) × (new.is_open.items ≡ slice_set old.is_open.items number true)
-Enters pins number names old o (Err (Refused f)) new = o ≡ bad f
-Enters pins number names old o (Err Memory) new = Unit {0}
+abbrev pub Enters : List ResetPin → ℕ → Table → Given → Visit → Outcome Stage → Result (Unit {0}) Stop → Visit → Type 0
+Enters pins number names given old o (Ok u) new = (t : Stage) × (o ≡ good t) × ShowsStage pins names new.design t
+    × (new.open.items ≡ old.open.items ++ (record { «module» = number; names = names; next = 0; given = given }) ∷ []) × (new.is_open.items ≡ slice_set old.is_open.items number true)
+Enters pins number names given old o (Err (Refused f)) new = o ≡ bad f
+Enters pins number names given old o (Err Memory) new = Unit {0}
 
 -- an instance as the source has it
 abbrev pub instance_tree : Instance → ItemTree
@@ -325,8 +354,8 @@ abbrev pub end_rules : Stage → ModuleTree → (params ports : ConnsTree) → L
 end_rules s m params ports = override_rules (look_of s) m params ++ connection_rules (look_of s) m ports
 
 -- the overrides and connections of an instance, or the refusal of the rule that they break
-abbrev pub AreEnds : {T U : Type 0} → List ResetPin → IndexMap Text (Option Bool) T → Stage → Place → ModuleTree → (params ports : ConnsTree) → Result (IndexMap Text Override U × Vec Connection Global) Stop → Type 0
-AreEnds pins table s p m params ports (Ok r) = (end_rules s m params ports ≡ []) × ShowsOverrides r.0 (overrides_of (look_of s) m params) × AllZip (IsLinkOf pins table) r.1.items (links_of (look_of s) m ports)
+abbrev pub AreEnds : {T : Type 0} → List ResetPin → IndexMap Text (Option Bool) T → Stage → Place → ModuleTree → (params ports : ConnsTree) → Result (Overridden × Connected) Stop → Type 0
+AreEnds pins table s p m params ports (Ok r) = (end_rules s m params ports ≡ []) × GivesOverrides (look_of s) (joints (overridable m) params) r.0 × GivesLinks pins (look_of s) m table (joints (header_of m) ports) r.1
 AreEnds pins table s p m params ports (Err (Refused f)) = judged by_number p (end_rules s m params ports) (tt {0}) ≡ bad f
 AreEnds pins table s p m params ports (Err Memory) = Unit {0}
 

@@ -1,9 +1,7 @@
 //! Instances: overrides of parameters and connections of ports.
-ghost use Rattle.std.specs.Prelude.{◌≡◌, ◌==◌, ◌<◌, ℕ, nat_lt, nat_eq, length, is_some, cond, not, ◌||◌, List, [], ◌∷◌, ◌++◌, map, filter_map, flat_map, All, Option, Some, None, option_copied, slice_get, IfOk};
+ghost use Rattle.std.specs.Prelude.{◌≡◌, ◌==◌, ◌<◌, ℕ, nat_lt, length, is_some, cond, not, ◌||◌, Bool, true, false, List, [], ◌∷◌, ◌++◌, map, filter_map, flat_map, All, Option, Some, None, option_copied, option_and_then, slice_get, IfOk};
 ghost use Rattle.std.specs.List.{AllZip, list_any};
 ghost use Rattle.std.specs.Cmp.Lexicographic.{pointwise};
-ghost use Rattle.indexmap.specs.IndexSet.{contains_by};
-ghost use Rattle.flat_design.specs.declared.instance.Connection as joined;
 ghost use Rattle.cdc_base.specs.declared.signal.ResetPin.{ResetPin};
 ghost use Rattle.cdc_base.specs.declared.fault.Place as at;
 ghost use Rattle.cdc_base.specs.Words.{is_in};
@@ -14,25 +12,29 @@ ghost use Rattle.flat_unfolding.specs.Outcome.{Text, breaks_if};
 ghost use Rattle.flat_unfolding.specs.Names as n;
 ghost use Rattle.flat_unfolding.specs.Names.{meaning_in};
 ghost use Rattle.flat_unfolding.specs.Declarations.{header_of, decl_in};
-ghost use Rattle.flat_unfolding.specs.Instances.{Joint, Link, into, out_of, if_among, ordered_joints, named_joint, unmet, override_rules, connection_rules, links_of, open_inputs, connect_one, connect_all};
+ghost use Rattle.flat_unfolding.specs.Instances.{Joint, joints, Link, if_among, ordered_joints, named_joint, unmet, override_rules, connection_rules, connect_one, connect_all};
 ghost use Rattle.flat_unfolding.specs.Instances as of;
 ghost use Rattle.flat_unfolding.specs.Design as grown;
+ghost use Rattle.flat_unfolding.specs.Design.{Stage};
+ghost use Rattle.flat_unfolding.specs.Parameters as law_parameters;
 ghost use Rattle.flat_unfolding.specs.Formed.{IsFormed, IsFormedIf, AreConnsFormed};
 ghost use Rattle.flat_unfolding.specs.Expressions.{read};
 ghost use Rattle.flat_unfolding.specs.Targets.{driven};
 ghost use Rattle.flat_names.specs.Noting.{all_noted};
 ghost use Rattle.flat_names.specs.Looks.{Shows, IsFit, meaning_of};
-ghost use Rattle.flat_names.specs.Designs.{ShowsNames, ShowsDesign, IsReset};
-ghost use Rattle.flat_declarations.specs.Declaring.{given_in, ShowsHeader, ShowsOverrides};
-ghost use Rattle.flat_design.specs.Visiting.{port_in, side_of_kind as kind_side, sides_with, awaits, ShowsPorts, ShowsResets, AreOverridden, joint_if, constants_of, IsPlace, side_named, placed, AreSides, AreLinked, IsEnd, IsLinkOf, read_of, is_input_at, Opens, name_at, if_signal, connect_at, AreFitNames};
+ghost use Rattle.flat_names.specs.Designs.{ShowsNames, ShowsDesign, ShowsStage, IsReset};
+ghost use Rattle.flat_declarations.specs.Declaring.{given_in, ShowsHeader};
+ghost use Rattle.flat_design.specs.Visiting.{PortTable, port_in, side_of_kind as kind_side, sides_with, awaits, ShowsPorts, ShowsResets, AreOverridden, joint_if, constants_of, IsPlace, side_named, placed, AreLinked, IsEnd, IsLinkOf, read_of, name_at, if_signal, connect_at, AreFitNames, IsFitMeaning, override_by, leaning_in, leaning_if, GivesOverrides, GivesLinks};
 
-use cdc_base::{Name, NoMemory};
+use cdc_base::{Name, NoMemory, Place};
 use flat_declarations::parameter::{Override, Overrides, overridable};
 use flat_form::flat::{FExpr, FTarget, FlatAssign};
 use flat_form::memory::push;
+use flat_form::size::width_of;
 use flat_names::design::{Design, Reset};
 use flat_names::expr::{resolve, resolve_constant};
 use flat_names::fault::{Faults, Rule};
+use flat_names::resolved::Resolved;
 use flat_names::scope::{Look, Meaning, Names};
 use flat_process::assign::driven_target;
 use indexmap::{IndexMap, IndexSet};
@@ -54,6 +56,36 @@ pub struct Connection {
 enum End {
     Input { value: FExpr, reset: Option<Reset> },
     Output(FTarget),
+}
+
+/// An expression of so many bits whose value leans on the size at which it is evaluated, for the input or the parameter
+/// of a name.
+#[derive(Drop)]
+pub struct Leaning {
+    name: Name,
+    bits: u8,
+}
+
+/// The overrides of an instance, and what leans of them.
+#[derive(Drop)]
+pub struct Overridden {
+    pub overrides: Overrides,
+    pub leaning: Vec<Leaning>,
+}
+
+/// The connections of an instance, and what leans of them.
+#[derive(Drop)]
+pub struct Connected {
+    pub connections: Vec<Connection>,
+    pub leaning: Vec<Leaning>,
+}
+
+/// What was given to a module that leans, and the place of its instance; the top has none.
+#[derive(Drop)]
+pub struct Given {
+    pub place: Option<Place>,
+    pub params: Vec<Leaning>,
+    pub ports: Vec<Leaning>,
 }
 
 /// The ports of a module.
@@ -152,12 +184,15 @@ pub fn overrides_of(
     word: &str,
     given: &Conns,
     faults: &mut Faults,
-) -> Result<Overrides, NoMemory>
+) -> Result<Overridden, NoMemory>
     ensures { (l : n.Look) → Shows look.now l → IsFit l → AreConnsFormed (conns_of given.now) → word.now ≡ «module».now.name
-        → IfOk result (λ table. (faults.new ≡ all_noted faults.old (override_rules l (module_of «module».now) (conns_of given.now)))
-        × (override_rules l (module_of «module».now) (conns_of given.now) ≡ [] → ShowsOverrides table (of.overrides_of l (module_of «module».now) (conns_of given.now)))) }
+        → IfOk result (λ r. (faults.new ≡ all_noted faults.old (override_rules l (module_of «module».now) (conns_of given.now)))
+        × (override_rules l (module_of «module».now) (conns_of given.now) ≡ [] → GivesOverrides l (joints (law_parameters.overridable (module_of «module».now)) (conns_of given.now)) r)) }
 {
-    let mut overrides = IndexMap::new(look.alloc);
+    let mut overridden = Overridden {
+        overrides: IndexMap::new(look.alloc),
+        leaning: Vec::new(look.alloc),
+    };
     let names = overridable(look.alloc, module)?;
     match given {
         Conns::Ordered(values) => {
@@ -166,17 +201,17 @@ pub fn overrides_of(
                 look,
                 names.as_slice(),
                 values.as_slice(),
-                &mut overrides,
+                &mut overridden,
                 faults,
             )?;
         }
         Conns::Named(conns) => {
             let known = name_set(look.alloc, names.as_slice())?;
             note_unmet(look.alloc, &known, conns.as_slice(), word, faults)?;
-            add_named(look, &known, conns.as_slice(), &mut overrides, faults)?;
+            add_named(look, &known, conns.as_slice(), &mut overridden, faults)?;
         }
     }
-    Ok(overrides)
+    Ok(overridden)
 }
 
 /// More values by order than there are names are too many.
@@ -252,15 +287,15 @@ fn add_ordered(
     look: &Look,
     names: &[Name],
     values: &[Option<Expr>],
-    overrides: &mut Overrides,
+    overridden: &mut Overridden,
     faults: &mut Faults,
 ) -> Result<(), NoMemory>
-    ensures { (l : n.Look) → Shows look.now l → IsFit l → All IsFormedIf (map (maybe tree_of) values.now) → AreOverridden l [] overrides.old
-        → IfOk result (λ _. AreOverridden l (ordered_joints names.now (map (maybe tree_of) values.now)) overrides.new
+    ensures { (l : n.Look) → Shows look.now l → IsFit l → All IsFormedIf (map (maybe tree_of) values.now) → AreOverridden l [] overridden.old
+        → IfOk result (λ _. AreOverridden l (ordered_joints names.now (map (maybe tree_of) values.now)) overridden.new
         × (faults.new ≡ all_noted faults.old (constants_of l (ordered_joints names.now (map (maybe tree_of) values.now))))) }
 {
     for (k, value) in values.iter().enumerate() {
-        add_override(look, names.get(k), value, overrides, faults)?;
+        add_override(look, names.get(k), value, overridden, faults)?;
     }
     Ok(())
 }
@@ -270,16 +305,16 @@ fn add_named(
     look: &Look,
     known: &IndexSet<Name>,
     conns: &[Conn],
-    overrides: &mut Overrides,
+    overridden: &mut Overridden,
     faults: &mut Faults,
 ) -> Result<(), NoMemory>
-    ensures { (l : n.Look) (names : List Text) → Shows look.now l → IsFit l → ShowsHeader known.now names → AreConnsFormed (named (map conn_of conns.now)) → AreOverridden l [] overrides.old
-        → IfOk result (λ _. AreOverridden l (filter_map (named_joint names) (map conn_of conns.now)) overrides.new
+    ensures { (l : n.Look) (names : List Text) → Shows look.now l → IsFit l → ShowsHeader known.now names → AreConnsFormed (named (map conn_of conns.now)) → AreOverridden l [] overridden.old
+        → IfOk result (λ _. AreOverridden l (filter_map (named_joint names) (map conn_of conns.now)) overridden.new
         × (faults.new ≡ all_noted faults.old (constants_of l (filter_map (named_joint names) (map conn_of conns.now))))) }
 {
     for conn in conns {
         let name = if_known(known, &conn.name);
-        add_override(look, name, &conn.value, overrides, faults)?;
+        add_override(look, name, &conn.value, overridden, faults)?;
     }
     Ok(())
 }
@@ -299,25 +334,58 @@ fn add_override(
     look: &Look,
     name: Option<&Name>,
     value: &Option<Expr>,
-    overrides: &mut Overrides,
+    overridden: &mut Overridden,
     faults: &mut Faults,
 ) -> Result<(), NoMemory>
-    ensures { (l : n.Look) (js : List Joint) → Shows look.now l → IsFit l → IsFormedIf (maybe tree_of value.now) → AreOverridden l js overrides.old
-        → IfOk result (λ _. AreOverridden l (js ++ joint_if (option_copied name.entry) (maybe tree_of value.now)) overrides.new
+    ensures { (l : n.Look) (js : List Joint) → Shows look.now l → IsFit l → IsFormedIf (maybe tree_of value.now) → AreOverridden l js overridden.old
+        → IfOk result (λ _. AreOverridden l (js ++ joint_if (option_copied name.entry) (maybe tree_of value.now)) overridden.new
         × (faults.new ≡ all_noted faults.old (constants_of l (joint_if (option_copied name.entry) (maybe tree_of value.now))))) }
 {
     let Some(value) = value else {
         return Ok(());
     };
     let value = resolve_constant(look, value, faults)?;
-    let value = Override {
-        value: value.expr,
-        is_counted: value.count.is_some(),
-    };
     match name {
-        Some(name) => set_override(look.alloc, name, value, overrides),
+        Some(name) => give(look.alloc, name, value, overridden),
         None => Ok(()),
     }
+}
+
+/// Gives a constant to the parameter of a name.
+fn give(
+    alloc: Global,
+    name: &Name,
+    value: Resolved,
+    overridden: &mut Overridden,
+) -> Result<(), NoMemory>
+    ensures { IfOk result (λ _. ((x : Text) → given_in overridden.new.overrides x ≡ cond (is_some (given_in overridden.old.overrides name.now)) (given_in overridden.old.overrides x)
+        (cond (pointwise ◌==◌ name.now x) (Some (override_by value)) (given_in overridden.old.overrides x)))
+        × (map leaning_in overridden.new.leaning.items ≡ map leaning_in overridden.old.leaning.items ++ leaning_if value name.now)) }
+{
+    note_leaning(alloc, name, &value, &mut overridden.leaning)?;
+    let value = Override {
+        is_counted: value.count.is_some(),
+        is_signed: value.signs.is_signed,
+        value: value.expr,
+    };
+    set_override(alloc, name, value, &mut overridden.overrides)
+}
+
+/// Notes what is given to a name, where it leans.
+fn note_leaning(
+    alloc: Global,
+    name: &Name,
+    value: &Resolved,
+    leaning: &mut Vec<Leaning>,
+) -> Result<(), NoMemory>
+    ensures { IfOk result (λ _. map leaning_in leaning.new.items ≡ map leaning_in leaning.old.items ++ leaning_if value.now name.now) }
+{
+    if !value.signs.leans {
+        return Ok(());
+    }
+    let name = name.copy(alloc)?;
+    let bits = width_of(&value.expr);
+    push(leaning, Leaning { name, bits })
 }
 
 fn set_override(
@@ -346,14 +414,17 @@ pub fn connections_of(
     ports: &Ports,
     given: &Conns,
     faults: &mut Faults,
-) -> Result<Vec<Connection>, NoMemory>
+) -> Result<Connected, NoMemory>
     ensures { (pins : List ResetPin) (l : n.Look) → Shows look.now l → ShowsResets pins look.now.entries.now l.entries → IsFit l → AreConnsFormed (conns_of given.now) → word.now ≡ «module».now.name
         → ShowsPorts ports.now (module_of «module».now)
-        → IfOk result (λ cs. (faults.new ≡ all_noted faults.old (connection_rules l (module_of «module».now) (conns_of given.now)))
+        → IfOk result (λ r. (faults.new ≡ all_noted faults.old (connection_rules l (module_of «module».now) (conns_of given.now)))
         × (connection_rules l (module_of «module».now) (conns_of given.now) ≡ []
-        → AllZip (IsLinkOf pins ports.now) cs.items (links_of l (module_of «module».now) (conns_of given.now)))) }
+        → GivesLinks pins l (module_of «module».now) ports.now (joints (header_of (module_of «module».now)) (conns_of given.now)) r)) }
 {
-    let mut connections = Vec::new(look.alloc);
+    let mut connected = Connected {
+        connections: Vec::new(look.alloc),
+        leaning: Vec::new(look.alloc),
+    };
     match given {
         Conns::Ordered(values) => {
             let header = module.ports.as_slice();
@@ -363,17 +434,16 @@ pub fn connections_of(
                 ports,
                 header,
                 values.as_slice(),
-                &mut connections,
+                &mut connected,
                 faults,
             )?;
         }
         Conns::Named(conns) => {
             note_unknown_ports(look.alloc, ports, conns.as_slice(), word, faults)?;
-            connect_named(look, ports, conns.as_slice(), &mut connections, faults)?;
+            connect_named(look, ports, conns.as_slice(), &mut connected, faults)?;
         }
     }
-    note_open_inputs(look.alloc, ports, connections.as_slice(), word, faults)?;
-    Ok(connections)
+    Ok(connected)
 }
 
 /// A name that no port has, or that is given twice.
@@ -400,17 +470,17 @@ fn connect_ordered(
     ports: &Ports,
     header: &[Port],
     values: &[Option<Expr>],
-    connections: &mut Vec<Connection>,
+    connected: &mut Connected,
     faults: &mut Faults,
 ) -> Result<(), NoMemory>
     ensures { (pins : List ResetPin) (l : n.Look) (m : ModuleTree) → Shows look.now l → ShowsResets pins look.now.entries.now l.entries → IsFit l → ShowsPorts ports.now m → m.ports ≡ map port_of header.now
-        → All IsFormedIf (map (maybe tree_of) values.now) → AreLinked pins l m ports.now [] connections.old.items
-        → IfOk result (λ _. AreLinked pins l m ports.now (ordered_joints (header_of m) (map (maybe tree_of) values.now)) connections.new.items
+        → All IsFormedIf (map (maybe tree_of) values.now) → AreLinked pins l m ports.now [] connected.old
+        → IfOk result (λ _. AreLinked pins l m ports.now (ordered_joints (header_of m) (map (maybe tree_of) values.now)) connected.new
         × (faults.new ≡ all_noted faults.old (read_of l m (ordered_joints (header_of m) (map (maybe tree_of) values.now))))) }
 {
     for (k, value) in values.iter().enumerate() {
         let port = port_at(ports, header, k);
-        connect(look, ports, port, value, connections, faults)?;
+        connect(look, ports, port, value, connected, faults)?;
     }
     Ok(())
 }
@@ -430,17 +500,17 @@ fn connect_named(
     look: &Look,
     ports: &Ports,
     conns: &[Conn],
-    connections: &mut Vec<Connection>,
+    connected: &mut Connected,
     faults: &mut Faults,
 ) -> Result<(), NoMemory>
     ensures { (pins : List ResetPin) (l : n.Look) (m : ModuleTree) → Shows look.now l → ShowsResets pins look.now.entries.now l.entries → IsFit l → ShowsPorts ports.now m
-        → AreConnsFormed (named (map conn_of conns.now)) → AreLinked pins l m ports.now [] connections.old.items
-        → IfOk result (λ _. AreLinked pins l m ports.now (filter_map (named_joint (header_of m)) (map conn_of conns.now)) connections.new.items
+        → AreConnsFormed (named (map conn_of conns.now)) → AreLinked pins l m ports.now [] connected.old
+        → IfOk result (λ _. AreLinked pins l m ports.now (filter_map (named_joint (header_of m)) (map conn_of conns.now)) connected.new
         × (faults.new ≡ all_noted faults.old (read_of l m (filter_map (named_joint (header_of m)) (map conn_of conns.now))))) }
 {
     for conn in conns {
         let port = port_named(ports, &conn.name);
-        connect(look, ports, port, &conn.value, connections, faults)?;
+        connect(look, ports, port, &conn.value, connected, faults)?;
     }
     Ok(())
 }
@@ -457,50 +527,83 @@ fn connect(
     ports: &Ports,
     port: Option<usize>,
     value: &Option<Expr>,
-    connections: &mut Vec<Connection>,
+    connected: &mut Connected,
     faults: &mut Faults,
 ) -> Result<(), NoMemory>
     ensures { (pins : List ResetPin) (l : n.Look) (m : ModuleTree) (x : Option Text) (js : List Joint) → Shows look.now l → ShowsResets pins look.now.entries.now l.entries → IsFit l → ShowsPorts ports.now m
-        → IsPlace ports.now port x → IsFormedIf (maybe tree_of value.now) → AreLinked pins l m ports.now js connections.old.items
-        → IfOk result (λ _. AreLinked pins l m ports.now (js ++ joint_if x (maybe tree_of value.now)) connections.new.items
+        → IsPlace ports.now port x → IsFormedIf (maybe tree_of value.now) → AreLinked pins l m ports.now js connected.old
+        → IfOk result (λ _. AreLinked pins l m ports.now (js ++ joint_if x (maybe tree_of value.now)) connected.new
         × (faults.new ≡ all_noted faults.old (read_of l m (joint_if x (maybe tree_of value.now))))) }
 {
     let Some(value) = value else {
         return Ok(());
     };
-    let Some((port, is_input)) = directed(ports, port) else {
-        resolve(look, value, faults)?;
-        return Ok(());
-    };
-    let end = if is_input {
-        input_end(look, value, faults)?
-    } else {
-        output_end(look, value, faults)?
-    };
-    push(connections, Connection { port, end })
+    match directed(ports, port) {
+        Some((port, true)) => connect_input(look, ports, port, value, connected, faults),
+        Some((port, false)) => connect_output(look, port, value, connected, faults),
+        None => {
+            resolve(look, value, faults)?;
+            Ok(())
+        }
+    }
 }
 
-/// What an input takes.
-fn input_end(look: &Look, value: &Expr, faults: &mut Faults) -> Result<End, NoMemory>
-    ensures { (pins : List ResetPin) (l : n.Look) → Shows look.now l → ShowsResets pins look.now.entries.now l.entries → IsFit l → IsFormed (tree_of value.now)
-        → IfOk result (λ r. ((read l (tree_of value.now)).broken ≡ [] → (x : Text) → IsEnd pins r (into x (read l (tree_of value.now)).expr (of.reset_of l (tree_of value.now))))
-        × (faults.new ≡ all_noted faults.old (read l (tree_of value.now)).broken)) }
+/// Connects an input, and notes what leans.
+fn connect_input(
+    look: &Look,
+    ports: &Ports,
+    port: usize,
+    value: &Expr,
+    connected: &mut Connected,
+    faults: &mut Faults,
+) -> Result<(), NoMemory>
+    ensures { (pins : List ResetPin) (l : n.Look) (m : ModuleTree) (x : Text) (js : List Joint) → Shows look.now l → ShowsResets pins look.now.entries.now l.entries → IsFit l
+        → name_at ports.now port ≡ Some x → side_named m (Some x) ≡ Some true → IsFormed (tree_of value.now) → AreLinked pins l m ports.now js connected.old
+        → IfOk result (λ _. AreLinked pins l m ports.now (js ++ joint_if (Some x) (Some (tree_of value.now))) connected.new
+        × (faults.new ≡ all_noted faults.old (read_of l m (joint_if (Some x) (Some (tree_of value.now)))))) }
 {
     let reset = reset_of(look, value);
     let value = resolve(look, value, faults)?;
-    Ok(End::Input {
+    note_input(look.alloc, ports, port, &value, &mut connected.leaning)?;
+    let end = End::Input {
         value: value.expr,
         reset,
-    })
+    };
+    push(&mut connected.connections, Connection { port, end })
 }
 
-/// What an output drives.
-fn output_end(look: &Look, value: &Expr, faults: &mut Faults) -> Result<End, NoMemory>
-    ensures { (pins : List ResetPin) (l : n.Look) → Shows look.now l → IsFit l → IsFormed (tree_of value.now)
-        → IfOk result (λ r. ((x : Text) → IsEnd pins r (out_of x (driven l (tree_of value.now)).target)) × (faults.new ≡ all_noted faults.old (driven l (tree_of value.now)).broken)) }
+/// Notes what is given to the input at a place, where it leans.
+fn note_input(
+    alloc: Global,
+    ports: &Ports,
+    port: usize,
+    value: &Resolved,
+    leaning: &mut Vec<Leaning>,
+) -> Result<(), NoMemory>
+    ensures { (x : Text) → name_at ports.now port ≡ Some x → IfOk result (λ _. map leaning_in leaning.new.items ≡ map leaning_in leaning.old.items ++ leaning_if value.now x) }
+{
+    match ports.get_index(port) {
+        Some((name, _)) => note_leaning(alloc, name, value, leaning),
+        None => Ok(()),
+    }
+}
+
+/// Connects an output.
+fn connect_output(
+    look: &Look,
+    port: usize,
+    value: &Expr,
+    connected: &mut Connected,
+    faults: &mut Faults,
+) -> Result<(), NoMemory>
+    ensures { (pins : List ResetPin) (l : n.Look) (m : ModuleTree) (ports : PortTable) (x : Text) (js : List Joint) → Shows look.now l → IsFit l
+        → name_at ports port ≡ Some x → side_named m (Some x) ≡ Some false → IsFormed (tree_of value.now) → AreLinked pins l m ports js connected.old
+        → IfOk result (λ _. AreLinked pins l m ports (js ++ joint_if (Some x) (Some (tree_of value.now))) connected.new
+        × (faults.new ≡ all_noted faults.old (read_of l m (joint_if (Some x) (Some (tree_of value.now)))))) }
 {
     let target = driven_target(look, value, faults)?;
-    Ok(End::Output(target.target))
+    let end = End::Output(target.target);
+    push(&mut connected.connections, Connection { port, end })
 }
 
 /// A port with its direction.
@@ -532,59 +635,6 @@ fn named_reset(look: &Look, name: &Name) -> Option<Reset>
     match look.meaning(name) {
         Some(Meaning::Signal(sig)) => look.reset(sig),
         _ => None,
-    }
-}
-
-/// Each input needs an expression.
-fn note_open_inputs(
-    alloc: Global,
-    ports: &Ports,
-    connections: &[Connection],
-    word: &str,
-    faults: &mut Faults,
-) -> Result<(), NoMemory>
-    ensures { (m : ModuleTree) (js : List Joint) → ShowsPorts ports.now m → word.now ≡ m.name → AreSides m ports.now js connections.now
-        → IfOk result (λ _. faults.new ≡ all_noted faults.old (open_inputs m js (header_of m))) }
-{
-    let met = met_ports(alloc, connections)?;
-    if has_open_input(ports, &met) {
-        faults.note(Rule::Mismatch, word)?;
-    }
-    Ok(())
-}
-
-/// The ports that are connected.
-fn met_ports(alloc: Global, connections: &[Connection]) -> Result<IndexSet<usize>, NoMemory>
-    ensures { IfOk result (λ met. (k : ℕ) → contains_by (nat_eq k) met ≡ list_any (λ (c : joined.Connection). k == c.port) connections.now) }
-{
-    let mut met = IndexSet::new(alloc);
-    for connection in connections {
-        if met.insert(connection.port).is_err() {
-            return Err(NoMemory);
-        }
-    }
-    Ok(met)
-}
-
-/// Whether an input is not connected.
-fn has_open_input(ports: &Ports, met: &IndexSet<usize>) -> bool
-    ensures opens { Opens (λ k. contains_by (nat_eq k) met.now) ports.now.entries result }
-    ensures distinct { (i j : ℕ) (x : Text) → name_at ports.now i ≡ Some x → name_at ports.now j ≡ Some x → i ≡ j }
-{
-    for port in 0..ports.len() {
-        if is_input(ports, port) && !met.contains(&port) {
-            return true;
-        }
-    }
-    false
-}
-
-fn is_input(ports: &Ports, port: usize) -> bool
-    ensures { result ≡ is_input_at ports.now.entries port }
-{
-    match ports.get_index(port) {
-        Some((_, Some(true))) => true,
-        _ => false,
     }
 }
 
@@ -683,5 +733,43 @@ fn signal_width(design: &Design, sig: u32) -> u8
     {
         Some(entry) => entry.width,
         None => 1,
+    }
+}
+
+/// Whether an expression that leans is narrower than what it is given to. `names` are those of the instance's module.
+pub fn has_short(leaning: &[Leaning], names: &Names, design: &Design) -> bool
+    ensures { (pins : List ResetPin) (s : Stage) → ShowsStage pins names.now design.now s → AreFitNames s.names (length s.design.entries)
+        → result ≡ list_any (of.is_short s) (map leaning_in leaning.now) }
+{
+    for given in leaning {
+        if is_short(given, names, design) {
+            return true;
+        }
+    }
+    false
+}
+
+fn is_short(given: &Leaning, names: &Names, design: &Design) -> bool
+    ensures { (pins : List ResetPin) (s : Stage) → ShowsStage pins names.now design.now s → AreFitNames s.names (length s.design.entries) → result ≡ of.is_short s (leaning_in given.now) }
+{
+    match names.get(&given.name) {
+        Some(meaning) => given.bits < taken_bits(*meaning, design),
+        None => false,
+    }
+}
+
+/// How many bits a signal takes, or a parameter with a range.
+fn taken_bits(meaning: Meaning, design: &Design) -> u8
+    ensures { (pins : List ResetPin) (e : grown.Design) → ShowsDesign pins design.now e → IsFitMeaning (length e.entries) meaning
+        → result ≡ of.taken_bits e.entries (option_and_then n.as_value (Some (meaning_of meaning))) }
+{
+    match meaning {
+        Meaning::Signal(sig) => signal_width(design, sig),
+        Meaning::Param(param) => if param.bounds.is_some() {
+            param.width
+        } else {
+            0
+        },
+        Meaning::Memory(_) | Meaning::NoValue => 0,
     }
 }

@@ -8,7 +8,7 @@ ghost use Rattle.cdc_base.specs.declared.signal.Signal.{Signal};
 ghost use Rattle.flat_names.specs.declared.design.Entry.{Entry};
 ghost use Rattle.verilog_ast.specs.declared.Module as code;
 ghost use Rattle.verilog_reading.specs.SourceTree.{ItemTree, ModuleTree, PortTree, decl_of, body_of, item_of as item_tree_of, port_of, conns_of, module_of};
-ghost use Rattle.flat_unfolding.specs.Outcome.{Text, then_, each};
+ghost use Rattle.flat_unfolding.specs.Outcome.{Text, good, then_, each};
 ghost use Rattle.flat_unfolding.specs.Names as meanings;
 ghost use Rattle.flat_unfolding.specs.Names.{printed_part};
 ghost use Rattle.flat_unfolding.specs.Parameters as law_parameters;
@@ -24,9 +24,12 @@ ghost use Rattle.flat_unfolding.specs.Unfolding.{declared_value, header_values, 
 ghost use Rattle.flat_names.specs.Looks.{meaning_of, IsFit};
 ghost use Rattle.flat_names.specs.Designs.{ShowsNames, ShowsDesign, ShowsStage, Meets, Ends};
 ghost use Rattle.flat_declarations.specs.Declaring.{MeetsFit, ShowsOverrides, AreFitOverrides};
-ghost use Rattle.flat_design.specs.Visiting.{ShowsPorts, IsLinkOf, IsNumber, IsLibrary, Lists, Frame, rest_of, part_in, part_of, item_before, IsVisiting, AreMarked, next_of, Goes, IsGrown, Steps, Begins, Enters, instance_tree, Finds, AreEnds, if_signal, pin_in, ShowsPins, outside_if, resolved_if, mark_at, prefix_of, is_declaration as is_declaration_of, declares as declares_of, IsPlain, IsFitDesign, AreFitNames};
+ghost use Rattle.flat_design.specs.Visiting.{ShowsPorts, IsLinkOf, IsNumber, IsLibrary, Lists, Frame, IsFrame, closed, IsClosed, rest_of, part_in, part_of, item_before, IsVisiting, AreMarked, next_of, Goes, IsGrown, Steps, Begins, Enters, instance_tree, Finds, AreEnds, if_signal, pin_in, ShowsPins, outside_if, resolved_if, mark_at, prefix_of, is_declaration as is_declaration_of, declares as declares_of, IsPlain, IsFitDesign, AreFitNames};
 
-use crate::instance::{Connection, Ports, add_connections, connections_of, overrides_of, ports_of};
+use crate::instance::{
+    Connected, Connection, Given, Overridden, Ports, add_connections, connections_of, has_short,
+    overrides_of, ports_of,
+};
 use cdc_base::{Name, NoMemory, Place, ResetPin, SigKind, Signal, Stop};
 use flat_declarations::declare::add_declarations;
 use flat_declarations::parameter::{Overrides, add_parameters};
@@ -91,6 +94,15 @@ impl<'a> Library<'a> {
         self.modules.get(number)
     }
 
+    fn name(&self, number: usize) -> &str
+        ensures { (m : code.Module) → slice_get self.now.modules.now number ≡ Some m → result.now ≡ m.name }
+    {
+        match self.modules.get(number) {
+            Some(module) => module.name.as_str(),
+            None => "",
+        }
+    }
+
     fn item(&self, module: usize, item: usize) -> Option<&Item>
         ensures { option_copied result ≡ option_and_then (λ (m : code.Module). slice_get m.items item) (slice_get self.now.modules.now «module») }
     {
@@ -98,12 +110,13 @@ impl<'a> Library<'a> {
     }
 }
 
-/// A module that is being visited: its number, its names, and the place of its next item.
+/// A module that is being visited: its number, its names, the place of its next item, and what was given to it.
 #[derive(Drop)]
 struct Open {
     module: usize,
     names: Names,
     next: usize,
+    given: Given,
 }
 
 /// How far the visit has come. `open` has the modules that are being visited, each an instance in the one before it;
@@ -222,13 +235,18 @@ pub fn visit_top(
     ensures exact { (m : code.Module) → IsLibrary library.now.modules.now library.now.by_name → All IsModuleFormed (map module_of library.now.modules.now) → slice_get library.now.modules.now top ≡ Some m
         → visit.old.open.items ≡ [] → visit.old.is_open.items ≡ map (λ (q : code.Module). false) library.now.modules.now → ShowsDesign resets.now visit.old.design no_design
         → Ends (IsGrown resets.now visit.new.design)
-        (law.visit (map module_of library.now.modules.now) (length library.now.modules.now) [] (m.name ∷ []) (module_of m) [] (top_ports resets.now (header_of (module_of m))) no_design) result }
+        (then_ (law.visit (map module_of library.now.modules.now) (length library.now.modules.now) [] (m.name ∷ []) (module_of m) [] (top_ports resets.now (header_of (module_of m))) no_design) (λ (s : Stage). good s.design)) result }
     ensures numbered { IfErr result (HasNumberIn unfolding_numbers) }
 {
     let none = IndexMap::new(library.alloc);
     let names = begin(library, top, &none, visit)?;
     set_ports(library, top, resets, &names, &mut visit.design)?;
-    open_module(library, top, names, visit)?;
+    let given = Given {
+        place: None,
+        params: Vec::new(library.alloc),
+        ports: Vec::new(library.alloc),
+    };
+    open_module(library, top, names, given, visit)?;
     visit_open(library, visit)
 }
 
@@ -320,10 +338,11 @@ fn open_module(
     library: &Library,
     module: usize,
     names: Names,
+    given: Given,
     visit: &mut Visit,
 ) -> Result<(), Stop>
     ensures exact { (pins : List pin.ResetPin) (m : code.Module) (s : Stage) → slice_get library.now.modules.now «module» ≡ Some m → IsModuleFormed (module_of m)
-        → ShowsStage pins names visit.old.design s → IsFit (look_of s) → Enters pins «module» names visit.old (header_values (module_of m) s) result visit.new }
+        → ShowsStage pins names visit.old.design s → IsFit (look_of s) → Enters pins «module» names given visit.old (header_values (module_of m) s) result visit.new }
     ensures numbered { IfErr result (HasNumberIn unfolding_numbers) }
 {
     add_module_values(library, module, &names, &mut visit.design)?;
@@ -332,6 +351,7 @@ fn open_module(
         module,
         names,
         next: 0,
+        given,
     };
     push(&mut visit.open, open)?;
     Ok(())
@@ -407,6 +427,7 @@ fn step(library: &Library, visit: &mut Visit) -> Result<bool, Stop>
     };
     let Some(item) = library.item(open.module, open.next) else {
         visit.mark(open.module, false);
+        try_given(library, &open, &visit.design)?;
         return Ok(true);
     };
     let Some(next) = open.next.checked_add(1) else {
@@ -416,6 +437,25 @@ fn step(library: &Library, visit: &mut Visit) -> Result<bool, Stop>
     open.next = next;
     add_next(library, item, open, visit)?;
     Ok(true)
+}
+
+/// What was given to a module whose items are done has to be as wide as what took it, where it leans.
+fn try_given(library: &Library, open: &Open, design: &Design) -> Result<(), Stop>
+    ensures exact { (pins : List pin.ResetPin) (f : Frame) (d : grown.Design) → IsFrame library.now.modules.now open.now f → ShowsDesign pins design.now d → AreFitNames f.names (length d.entries)
+        → IsClosed (closed f (record { names = f.names; design = d })) result }
+    ensures numbered { IfErr result (HasNumberIn unfolding_numbers) }
+{
+    let params = open.given.params.as_slice();
+    let ports = open.given.ports.as_slice();
+    if has_short(params, &open.names, design) || has_short(ports, &open.names, design) {
+        return refused(
+            library.alloc,
+            Rule::Mismatch,
+            open.given.place,
+            library.name(open.module),
+        );
+    }
+    Ok(())
 }
 
 /// One item of a module that is being visited.
@@ -494,7 +534,7 @@ fn add_instance(
         return Ok(());
     };
     let ports = ports_of(alloc, module)?;
-    let (overrides, connections) = ends_of(
+    let (overridden, connected) = ends_of(
         alloc,
         instance,
         module,
@@ -507,11 +547,17 @@ fn add_instance(
         alloc,
         &mut outer.names,
         instance.name.as_str(),
-        Meaning::Instance,
+        Meaning::NoValue,
     )?;
     push(&mut visit.open, outer)?;
-    let names = begin(library, number, &overrides, visit)?;
-    enter_module(library, number, names, (&ports, connections), visit)
+    let names = begin(library, number, &overridden.overrides, visit)?;
+    let given = Given {
+        place: Some(instance.place),
+        params: overridden.leaning,
+        ports: connected.leaning,
+    };
+    let ends = (&ports, connected.connections, given);
+    enter_module(library, number, names, ends, visit)
 }
 
 /// The overrides and connections of an instance, where no rule is broken.
@@ -522,7 +568,7 @@ fn ends_of(
     ports: &Ports,
     names: &Names,
     design: &Design,
-) -> Result<(Overrides, Vec<Connection>), Stop>
+) -> Result<(Overridden, Connected), Stop>
     ensures exact { (pins : List pin.ResetPin) (s : Stage) → ShowsStage pins names.now design.now s → IsFit (look_of s) → ShowsPorts ports.now (module_of «module».now)
         → instance.now.«module».now ≡ «module».now.name → AreConnsFormed (conns_of instance.now.params.now) → AreConnsFormed (conns_of instance.now.ports.now)
         → AreEnds pins ports.now s instance.now.place (module_of «module».now) (conns_of instance.now.params.now) (conns_of instance.now.ports.now) result }
@@ -531,10 +577,10 @@ fn ends_of(
     let word = instance.module.as_str();
     let mut faults = Faults::new(alloc, Order::Other);
     let look = design.look(alloc, names);
-    let overrides = overrides_of(&look, module, word, instance.params, &mut faults)?;
-    let connections = connections_of(&look, module, word, ports, instance.ports, &mut faults)?;
+    let overridden = overrides_of(&look, module, word, instance.params, &mut faults)?;
+    let connected = connections_of(&look, module, word, ports, instance.ports, &mut faults)?;
     faults.raise(instance.place)?;
-    Ok((overrides, connections))
+    Ok((overridden, connected))
 }
 
 /// Adds the connections of an instance whose module has begun, and goes into it.
@@ -542,17 +588,17 @@ fn enter_module(
     library: &Library,
     number: usize,
     names: Names,
-    ends: (&Ports, Vec<Connection>),
+    ends: (&Ports, Vec<Connection>, Given),
     visit: &mut Visit,
 ) -> Result<(), Stop>
     ensures exact { (pins : List pin.ResetPin) (m : code.Module) (s : Stage) (links : List Link) → slice_get library.now.modules.now number ≡ Some m → IsModuleFormed (module_of m)
         → ShowsStage pins names visit.old.design s → IsFit (look_of s) → AllZip (IsLinkOf pins ends.entry.0.now) ends.entry.1.items links
-        → Enters pins number names visit.old (header_values (module_of m) (connected links s)) result visit.new }
+        → Enters pins number names ends.entry.2 visit.old (header_values (module_of m) (connected links s)) result visit.new }
     ensures numbered { IfErr result (HasNumberIn unfolding_numbers) }
 {
-    let (ports, connections) = ends;
+    let (ports, connections, given) = ends;
     add_connections(ports, connections, &names, &mut visit.design)?;
-    open_module(library, number, names, visit)
+    open_module(library, number, names, given, visit)
 }
 
 /// The number of an instance's module, which has to be known and not being visited. The instance's name is new.

@@ -22,9 +22,9 @@ loop-conn-preserved c = λ l names h is header formed given.
     let next : drop i all ≡ x ∷ rest = drop_more all i x c.loop-conn-test.true ∙ ap (λ (z : Conn). z ∷ rest) (sym c.conn-item.is) in
     let before = c.loop-conn.invariant l names h is header formed given in
     let value = item-at (λ (k : ConnTree). IsFormedIf k.value) conn_of all i x formed c.loop-conn-test.true c.conn-item.is in
-    let one = subst (λ o. IsGiven l before.done c.add_override.new.overrides c.loop-conn.faults c.add_override.new.faults o (maybe tree_of x.value)) (c.if_known-name.ensures names header)
+    let one = subst (λ o. IsGiven l before.done c.add_override.new.overridden c.loop-conn.faults c.add_override.new.faults o (maybe tree_of x.value)) (c.if_known-name.ensures names header)
     (c.in_ok-add_override.ensures l before.done h is value before.holds) in
-    so-far-more (AreOverridden l) (λ (j : Joint). (as_constant (read l j.value)).broken) (joints all) (joints (drop i all)) (joint_if (if_among names x.name) (maybe tree_of x.value)) (joints rest) c.loop-conn.overrides c.add_override.new.overrides
+    so-far-more (AreOverridden l) (λ (j : Joint). (as_constant (read l j.value)).broken) (joints all) (joints (drop i all)) (joint_if (if_among names x.name) (maybe tree_of x.value)) (joints rest) c.loop-conn.overridden c.add_override.new.overridden
     c.args.faults.now c.loop-conn.faults c.add_override.new.faults (ap joints next ∙ named-step names (conn_of x) (map conn_of rest)) before one.0 one.1
 
 pub returns : goal.returns
@@ -34,5 +34,5 @@ returns c = λ l names h is header formed given.
     let joints = λ (cs : _). filter_map (named_joint names) (map conn_of cs) in
     let broken = λ (j : Joint). (as_constant (read l j.value)).broken in
     let none : drop i all ≡ [] = drop_all i all c.loop-conn-test.false in
-    so-far-all (AreOverridden l) broken (joints all) c.loop-conn.overrides c.args.faults.now c.loop-conn.faults
-    (subst (λ cs. SoFar (AreOverridden l) broken (joints all) (joints cs) c.loop-conn.overrides c.args.faults.now c.loop-conn.faults) none (c.loop-conn.invariant l names h is header formed given))
+    so-far-all (AreOverridden l) broken (joints all) c.loop-conn.overridden c.args.faults.now c.loop-conn.faults
+    (subst (λ cs. SoFar (AreOverridden l) broken (joints all) (joints cs) c.loop-conn.overridden c.args.faults.now c.loop-conn.faults) none (c.loop-conn.invariant l names h is header formed given))

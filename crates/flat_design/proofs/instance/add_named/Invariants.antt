@@ -13,6 +13,6 @@ use Rattle.flat_design.proofs.Joints.{SoFar}
 use Rattle.flat_design.proofs.instance.add_named.Given as goal
 
 abbrev pub invariant-loop-conn : goal.invariant-loop-conn
-invariant-loop-conn l = (k : Look) (names : List Text) → Shows l.look k → IsFit k → ShowsHeader l.known names → AreConnsFormed (named (map conn_of l.conns)) → AreOverridden k [] l.initial.overrides
+invariant-loop-conn l = (k : Look) (names : List Text) → Shows l.look k → IsFit k → ShowsHeader l.known names → AreConnsFormed (named (map conn_of l.conns)) → AreOverridden k [] l.initial.overridden
     → SoFar (AreOverridden k) (λ (j : Joint). (as_constant (read k j.value)).broken) (filter_map (named_joint names) (map conn_of l.conns)) (filter_map (named_joint names) (map conn_of (drop l.conn-index l.conns)))
-    l.overrides l.initial.faults l.faults
+    l.overridden l.initial.faults l.faults

@@ -25,6 +25,6 @@ loop-k-preserved c = λ l h is formed given.
     let before = c.loop-k.invariant l h is formed given in
     let value = item-at IsFormedIf (maybe tree_of) all k x formed c.loop-k-test.true c.index-values-k.is in
     let named : option_copied c.get.result ≡ slice_get names k = let found = c.get.ensures.lookup in copied-at names k c.get.result found.0 found.1 in
-    let one = subst (λ o. IsGiven l before.done c.add_override.new.overrides c.loop-k.faults c.add_override.new.faults o (maybe tree_of x)) named (c.in_ok-add_override.ensures l before.done h is value before.holds) in
-    so-far-more (AreOverridden l) (λ (j : Joint). (as_constant (read l j.value)).broken) (ordered_joints names (map (maybe tree_of) all)) (joints k (drop k all)) (joint_if (slice_get names k) (maybe tree_of x)) (joints (k + 1) rest) c.loop-k.overrides
-    c.add_override.new.overrides c.args.faults.now c.loop-k.faults c.add_override.new.faults (ap (joints k) next ∙ ordered-next names k (maybe tree_of x) (map (maybe tree_of) rest)) before one.0 one.1
+    let one = subst (λ o. IsGiven l before.done c.add_override.new.overridden c.loop-k.faults c.add_override.new.faults o (maybe tree_of x)) named (c.in_ok-add_override.ensures l before.done h is value before.holds) in
+    so-far-more (AreOverridden l) (λ (j : Joint). (as_constant (read l j.value)).broken) (ordered_joints names (map (maybe tree_of) all)) (joints k (drop k all)) (joint_if (slice_get names k) (maybe tree_of x)) (joints (k + 1) rest) c.loop-k.overridden
+    c.add_override.new.overridden c.args.faults.now c.loop-k.faults c.add_override.new.faults (ap (joints k) next ∙ ordered-next names k (maybe tree_of x) (map (maybe tree_of) rest)) before one.0 one.1

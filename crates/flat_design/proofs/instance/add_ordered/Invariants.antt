@@ -12,6 +12,6 @@ use Rattle.flat_design.proofs.Joints.{SoFar}
 use Rattle.flat_design.proofs.instance.add_ordered.Given as goal
 
 abbrev pub invariant-loop-k : goal.invariant-loop-k
-invariant-loop-k l = (k : Look) → Shows l.look k → IsFit k → All IsFormedIf (map (maybe tree_of) l.values) → AreOverridden k [] l.initial.overrides
+invariant-loop-k l = (k : Look) → Shows l.look k → IsFit k → All IsFormedIf (map (maybe tree_of) l.values) → AreOverridden k [] l.initial.overridden
     → SoFar (AreOverridden k) (λ (j : Joint). (as_constant (read k j.value)).broken) (ordered_joints l.names (map (maybe tree_of) l.values)) (ordered_joints (drop l.k l.names) (map (maybe tree_of) (drop l.k l.values)))
-    l.overrides l.initial.faults l.faults
+    l.overridden l.initial.faults l.faults

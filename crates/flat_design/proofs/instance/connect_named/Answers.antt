@@ -24,7 +24,7 @@ loop-conn-preserved c = λ pins l m h resets is shown formed given.
     let before = c.loop-conn.invariant pins l m h resets is shown formed given in
     let value = item-at (λ (k : ConnTree). IsFormedIf k.value) conn_of all i x formed c.loop-conn-test.true c.conn-item.is in
     let one = c.in_ok-connect.ensures pins l m (if_among names x.name) before.done h resets is shown (c.port_named-port.ensures m shown) value before.holds in
-    so-far-more (AreLinked pins l m ports) (λ (j : Joint). (linked l m j).broken) (joints all) (joints (drop i all)) (joint_if (if_among names x.name) (maybe tree_of x.value)) (joints rest) c.loop-conn.connections.items c.connect.new.connections.items
+    so-far-more (AreLinked pins l m ports) (λ (j : Joint). (linked l m j).broken) (joints all) (joints (drop i all)) (joint_if (if_among names x.name) (maybe tree_of x.value)) (joints rest) c.loop-conn.connected c.connect.new.connected
     c.args.faults.now c.loop-conn.faults c.connect.new.faults (ap joints next ∙ named-step names (conn_of x) (map conn_of rest)) before one.0 one.1
 
 pub returns : goal.returns
@@ -35,5 +35,5 @@ returns c = λ pins l m h resets is shown formed given.
     let joints = λ (cs : _). filter_map (named_joint (header_of m)) (map conn_of cs) in
     let broken = λ (j : Joint). (linked l m j).broken in
     let none : drop i all ≡ [] = drop_all i all c.loop-conn-test.false in
-    so-far-all (AreLinked pins l m ports) broken (joints all) c.loop-conn.connections.items c.args.faults.now c.loop-conn.faults
-    (subst (λ cs. SoFar (AreLinked pins l m ports) broken (joints all) (joints cs) c.loop-conn.connections.items c.args.faults.now c.loop-conn.faults) none (c.loop-conn.invariant pins l m h resets is shown formed given))
+    so-far-all (AreLinked pins l m ports) broken (joints all) c.loop-conn.connected c.args.faults.now c.loop-conn.faults
+    (subst (λ cs. SoFar (AreLinked pins l m ports) broken (joints all) (joints cs) c.loop-conn.connected c.args.faults.now c.loop-conn.faults) none (c.loop-conn.invariant pins l m h resets is shown formed given))

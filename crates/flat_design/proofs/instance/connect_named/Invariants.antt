@@ -13,6 +13,6 @@ use Rattle.flat_design.proofs.instance.connect_named.Given as goal
 
 abbrev pub invariant-loop-conn : goal.invariant-loop-conn
 invariant-loop-conn l = (pins : List ResetPin) (k : Look) (m : ModuleTree) → Shows l.look k → ShowsResets pins l.look.entries.now k.entries → IsFit k → ShowsPorts l.ports m
-    → AreConnsFormed (named (map conn_of l.conns)) → AreLinked pins k m l.ports [] l.initial.connections.items
+    → AreConnsFormed (named (map conn_of l.conns)) → AreLinked pins k m l.ports [] l.initial.connected
     → SoFar (AreLinked pins k m l.ports) (λ (j : Joint). (linked k m j).broken) (filter_map (named_joint (header_of m)) (map conn_of l.conns)) (filter_map (named_joint (header_of m)) (map conn_of (drop l.conn-index l.conns)))
-    l.connections.items l.initial.faults l.faults
+    l.connected l.initial.faults l.faults

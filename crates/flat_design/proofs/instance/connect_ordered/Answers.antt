@@ -25,7 +25,7 @@ loop-k-preserved c = λ pins l m h resets is shown header formed given.
     let value = item-at IsFormedIf (maybe tree_of) all k x formed c.loop-k-test.true c.index-values-k.is in
     let one = c.in_ok-connect.ensures pins l m (slice_get names k) before.done h resets is shown (c.port_at-port.ensures m shown header) value before.holds in
     so-far-more (AreLinked pins l m ports) (λ (j : Joint). (linked l m j).broken) (ordered_joints names (map (maybe tree_of) all)) (joints k (drop k all)) (joint_if (slice_get names k) (maybe tree_of x)) (joints (k + 1) rest)
-    c.loop-k.connections.items c.connect.new.connections.items c.args.faults.now c.loop-k.faults c.connect.new.faults (ap (joints k) next ∙ ordered-next names k (maybe tree_of x) (map (maybe tree_of) rest)) before one.0 one.1
+    c.loop-k.connected c.connect.new.connected c.args.faults.now c.loop-k.faults c.connect.new.faults (ap (joints k) next ∙ ordered-next names k (maybe tree_of x) (map (maybe tree_of) rest)) before one.0 one.1
 
 pub returns : goal.returns
 returns c = λ pins l m h resets is shown header formed given.
@@ -37,5 +37,5 @@ returns c = λ pins l m h resets is shown header formed given.
     let whole = ordered_joints names (map (maybe tree_of) all) in
     let broken = λ (j : Joint). (linked l m j).broken in
     let none : drop k all ≡ [] = drop_all k all c.loop-k-test.false in
-    so-far-all (AreLinked pins l m ports) broken whole c.loop-k.connections.items c.args.faults.now c.loop-k.faults
-    (subst (λ es. SoFar (AreLinked pins l m ports) broken whole (joints es) c.loop-k.connections.items c.args.faults.now c.loop-k.faults) none (c.loop-k.invariant pins l m h resets is shown header formed given))
+    so-far-all (AreLinked pins l m ports) broken whole c.loop-k.connected c.args.faults.now c.loop-k.faults
+    (subst (λ es. SoFar (AreLinked pins l m ports) broken whole (joints es) c.loop-k.connected c.args.faults.now c.loop-k.faults) none (c.loop-k.invariant pins l m h resets is shown header formed given))

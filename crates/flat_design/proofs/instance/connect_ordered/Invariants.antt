@@ -14,6 +14,6 @@ use Rattle.flat_design.proofs.instance.connect_ordered.Given as goal
 
 abbrev pub invariant-loop-k : goal.invariant-loop-k
 invariant-loop-k l = (pins : List ResetPin) (k : Look) (m : ModuleTree) → Shows l.look k → ShowsResets pins l.look.entries.now k.entries → IsFit k → ShowsPorts l.ports m → m.ports ≡ map port_of l.header
-    → All IsFormedIf (map (maybe tree_of) l.values) → AreLinked pins k m l.ports [] l.initial.connections.items
+    → All IsFormedIf (map (maybe tree_of) l.values) → AreLinked pins k m l.ports [] l.initial.connected
     → SoFar (AreLinked pins k m l.ports) (λ (j : Joint). (linked k m j).broken) (ordered_joints (header_of m) (map (maybe tree_of) l.values)) (ordered_joints (drop l.k (header_of m)) (map (maybe tree_of) (drop l.k l.values)))
-    l.connections.items l.initial.faults l.faults
+    l.connected l.initial.faults l.faults

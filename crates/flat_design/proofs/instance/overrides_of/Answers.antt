@@ -17,7 +17,7 @@ returns c = λ l h is formed word.
     let m = module_of c.args.module.now in
     let f = c.args.faults.now in
     let x = c.args.word.now in
-    let none = overrides-none l c.new-overrides.result c.new-overrides.ensures.empty in
+    let none = overrides-none l (record { overrides = c.new.result; leaning = c.new-2.result }) c.new.ensures.empty c.new-2.ensures.items in
     elim c.match-given.branch [
       | in-Ordered+in_ok-note_excess-in-Ordered+in_ok-add_ordered-in-Ordered w ↦
           let names = w.as_slice.result.now in
@@ -28,8 +28,8 @@ returns c = λ l h is formed word.
           let excess : w.note_excess.new.faults ≡ all_noted f (joint_rules m.name names (ordered values)) =
           w.in_ok-note_excess-in-Ordered.ensures ∙ ap₂ (λ i j. all_noted f (breaks_if (nat_lt i j) 306 x)) few many ∙ ap (λ y. all_noted f (breaks_if (nat_lt (length names) (length values)) 306 y)) word in
           let given = w.in_ok-add_ordered-in-Ordered.ensures l h is (subst AreConnsFormed same formed) none in
-          overrides-are l m c.match-given.overrides f w.note_excess.new.faults c.match-given.faults names (conns_of c.args.given.now) (ordered values) (w.as_slice.ensures.value ∙ c.in_ok-names.ensures) same excess
-          (subst (AreOverridden l (ordered_joints names values)) (sym w.overrides-is) given.0, w.faults-is ∙ given.1)
+          overrides-are l m c.match-given.overridden f w.note_excess.new.faults c.match-given.faults names (conns_of c.args.given.now) (ordered values) (w.as_slice.ensures.value ∙ c.in_ok-names.ensures) same excess
+          (subst (AreOverridden l (ordered_joints names values)) (sym w.overridden-is) given.0, w.faults-is ∙ given.1)
       | in-Named+in_ok-known-in-Named+in_ok-note_unmet-in-Named+in_ok-add_named-in-Named w ↦
           let names = w.as_slice-in-Named.result.now in
           let conns = map conn_of w.as_slice-in-Named-3.result.now in
@@ -38,6 +38,6 @@ returns c = λ l h is formed word.
           let met : w.note_unmet.new.faults ≡ all_noted f (joint_rules m.name names (named conns)) =
           w.in_ok-note_unmet-in-Named.ensures names header ∙ ap (λ cs. all_noted f (unmet x names [] (map conn_of cs))) (w.as_slice-in-Named-2.ensures ∙ sym w.as_slice-in-Named-3.ensures) ∙ ap (λ y. all_noted f (unmet y names [] conns)) word in
           let given = w.in_ok-add_named-in-Named.ensures l names h is header (subst AreConnsFormed same formed) none in
-          overrides-are l m c.match-given.overrides f w.note_unmet.new.faults c.match-given.faults names (conns_of c.args.given.now) (named conns) (w.as_slice-in-Named.ensures.value ∙ c.in_ok-names.ensures) same met
-          (subst (AreOverridden l (filter_map (named_joint names) conns)) (sym w.overrides-is) given.0, w.faults-is ∙ given.1)
+          overrides-are l m c.match-given.overridden f w.note_unmet.new.faults c.match-given.faults names (conns_of c.args.given.now) (named conns) (w.as_slice-in-Named.ensures.value ∙ c.in_ok-names.ensures) same met
+          (subst (AreOverridden l (filter_map (named_joint names) conns)) (sym w.overridden-is) given.0, w.faults-is ∙ given.1)
     ]

@@ -1,4 +1,4 @@
-use Rattle.std.proofs.Common.{◌≡◌, [], None, sym, ap, subst, ◌∙◌, rules}
+use Rattle.std.proofs.Common.{◌≡◌, [], ◌++◌, map, None, refl, sym, ap, ap₂, subst, ◌∙◌, rules}
 use Rattle.std.specs.Prelude.{Ok, Err}
 use Rattle.std.specs.declared.hash.BuildHasherDefault.{BuildHasherDefault}
 use Rattle.std.specs.declared.hash.FoldHasher.{FoldHasher}
@@ -10,8 +10,9 @@ use Rattle.flat_unfolding.specs.Design.{Stage, no_design}
 use Rattle.flat_unfolding.specs.Unfolding.{top_ports}
 use Rattle.flat_names.specs.Designs.{Ends}
 use Rattle.flat_declarations.specs.Declaring.{given_in}
+use Rattle.flat_design.specs.declared.instance.Given.{Given}
 use Rattle.flat_design.specs.declared.visit.Visit.{Visit}
-use Rattle.flat_design.specs.Visiting.{prefix_of, IsGrown, Begins}
+use Rattle.flat_design.specs.Visiting.{leaning_in, prefix_of, IsGrown, Begins}
 use Rattle.flat_design.proofs.Fits.{names-fit, top-fit}
 use Rattle.flat_design.proofs.Going.{formed-at}
 use Rattle.flat_design.proofs.Top.{top_visit, top-not-begun, top-refused, top-entered, no-overrides, no-overrides-fit, nothing-fit}
@@ -47,11 +48,12 @@ returns-in_err-open_module-clause-exact c = λ m lib formed at none marks shows.
     let stack = ap (λ v. v.items) c.in_ok-names.ensures.stack ∙ none in
     let flags = ap (λ v. v.items) c.in_ok-names.ensures.marks ∙ marks in
     let old : Visit = record c.begin.new.visit { design = c.set_ports.new.design } in
+    let given : Given = record { place = None; params = c.new.result; ports = c.new-2.result } in
     let e = c.in_err-open_module.field-0.0 in
     let failed : c.from_residual-in_err-open_module.result ≡ Err e = search rules in
     let new = c.open_module.new.visit in
     subst (Ends (IsGrown pins new.design) (top_visit pins modules lib.distinct c.args.top m at)) (sym failed)
-    (top-refused pins modules lib.distinct c.args.top m at s begun.1 begun.3 c.in_ok-names.names old new e (IsGrown pins new.design)
+    (top-refused pins modules lib.distinct c.args.top m at s begun.1 begun.3 c.in_ok-names.names given old new e (IsGrown pins new.design)
     (c.in_err-open_module.ensures.exact pins m (top_ports pins (header_of t) s) at well ports (top-fit pins (header_of t) s begun.3)))
 
 pub returns-clause-exact : goal.returns-clause-exact
@@ -69,7 +71,9 @@ returns-clause-exact c = λ m lib formed at none marks shows.
     let stack = ap (λ v. v.items) c.in_ok-names.ensures.stack ∙ none in
     let flags = ap (λ v. v.items) c.in_ok-names.ensures.marks ∙ marks in
     let old : Visit = record c.begin.new.visit { design = c.set_ports.new.design } in
+    let given : Given = record { place = None; params = c.new.result; ports = c.new-2.result } in
     let new = c.open_module.new.visit in
-    let goes = top-entered pins modules lib.distinct c.args.top m at s begun.1 begun.3 c.in_ok-names.names old new stack flags
+    let leans = ap₂ (λ a b. map leaning_in a ++ map leaning_in b) c.new.ensures.items c.new-2.ensures.items in
+    let goes = top-entered pins modules lib.distinct c.args.top m at s begun.1 begun.3 c.in_ok-names.names given old new leans refl stack flags
     (c.in_ok-open_module.ensures.exact pins m (top_ports pins (header_of t) s) at well ports (top-fit pins (header_of t) s begun.3)) in
     subst (λ o. Ends (IsGrown pins c.visit_open.new.visit.design) o c.visit_open.result) (sym goes.2) (c.visit_open.ensures.exact pins goes.0 goes.1 lib formed goes.3)
