@@ -13,8 +13,9 @@ use Rattle.audit_top.specs.declared.answer.Ending.{Ending}
 use Rattle.audit_top.specs.declared.answer.Ending.TheVariants.{Refused, Memory}
 use Rattle.audit_top.specs.declared.status.Status.{Status}
 use Rattle.audit_top.specs.declared.status.Status.TheVariants as status
-use Rattle.audit_top.specs.Runs.{wants_json, Seen, Text, IsAnswer, IsAuditedBy, IsLong, IsRefusedBy, IsRefusedForLength, IsText, IsOfFile, IsOfStatus, TellsOfLength, numbers_of, all_record_numbers}
-use Rattle.audit_top.specs.Endings.{IsAnswerTo, IsEnding, IsEndOfAudit, IsLengthEnding, IsOfFiles, IsReadOfBoth}
+use Rattle.audit_top.specs.Refused.{HasCause, IsAuditRefused}
+use Rattle.audit_top.specs.Runs.{wants_json, Seen, Text, IsAnswer, IsAuditedBy, IsCausedBy, IsLong, IsOverLimit, IsRefusedBy, IsRefusedForLength, IsText, IsOfFile, IsOfStatus, TellsOfLength, numbers_of, all_record_numbers}
+use Rattle.audit_top.specs.Endings.{IsAnswerTo, IsEnding, IsEndOfAudit, IsLengthEnding, IsOfFiles, IsReadOfBoth, IsUnreadOfBoth}
 use Rattle.audit_top.specs.Audits.{IsAudited, IsAuditOf}
 use Rattle.audit_top.proofs.Lines.{is_other, other_line}
 
@@ -105,13 +106,52 @@ audited_told : (json : Bool) (net con net_read con_read : Text) (now : Seen) (r 
 audited_told json net con net_read con_read now (Ok own) net_is con_is exact = λ _. (net_read, net_is, (con_read, con_is, exact))
 audited_told json net con net_read con_read now (Err e) net_is con_is exact = tt
 
+no_read : (s : Status) → s ≡ status.ReadFault → IsOfStatus s → ⊥
+no_read s h (inl is) = cc
+no_read s h (inr (inl is)) = cc
+no_read s h (inr (inr is)) = cc
+
+-- a file that was not read whole is over its limit, where it is refused
+module _ (refused : List ℕ → List ℕ → Fault → Status → Type 0) (now : Seen) (net con : Text) where
+  pub unread_cause : (s : Status) (f : Fault) → IsUnreadOfBoth net con (Refused s f) → IsOfStatus s → IsCausedBy refused now net con s f
+  unread_cause s f (inl (inl (is, fault))) of_file = inl (subst (λ (x : Status). IsOverLimit net con x f) (sym is) fault)
+  unread_cause s f (inl (inr is)) of_file = absurd (no_read s is of_file)
+  unread_cause s f (inr (inl (is, fault))) of_file = inl (subst (λ (x : Status). IsOverLimit net con x f) (sym is) fault)
+  unread_cause s f (inr (inr is)) of_file = absurd (no_read s is of_file)
+
+  -- the bytes of both files, which are told, are refused so
+  pub told_cause : (net_read con_read : Text) → now.held net ≡ Some net_read → now.held con ≡ Some con_read → (s : Status) (f : Fault)
+      → refused net_read con_read f s → IsCausedBy refused now net con s f
+  told_cause net_read con_read net_is con_is s f h = inr (net_read, net_is, (con_read, con_is, h))
+
+unread_refused : (now : Seen) (net con : Text) (e : Ending) → IsUnreadOfBoth net con e
+    → HasCause (λ s f. IsOfStatus s → IsCausedBy IsAuditRefused now net con s f) e
+unread_refused now net con Memory h = tt
+unread_refused now net con (Refused s f) h = unread_cause IsAuditRefused now net con s f h
+
+refused_told : (net con net_read con_read : Text) (now : Seen) (r : Result Answer Ending) → now.held net ≡ Some net_read → now.held con ≡ Some con_read
+    → IfErr r (HasCause (λ s f. IsAuditRefused net_read con_read f s)) → IfErr r (HasCause (λ s f. IsOfStatus s → IsCausedBy IsAuditRefused now net con s f))
+refused_told net con net_read con_read now (Ok own) net_is con_is h = tt
+refused_told net con net_read con_read now (Err Memory) net_is con_is h = tt
+refused_told net con net_read con_read now (Err (Refused s f)) net_is con_is h = λ _. told_cause IsAuditRefused now net con net_read con_read net_is con_is s f h
+
+-- a file was not read whole
+pub unread_audit : {T : Type 0} (json : Bool) (net con : Text) (before now : Seen) (e : Ending) → IsReadOfBoth {T = T} net con before now (Err e)
+    → IsUnreadOfBoth net con e → IsEndOfAudit json net con before now (Err e)
+unread_audit json net con before now e reads h = record {
+  reads = record { asks = reads.asks; ended = reads.ended; long_net = reads.long_net; long_con = reads.long_con };
+  audited = tt;
+  exact = tt;
+  refused = unread_refused now net con e h;
+}
+
 -- both files were read, and their texts have an answer or a refusal
 pub answered_texts : {T : Type 0} (json : Bool) (net con : Text) (before now : Seen) (texts : T) (r : Result Answer Ending) (net_read con_read : Text)
     → IsReadOfBoth {T = T} net con before now (Ok texts) → MatchResult r (λ a. IsAudited a.status) IsOfFiles
     → (now.held net ≡ Some net_read) × (now.held con ≡ Some con_read)
-    → IfOk r (λ a. IsAuditOf json net_read con_read a.status a.text)
+    → IfOk r (λ a. IsAuditOf json net_read con_read a.status a.text) → IfErr r (HasCause (λ s f. IsAuditRefused net_read con_read f s))
     → IsEndOfAudit json net con before now r
-answered_texts json net con before now texts r net_read con_read reads h told exact = record {
+answered_texts json net con before now texts r net_read con_read reads h told exact refused = record {
   reads = record {
     asks = reads.asks;
     ended = texts_ended before now r h;
@@ -120,6 +160,7 @@ answered_texts json net con before now texts r net_read con_read reads h told ex
   };
   audited = texts_audited r h;
   exact = audited_told json net con net_read con_read now r told.0 told.1 exact;
+  refused = refused_told net con net_read con_read now r told.0 told.1 refused;
 }
 
 -- a selftest reads no file
@@ -136,6 +177,8 @@ module _ (words : List Text) (before now : Seen) (accepted : IsAccepted words) (
     long_run = λ n c r _ files long. cc;
     replayed = λ n c r _ files. cc;
     audited = λ n c _ files. cc;
+    audit_refused = λ n c _ files _. cc;
+    replay_refused = λ n c r _ files _. cc;
   }
 
   line_test : (s : Status) (f : Fault) → IsRefusedBy before now s f → IsAnswer words before now s (line_of f)
@@ -150,6 +193,8 @@ module _ (words : List Text) (before now : Seen) (accepted : IsAccepted words) (
     long_run = λ n c r _ files long. cc;
     replayed = λ n c r _ files. cc;
     audited = λ n c _ files. cc;
+    audit_refused = λ n c _ files _. cc;
+    replay_refused = λ n c r _ files _. cc;
   }
 
   one_test : (ended : Result Answer Ending) (a : Answer) → MatchResult ended (λ own. IsAudited own.status) IsOfFiles
@@ -199,6 +244,8 @@ module _ (words : List Text) (before now : Seen) (json : Bool) (net con : Text) 
     audited = λ n c _ files. subst (λ (j : Bool). IsAuditedBy now j n c own.status own.text) is_json
         (subst (λ (x : Text). IsAuditedBy now json x c own.status own.text) (is_net n c [] files)
         (subst (λ (x : Text). IsAuditedBy now json net x own.status own.text) (is_con n c [] files) end.exact));
+    audit_refused = λ n c _ _ of_file. absurd (audited_of_none own.status end.audited of_file);
+    replay_refused = λ n c r _ files _. cc;
   }
 
   line_answer : (s : Status) (f : Fault) → IsEndOfAudit json net con before now (Err (Refused s f)) → IsAnswer words before now s (line_of f)
@@ -217,6 +264,13 @@ module _ (words : List Text) (before now : Seen) (json : Bool) (net con : Text) 
     long_run = λ n c r _ files long. cc;
     replayed = λ n c r _ files. cc;
     audited = λ n c _ _ is. absurd (refused_audit before now s f end.reads.ended is);
+    audit_refused = λ n c _ files of_file. (
+      f,
+      refl,
+      subst (λ (x : Text). IsCausedBy IsAuditRefused now x c s f) (is_net n c [] files)
+          (subst (λ (x : Text). IsCausedBy IsAuditRefused now net x s f) (is_con n c [] files) (end.refused of_file)),
+    );
+    replay_refused = λ n c r _ files _. cc;
   }
 
   one_answer : (ended : Result Answer Ending) (a : Answer) → IsEndOfAudit json net con before now ended

@@ -45,6 +45,8 @@ module _ (words : List Text) (before now : Seen) (page : Page) (is : page_of wor
     long_run = λ n c r _ files long. absurd (no_file n (c ∷ r ∷ []) files);
     replayed = λ n c r _ files. absurd (no_file n (c ∷ r ∷ []) files);
     audited = λ n c _ files. absurd (no_file n (c ∷ []) files);
+    audit_refused = λ n c _ files _. absurd (no_file n (c ∷ []) files);
+    replay_refused = λ n c r _ files _. absurd (no_file n (c ∷ r ∷ []) files);
   }
     where
       no_status : (s : Status) → s ≡ status.Done → IsOfStatus s → ⊥
@@ -55,3 +57,30 @@ module _ (words : List Text) (before now : Seen) (page : Page) (is : page_of wor
   pub answered_page : (result : Result Answer NoMemory) → IfOk result (IsPage page) → IfOk result (λ a. IsAnswer words before now a.status a.text)
   answered_page (Ok a) h = shown a h
   answered_page (Err e) h = tt
+
+-- words that are refused are answered by the usage line
+module _ (words : List Text) (before now : Seen) (not_accepted : IsAccepted words → ⊥) where
+  told_usage : (a : Answer) → IsUsage a → IsAnswer words before now a.status a.text
+  told_usage a (is_usage, text) = record {
+    usage = λ _. not_accepted;
+    refused = λ _. is_usage;
+    fits = subst (λ (s : Status). IsText before now s a.text) (sym is_usage) text;
+    page = λ page asked. absurd (not_accepted (inl (ap (λ (o : Option Page). is_some o) asked)));
+    too_long = λ f of_file _ _. absurd (no_status a.status is_usage of_file);
+    long_net = λ n c rest accepted _ _. absurd (not_accepted accepted);
+    long_con = λ n c rest accepted _ _. absurd (not_accepted accepted);
+    long_run = λ n c r accepted _ _. absurd (not_accepted accepted);
+    replayed = λ n c r accepted _. absurd (not_accepted accepted);
+    audited = λ n c accepted _. absurd (not_accepted accepted);
+    audit_refused = λ n c accepted _ _. absurd (not_accepted accepted);
+    replay_refused = λ n c r accepted _ _. absurd (not_accepted accepted);
+  }
+    where
+      no_status : (s : Status) → s ≡ status.Usage → IsOfStatus s → ⊥
+      no_status s e (inl h) = cc
+      no_status s e (inr (inl h)) = cc
+      no_status s e (inr (inr h)) = cc
+
+  pub answered_usage : (result : Result Answer NoMemory) → IfOk result IsUsage → IfOk result (λ a. IsAnswer words before now a.status a.text)
+  answered_usage (Ok a) h = told_usage a h
+  answered_usage (Err e) h = tt

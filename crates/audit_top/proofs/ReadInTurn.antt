@@ -8,7 +8,7 @@ use Rattle.audit_top.specs.declared.status.Status.{Status}
 use Rattle.audit_top.specs.declared.status.Status.TheVariants.{Netlist, Constraints, Record, ReadFault}
 use Rattle.audit_top.specs.declared.status.Status.TheVariants as status
 use Rattle.audit_top.specs.Runs.{Seen, Text, AskedFor, AskedInOrder, IsLong, IsRefusedBy, IsUnread, IsTooLong, fault_at, max_bytes}
-use Rattle.audit_top.specs.Endings.{IsEnding, IsLengthEnding, IsOfLength, IsReadEnding, IsReadOf, IsReadOfBoth, IsReadOfThree}
+use Rattle.audit_top.specs.Endings.{IsEnding, IsLengthEnding, IsOfLength, IsReadEnding, IsReadOf, IsReadOfBoth, IsReadOfThree, IsUnreadOfBoth, IsUnreadOfThree}
 
 -- no count is lower than before
 abbrev IsLater : Seen → Seen → Type 0
@@ -147,6 +147,12 @@ both_read net con before mid now bytes more texts first second = record {
   long_con = λ long. absurd (second.short (long_then con before mid (first.holds con) long));
 }
 
+pub first_unread : (net con : Text) (before now : Seen) (e : Ending) → IsReadOf net Netlist before now (Err e) → IsUnreadOfBoth net con e
+first_unread net con before now e read = first_lengths net con before now e read.ended
+
+pub second_unread : (net con : Text) (before now : Seen) (e : Ending) → IsReadOf con Constraints before now (Err e) → IsUnreadOfBoth net con e
+second_unread net con before now e read = second_length net con before now e read.ended
+
 -- ---- three files
 
 asked_first : (net con run : Text) (before now : Seen) (result : Result (List ℕ) Ending)
@@ -173,6 +179,9 @@ third_length : (net con run : Text) (late now : Seen) (e : Ending) → IsReadEnd
 third_length net con run late now Memory ended = inl tt
 third_length net con run late now (Refused s f) (inl (is, fault, rose)) = inl (inr is)
 third_length net con run late now (Refused s f) (inr (is, fault, rose)) = inl (inl (is, fault))
+
+pub third_unread : (net con run : Text) (before now : Seen) (e : Ending) → IsReadOf run Record before now (Err e) → IsUnreadOfThree net con run e
+third_unread net con run before now e read = third_length net con run before now e read.ended
 
 -- the first of three reads ended
 pub first_of_three : {T : Type 0} (net con run : Text) (before now : Seen) (e : Ending) → IsReadOf net Netlist before now (Err e)

@@ -1,5 +1,5 @@
 -- The causes of refusals, from those of the layers.
-use Rattle.std.proofs.Common.{◌≡◌, ◌<◌, ℕ, List, length, Option, Result, Ok, Err, refl, sym, subst}
+use Rattle.std.proofs.Common.{◌≡◌, ◌<◌, ◌⊎◌, inl, inr, ℕ, List, length, Option, Result, Ok, Err, refl, sym, subst}
 use Rattle.std.specs.Prelude.{IfOk, IfErr}
 use Rattle.cdc_base.specs.declared.fault.Fault.{Fault}
 use Rattle.cdc_base.specs.declared.fault.Stop.{Stop}
@@ -33,9 +33,9 @@ use Rattle.elaborate.specs.Refusals.{IsRefusedFor, Tells}
 use Rattle.audit_top.specs.declared.answer.Ending.{Ending}
 use Rattle.audit_top.specs.declared.answer.Ending.TheVariants.{Refused, Memory}
 use Rattle.audit_top.specs.declared.status.Status.{Status}
-use Rattle.audit_top.specs.declared.status.Status.TheVariants.{Netlist, Constraints}
-use Rattle.audit_top.specs.Replays.{ended_with}
-use Rattle.audit_top.specs.Refused.{HasCause, IsNetlistRefused, tokens, reading, IsDesignRefused, rule, cells, domains, AreTextsRefused, netlist, constraints, design, IsVerdictRefused, crossings, waivers, IsAuditRefused, texts, verdict}
+use Rattle.audit_top.specs.declared.status.Status.TheVariants.{Netlist, Constraints, Record}
+use Rattle.audit_top.specs.Replays.{IsReplayOf, ended_with}
+use Rattle.audit_top.specs.Refused.{HasCause, IsOfDesignFile, IsNetlistRefused, tokens, reading, IsDesignRefused, rule, cells, domains, AreTextsRefused, netlist, constraints, design, IsVerdictRefused, crossings, waivers, IsAuditRefused, texts, verdict}
 use Rattle.audit_top.specs.Described.{IsNetOfModules, ReadsAs}
 use Rattle.audit_top.specs.Replays.{IsDesign}
 use Rattle.audit_top.proofs.Described.{IsFlatOfModules, modules_formed, text_ended}
@@ -98,6 +98,11 @@ also first then (Ok v) more h = tt
 also first then (Err (Refused s f)) more h = more s f h
 also first then (Err Memory) more h = tt
 
+-- an ending is passed on with its cause
+pub passed_on : {T : Type 0} {U : Type 0} (cause : Status → Fault → Type 0) (r : Result T Ending) (out : Result U Ending) (e : Ending) → r ≡ Err e → out ≡ Err e
+    → IfErr r (HasCause cause) → IfErr out (HasCause cause)
+passed_on cause r out e is same h = subst (λ (x : Result _ Ending). IfErr x (HasCause cause)) (sym same) (subst (λ (x : Result _ Ending). IfErr x (HasCause cause)) is h)
+
 module _ (text con : List ℕ) where
   pub netlist_refused : {T : Type 0} (r : Result T Ending) → IfErr r (HasCause (λ s f. IsNetlistRefused text f s)) → IfErr r (HasCause (λ s f. AreTextsRefused text con f s))
   netlist_refused r h = also (λ s f. IsNetlistRefused text f s) (λ s f. AreTextsRefused text con f s) r (λ s f x. netlist x) h
@@ -115,6 +120,21 @@ module _ (text con : List ℕ) where
       → (IsSourceFormed modules → IfErr r (HasCause (λ s f. IsDesignRefused modules c f s))) → IfErr r (HasCause (λ s f. AreTextsRefused text con f s))
   design_refused modules reads c means r h = also (λ s f. IsDesignRefused modules c f s) (λ s f. AreTextsRefused text con f s) r
       (λ s f x. design modules reads c means x) (h (modules_formed text modules reads))
+
+  pub of_design_file : {T : Type 0} (r : Result T Ending) → IfErr r (HasCause (λ s f. AreTextsRefused text con f s))
+      → IfErr r (HasCause (λ s f. IsOfDesignFile s → AreTextsRefused text con f s))
+  of_design_file r h = also (λ s f. AreTextsRefused text con f s) (λ s f. IsOfDesignFile s → AreTextsRefused text con f s) r (λ s f x _. x) h
+
+  -- a record that is refused is no file of the design
+  pub record_cause : (net : Net) (d : Domains) (run : List ℕ) (r : Result (List ℕ) Ending) → IsReplayOf net d run r
+      → IfErr r (HasCause (λ s f. IsOfDesignFile s → AreTextsRefused text con f s))
+  record_cause net d run (Ok own) h = tt
+  record_cause net d run (Err Memory) h = tt
+  record_cause net d run (Err (Refused s f)) (is, h) = λ of_file. absurd (no_record s is of_file)
+    where
+      no_record : (x : Status) → x ≡ Record → IsOfDesignFile x → ⊥
+      no_record x e (inl is) = cc
+      no_record x e (inr is) = cc
 
   pub texts_refused : {T : Type 0} (r : Result T Ending) → IfErr r (HasCause (λ s f. AreTextsRefused text con f s)) → IfErr r (HasCause (λ s f. IsAuditRefused text con f s))
   texts_refused r h = also (λ s f. AreTextsRefused text con f s) (λ s f. IsAuditRefused text con f s) r (λ s f x. texts x) h

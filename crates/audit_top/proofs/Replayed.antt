@@ -1,5 +1,5 @@
 -- What a replay answers, once it came to its end.
-use Rattle.std.proofs.Common.{◌≡◌, ◌∙◌, ap, sym, subst, inl, inr, ◌⊎◌, ◌∷◌, [], List, Some, None, Ok, Err, refl, Result}
+use Rattle.std.proofs.Common.{◌≡◌, ◌∙◌, ap, sym, subst, inl, inr, ◌⊎◌, ◌∷◌, [], ℕ, List, Some, None, Ok, Err, refl, Result}
 use Rattle.std.specs.Prelude.{IfOk, IfErr, MatchResult}
 use Rattle.cdc_base.specs.declared.fault.Fault.{Fault}
 use Rattle.cdc_base.specs.declared.list.NoMemory.{NoMemory}
@@ -10,10 +10,11 @@ use Rattle.audit_top.specs.declared.answer.Ending.{Ending}
 use Rattle.audit_top.specs.declared.answer.Ending.TheVariants.{Refused, Memory}
 use Rattle.audit_top.specs.declared.status.Status.{Status}
 use Rattle.audit_top.specs.declared.status.Status.TheVariants as status
-use Rattle.audit_top.specs.Runs.{Seen, Text, IsAnswer, IsLong, IsRefusedBy, IsRefusedForLength, IsOfStatus, IsReplayedBy, IsReplayTold, IsText, fault_at}
-use Rattle.audit_top.specs.Endings.{IsAnswerTo, IsEnding, IsEndOfReplay, IsLengthEnding, IsOfFiles, IsOfLength, IsReadOfThree, IsReplayEnd}
+use Rattle.audit_top.specs.Refused.{AreTextsRefused, HasCause, IsOfDesignFile}
+use Rattle.audit_top.specs.Runs.{Seen, Text, IsAnswer, IsCausedBy, IsLong, IsRefusedBy, IsRefusedForLength, IsOfStatus, IsReplayedBy, IsReplayTold, IsText, fault_at}
+use Rattle.audit_top.specs.Endings.{IsAnswerTo, IsEnding, IsEndOfReplay, IsLengthEnding, IsOfFiles, IsOfLength, IsReadOfThree, IsReplayEnd, IsUnreadOfThree}
 use Rattle.audit_top.specs.Replays.{IsReplayOfTexts, IsReplayUnder}
-use Rattle.audit_top.proofs.Answered.{refused_fits, line_tells, listed_ending, length_answer, length_answers}
+use Rattle.audit_top.proofs.Answered.{refused_fits, line_tells, listed_ending, length_answer, length_answers, told_cause, unread_cause}
 
 texts_ended : (before now : Seen) (r : Result Answer Ending) → MatchResult r (λ a. a.status ≡ status.Done) IsOfFiles → IfErr r (IsEnding before now)
 texts_ended before now (Ok own) h = tt
@@ -39,21 +40,48 @@ length_exact : (now : Seen) (net con run : Text) (e : Ending) → IsOfLength run
 length_exact now net con run Memory h = tt
 length_exact now net con run (Refused s f) h = λ is. inl (h is)
 
+-- a file of the design is none of the record
+file_of_design : (s : Status) → IsOfDesignFile s → IsOfStatus s
+file_of_design s (inl is) = inl is
+file_of_design s (inr is) = inr (inl is)
+
+no_record : (s : Status) → (s ≡ status.Record) ⊎ (s ≡ status.ReadFault) → IsOfDesignFile s → ⊥
+no_record s (inl h) (inl is) = cc
+no_record s (inl h) (inr is) = cc
+no_record s (inr h) (inl is) = cc
+no_record s (inr h) (inr is) = cc
+
+unread_refused : (now : Seen) (net con run : Text) (e : Ending) → IsUnreadOfThree net con run e
+    → HasCause (λ s f. IsOfDesignFile s → IsCausedBy AreTextsRefused now net con s f) e
+unread_refused now net con run Memory h = tt
+unread_refused now net con run (Refused s f) (inl (inl (is, fault))) = λ of_file. absurd (no_record s (inl is) of_file)
+unread_refused now net con run (Refused s f) (inl (inr is)) = λ of_file. absurd (no_record s (inr is) of_file)
+unread_refused now net con run (Refused s f) (inr h) = λ of_file. unread_cause AreTextsRefused now net con s f h (file_of_design s of_file)
+
+refused_told : (net con net_read con_read : Text) (now : Seen) (r : Result Answer Ending) → now.held net ≡ Some net_read → now.held con ≡ Some con_read
+    → IfErr r (HasCause (λ s f. IsOfDesignFile s → AreTextsRefused net_read con_read f s))
+    → IfErr r (HasCause (λ s f. IsOfDesignFile s → IsCausedBy AreTextsRefused now net con s f))
+refused_told net con net_read con_read now (Ok own) net_is con_is h = tt
+refused_told net con net_read con_read now (Err Memory) net_is con_is h = tt
+refused_told net con net_read con_read now (Err (Refused s f)) net_is con_is h =
+    λ of_file. told_cause AreTextsRefused now net con net_read con_read net_is con_is s f (h of_file)
+
 -- a file was not read whole
 pub unread_texts : {T : Type 0} (net con run : Text) (before now : Seen) (e : Ending) → IsReadOfThree {T = T} net con run before now (Err e)
-    → IsOfLength run e → IsEndOfReplay net con run before now (Err e)
-unread_texts net con run before now e reads h = record {
+    → IsOfLength run e → IsUnreadOfThree net con run e → IsEndOfReplay net con run before now (Err e)
+unread_texts net con run before now e reads h unread = record {
   reads = record { asks = reads.asks; ended = reads.ended; long_net = reads.long_net; long_con = reads.long_con; long_run = reads.long_run };
   replayed = tt;
   exact = length_exact now net con run e h;
+  refused = unread_refused now net con run e unread;
 }
 
 -- all three files were read, and their texts have an answer or a refusal
 pub replayed_texts : {T : Type 0} (net con run : Text) (before now : Seen) (texts : T) (r : Result Answer Ending) (net_read con_read run_read : Text)
     → IsReadOfThree {T = T} net con run before now (Ok texts) → MatchResult r (λ a. a.status ≡ status.Done) IsOfFiles
     → (now.held net ≡ Some net_read) × (now.held con ≡ Some con_read) × (now.held run ≡ Some run_read) → IsReplayOfTexts net_read con_read run_read r
-    → IsEndOfReplay net con run before now r
-replayed_texts net con run before now texts r net_read con_read run_read reads h told exact = record {
+    → IfErr r (HasCause (λ s f. IsOfDesignFile s → AreTextsRefused net_read con_read f s)) → IsEndOfReplay net con run before now r
+replayed_texts net con run before now texts r net_read con_read run_read reads h told exact refused = record {
   reads = record {
     asks = reads.asks;
     ended = texts_ended before now r h;
@@ -63,6 +91,7 @@ replayed_texts net con run before now texts r net_read con_read run_read reads h
   };
   replayed = texts_done r h;
   exact = texts_exact now net con run net_read con_read run_read told.0 told.1 told.2 r exact;
+  refused = refused_told net con net_read con_read now r told.0 told.1 refused;
 }
 
 line_replayed : (before now : Seen) (net con run : Text) (s : Status) (f : Fault) → IsRefusedBy before now s f
@@ -121,6 +150,8 @@ module _ (words : List Text) (before now : Seen) (net con run : Text) (accepted 
     replayed = λ n c r _ files. as_named n c r files own.status own.text
         (subst (λ (s : Status). IsReplayedBy now net con run s own.text) (sym end.replayed) end.exact);
     audited = λ n c _ files. cc;
+    audit_refused = λ n c _ files _. cc;
+    replay_refused = λ n c r _ _ of_file. absurd (done_of_none own.status end.replayed (file_of_design own.status of_file));
   }
 
   line_answer : (s : Status) (f : Fault) → IsEndOfReplay net con run before now (Err (Refused s f)) → IsAnswer words before now s (line_of f)
@@ -143,6 +174,13 @@ module _ (words : List Text) (before now : Seen) (net con run : Text) (accepted 
         (all_length_answers s f net con run (end.reads.long_run (subst (λ (x : Text). IsLong before x) (sym (is_run n c r files)) long)))));
     replayed = λ n c r _ files. as_named n c r files s (line_of f) (line_replayed before now net con run s f end.reads.ended end.exact);
     audited = λ n c _ files. cc;
+    audit_refused = λ n c _ files _. cc;
+    replay_refused = λ n c r _ files of_file. (
+      f,
+      refl,
+      subst (λ (x : Text). IsCausedBy AreTextsRefused now x c s f) (is_net n c (r ∷ []) files)
+          (subst (λ (x : Text). IsCausedBy AreTextsRefused now net x s f) (is_con n c (r ∷ []) files) (end.refused of_file)),
+    );
   }
 
   one_answer : (ended : Result Answer Ending) (a : Answer) → IsEndOfReplay net con run before now ended

@@ -12,7 +12,8 @@ use Rattle.audit_top.specs.declared.status.Status.{Status}
 use Rattle.audit_top.specs.declared.status.Status.TheVariants.{Done, Usage, Netlist, Constraints, Record, ReadFault}
 use Rattle.audit_top.specs.Audits.{IsAudited}
 use Rattle.audit_top.specs.Pages.{page_text}
-use Rattle.audit_top.specs.Runs.{Seen, Text, AskedInOrder, IsAuditedBy, IsLong, IsRefusedBy, IsReplayTold, fault_at, max_bytes, numbers_of, usage_line}
+use Rattle.audit_top.specs.Refused.{AreTextsRefused, HasCause, IsAuditRefused, IsOfDesignFile}
+use Rattle.audit_top.specs.Runs.{Seen, Text, AskedInOrder, IsAuditedBy, IsCausedBy, IsLong, IsOfStatus, IsRefusedBy, IsReplayTold, fault_at, max_bytes, numbers_of, usage_line}
 
 -- want of memory, or this refusal
 abbrev pub IsRefusal : Status → Fault → Ending → Type 0
@@ -61,6 +62,14 @@ abbrev pub IsLengthEnding : Status → Text → Ending → Type 0
 IsLengthEnding of_file name Memory = Unit {0}
 IsLengthEnding of_file name (Refused s f) = ((s ≡ of_file) × (f ≡ fault_at 600 name)) ⊎ (s ≡ ReadFault)
 
+-- how the reading of both files ends: a read failed, or a file is over its limit
+abbrev pub IsUnreadOfBoth : Text → Text → Ending → Type 0
+IsUnreadOfBoth net con ending = IsLengthEnding Constraints con ending ⊎ IsLengthEnding Netlist net ending
+
+-- how that of all three files ends
+abbrev pub IsUnreadOfThree : Text → Text → Text → Ending → Type 0
+IsUnreadOfThree net con run ending = IsLengthEnding Record run ending ⊎ IsUnreadOfBoth net con ending
+
 -- both files were read whole, or the reading ended so
 pub record IsReadOfBoth {T : Type 0} (net con : Text) (before now : Seen) (result : Result T Ending) : Type 0 where
   pub asks : AskedInOrder (net ∷ con ∷ []) before now
@@ -73,6 +82,7 @@ pub record IsEndOfAudit (json : Bool) (net con : Text) (before now : Seen) (resu
   pub reads : IsReadOfBoth net con before now result
   pub audited : IfOk result (λ answer. IsAudited answer.status)
   pub exact : IfOk result (λ answer. IsAuditedBy now json net con answer.status answer.text)
+  pub refused : IfErr result (HasCause (λ status fault. IsOfStatus status → IsCausedBy IsAuditRefused now net con status fault))
 
 -- a read that ended refuses the record as too long alone
 abbrev pub IsOfLength : Text → Ending → Type 0
@@ -99,6 +109,7 @@ pub record IsEndOfReplay (net con run : Text) (before now : Seen) (result : Resu
   pub reads : IsReadOfThree net con run before now result
   pub replayed : IfOk result (λ answer. answer.status ≡ Done)
   pub exact : IsReplayEnd now net con run result
+  pub refused : IfErr result (HasCause (λ status fault. IsOfDesignFile status → IsCausedBy AreTextsRefused now net con status fault))
 
 -- the answer to a word for a page
 abbrev pub IsPage : Page → Answer → Type 0

@@ -1,5 +1,5 @@
 -- Why texts have no verdict and no run, stage by stage in the order in which they are read.
-use Rattle.std.specs.Prelude.{◌≡◌, ◌<◌, ℕ, List, length, Ok, Err}
+use Rattle.std.specs.Prelude.{◌≡◌, ◌<◌, ◌⊎◌, ℕ, List, length, Ok, Err}
 use Rattle.cdc_base.specs.declared.fault.Fault.{Fault}
 use Rattle.cdc_base.specs.declared.limits.TheConstants.{MAX_CROSSINGS}
 use Rattle.cell_graph.specs.declared.net.Net.{Net}
@@ -34,6 +34,10 @@ use Rattle.audit_top.specs.Replays.{IsDesign}
 abbrev pub HasCause : (Status → Fault → Type 0) → Ending → Type 0
 HasCause cause (Refused status fault) = cause status fault
 HasCause cause Memory = Unit {0}
+
+-- the status of a design's files
+abbrev pub IsOfDesignFile : Status → Type 0
+IsOfDesignFile status = (status ≡ Netlist) ⊎ (status ≡ Constraints)
 
 -- a netlist's bytes: the first token that breaks a rule; or the first token with which no source goes on
 pub data IsNetlistRefused (text : List ℕ) (fault : Fault) : Status → Type 0 where

@@ -16,6 +16,7 @@ use Rattle.audit_top.specs.declared.status.Status.{Status}
 use Rattle.audit_top.specs.declared.status.Status.TheVariants.{Done, Violations, Usage, Netlist, Constraints, Record, ReadFault, WriteFault, Memory, Waived}
 use Rattle.audit_top.specs.Pages.{page_text}
 use Rattle.audit_top.specs.Audits.{IsAudited, IsAuditOf}
+use Rattle.audit_top.specs.Refused.{AreTextsRefused, IsAuditRefused, IsOfDesignFile}
 use Rattle.audit_top.specs.Replays.{IsReplayUnder}
 
 abbrev pub Text : Type 0
@@ -147,6 +148,21 @@ IsReplayedBy now net con run Violations text = ⊥
 IsReplayedBy now net con run Waived text = ⊥
 IsReplayedBy now net con run _ text = Unit {0}
 
+-- the file of the status is refused as over its limit
+abbrev pub IsOverLimit : Text → Text → Status → Fault → Type 0
+IsOverLimit net con Netlist fault = fault ≡ fault_at 600 net
+IsOverLimit net con Constraints fault = fault ≡ fault_at 600 con
+IsOverLimit net con _ fault = ⊥
+
+-- why a file is refused: it is over its limit, or the bytes of both files, as they are told, are refused so
+abbrev pub IsCausedBy : (List ℕ → List ℕ → Fault → Status → Type 0) → Seen → Text → Text → Status → Fault → Type 0
+IsCausedBy refused now net con status fault = IsOverLimit net con status fault
+    ⊎ Told now net (λ net_bytes. Told now con (λ con_bytes. refused net_bytes con_bytes fault status))
+
+-- the text is the line of a refusal with its cause
+abbrev pub TellsCause : (List ℕ → List ℕ → Fault → Status → Type 0) → Seen → Text → Text → Status → Text → Type 0
+TellsCause refused now net con status text = (fault : Fault) × (text ≡ line_of fault) × IsCausedBy refused now net con status fault
+
 -- a status and a text, from the words and from what the files told
 pub record IsAnswer (words : List Text) (before now : Seen) (status : Status) (text : Text) : Type 0 where
   pub usage : status ≡ Usage → IsAccepted words → ⊥
@@ -162,6 +178,10 @@ pub record IsAnswer (words : List Text) (before now : Seen) (status : Status) (t
       → IsRefusedForLength Record run status text ⊎ (IsRefusedForLength Constraints con status text ⊎ IsRefusedForLength Netlist net status text)
   pub replayed : (net con run : Text) → IsAccepted words → file_words words ≡ net ∷ con ∷ run ∷ [] → IsReplayedBy now net con run status text
   pub audited : (net con : Text) → IsAccepted words → file_words words ≡ net ∷ con ∷ [] → IsAuditedBy now (wants_json words) net con status text
+  pub audit_refused : (net con : Text) → IsAccepted words → file_words words ≡ net ∷ con ∷ [] → IsOfStatus status
+      → TellsCause IsAuditRefused now net con status text
+  pub replay_refused : (net con run : Text) → IsAccepted words → file_words words ≡ net ∷ con ∷ run ∷ [] → IsOfDesignFile status
+      → TellsCause AreTextsRefused now net con status text
 
 -- what the output told before the run and tells after it, for a text that went to it
 abbrev pub IsWritten : Status → Status → Text → Option Text → Option Text → Type 0

@@ -1,7 +1,7 @@
 //! Reading the files that the words name.
 ghost use Rattle.std.specs.Prelude.{◌≡◌, ◌≤◌, length, Some, IfOk, IfErr};
 ghost use Rattle.audit_top.specs.Runs.{Seen, fault_at, max_bytes};
-ghost use Rattle.audit_top.specs.Endings.{IsRefusal, IsOfLength, IsReadOf, IsReadOfBoth, IsReadOfThree};
+ghost use Rattle.audit_top.specs.Endings.{IsRefusal, IsOfLength, IsReadOf, IsReadOfBoth, IsReadOfThree, IsUnreadOfBoth, IsUnreadOfThree};
 
 use crate::answer::Ending;
 use crate::status::Status;
@@ -57,6 +57,7 @@ pub fn read_both<F: Files>(
         IsReadOfBoth net.now con.now before now result }
     ensures within { IfOk result (λ texts. (length texts.0 ≤ max_bytes) × (length texts.1 ≤ max_bytes)) }
     ensures content { IfOk result (λ texts. (F.held files.new net.now ≡ Some texts.0) × (F.held files.new con.now ≡ Some texts.1)) }
+    ensures unread { IfErr result (IsUnreadOfBoth net.now con.now) }
 {
     let net = match read_text(alloc, files, net, Status::Netlist) {
         Ok(net) => net,
@@ -82,6 +83,7 @@ pub fn read_three<F: Files>(
     ensures within { IfOk result (λ texts. length texts.0 ≤ max_bytes) }
     ensures content { IfOk result (λ texts. (F.held files.new net.now ≡ Some texts.0) × (F.held files.new con.now ≡ Some texts.1) × (F.held files.new run.now ≡ Some texts.2)) }
     ensures of_length { IfErr result (IsOfLength run.now) }
+    ensures unread { IfErr result (IsUnreadOfThree net.now con.now run.now) }
 {
     let net = match read_text(alloc, files, net, Status::Netlist) {
         Ok(net) => net,

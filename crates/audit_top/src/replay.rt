@@ -3,6 +3,7 @@ ghost use Rattle.std.specs.Prelude.{◌≡◌, ◌≤◌, length, IfErr, MatchRe
 ghost use Rattle.audit_top.specs.declared.status.Status.TheVariants.{Done};
 ghost use Rattle.audit_top.specs.Runs.{Seen, max_bytes};
 ghost use Rattle.audit_top.specs.Endings.{IsOfFiles, IsEndOfReplay};
+ghost use Rattle.audit_top.specs.Refused.{AreTextsRefused, HasCause, IsOfDesignFile};
 ghost use Rattle.audit_top.specs.Replays.{CanReplay, IsReplayOf, IsReplayOfTexts};
 
 use crate::answer::{Answer, Ending, or_refused};
@@ -37,6 +38,7 @@ pub fn replayed_text(
 fn replay_texts(alloc: Global, net: &[u8], con: &[u8], run: &[u8]) -> Result<Answer, Ending>
     requires { length net.now ≤ max_bytes }
     ensures exact { IsReplayOfTexts net.now con.now run.now result }
+    ensures refused { IfErr result (HasCause (λ status fault. IsOfDesignFile status → AreTextsRefused net.now con.now fault status)) }
     ensures ended { MatchResult result (λ answer. answer.status ≡ Done) IsOfFiles }
 {
     let source = read_source(alloc, net)?;

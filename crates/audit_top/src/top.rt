@@ -15,7 +15,8 @@ use cdc_base::{Files, List, NoMemory, Sink, SinkFault};
 use command_line::{Refusal, Request};
 use std::alloc::Global;
 
-const USAGE: &str = "usage: cdcaudit audit [--json] NET CON | replay NET CON RUN | selftest N | help\n";
+const USAGE: &str =
+    "usage: cdcaudit audit [--json] NET CON | replay NET CON RUN | selftest N | help\n";
 
 fn usage(alloc: Global) -> Result<Answer, NoMemory>
     ensures { IfOk result IsUsage }

@@ -10,7 +10,7 @@ use Rattle.cdc_base.specs.declared.signal.ResetPin.{ResetPin}
 use Rattle.cdc_base.specs.declared.signal.Signal.{Signal}
 use Rattle.cell_graph.specs.Tree.{bit_at, number}
 use Rattle.cell_graph.proofs.Words.{bit_and-bit, bit-ones, is_number}
-use Rattle.flat_meaning.specs.Flat.{Expr, Target, Stmt, assigns}
+use Rattle.flat_meaning.specs.Flat.{Expr, Target, Stmt}
 use Rattle.flat_form.specs.declared.flat.FlatAssign.{FlatAssign}
 use Rattle.flat_form.specs.declared.flat.FlatComb.{FlatComb}
 use Rattle.flat_form.specs.declared.flat.FlatClocked.{FlatClocked}

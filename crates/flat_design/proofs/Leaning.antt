@@ -1,11 +1,11 @@
 -- What is given to a name: the override that it makes, and whether it leans.
-use Rattle.std.proofs.Common.{◌≡◌, Bool, true, false, cond, List, [], ◌∷◌, Option, Some, None, refl, sym, ap, ap₂, ◌∙◌}
-use Rattle.std.specs.Prelude.{ℕ, is_some, option_map}
+use Rattle.std.proofs.Common.{◌≡◌, Bool, true, false, cond, [], ◌∷◌, Some, None, refl, ap, ap₂, ◌∙◌}
+use Rattle.std.specs.Prelude.{is_some}
 use Rattle.std.specs.List.{cons_option}
 use Rattle.verilog_reading.specs.ExprTree.{ExprTree}
-use Rattle.flat_meaning.specs.Flat.{Expr, size}
+use Rattle.flat_meaning.specs.Flat.{size}
 use Rattle.flat_form.specs.View.{expr_of}
-use Rattle.flat_form.specs.Sizes.{kept_of, is_sized}
+use Rattle.flat_form.specs.Sizes.{is_sized}
 use Rattle.flat_form.proofs.Sized.{sized_width}
 use Rattle.flat_unfolding.specs.Outcome.{Text}
 use Rattle.flat_unfolding.specs.Names.{Look}
@@ -13,7 +13,7 @@ use Rattle.flat_unfolding.specs.Constants.{is_counted}
 use Rattle.flat_unfolding.specs.Signs.{is_signed, leans}
 use Rattle.flat_unfolding.specs.Expressions.{as_constant, read}
 use Rattle.flat_unfolding.specs.Parameters as p
-use Rattle.flat_unfolding.specs.Instances.{Joint, Leaning, leaning_joint}
+use Rattle.flat_unfolding.specs.Instances.{Leaning, leaning_joint}
 use Rattle.flat_names.specs.declared.resolved.Resolved.{Resolved}
 use Rattle.flat_names.specs.declared.signs.Signs.{Signs}
 use Rattle.flat_names.specs.Pieces.{IsRead}

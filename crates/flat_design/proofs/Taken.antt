@@ -1,24 +1,20 @@
 -- How many bits a name of an instance's module takes, and whether what is given to it is too short.
-use Rattle.std.proofs.Common.{◌≡◌, ℕ, ◌<◌, Bool, true, false, ◌||◌, nat_lt, List, [], ◌∷◌, ◌++◌, length, map, Option, Some, None, Result, Ok, Err, refl, sym, ap, ap₂, subst, ◌∙◌, rules}
+use Rattle.std.proofs.Common.{◌≡◌, ℕ, Bool, true, false, ◌||◌, nat_lt, List, ◌∷◌, map, Option, Some, None, Result, Ok, Err, refl, sym, ap, ap₂, ◌∙◌, rules}
 use Rattle.std.specs.Prelude.{slice_get, is_some, option_map, option_and_then}
 use Rattle.std.specs.Option.{option_map_or}
 use Rattle.std.specs.List.{list_any}
-use Rattle.std.proofs.lemmas.List.{map-append}
 use Rattle.std.proofs.lemmas.List.Folds.{list_any-append}
 use Rattle.indexmap.specs.IndexMap.{IndexMap}
 use Rattle.cdc_base.specs.declared.fault.Fault.{Fault}
 use Rattle.cdc_base.specs.declared.fault.Stop.{Stop}
 use Rattle.cdc_base.specs.declared.fault.Stop.TheVariants.{Refused, Memory}
-use Rattle.cdc_base.specs.Words.{found_in}
 use Rattle.verilog_ast.specs.declared.Module.{Module}
-use Rattle.verilog_reading.specs.SourceTree.{ModuleTree, module_of}
+use Rattle.verilog_reading.specs.SourceTree.{ModuleTree}
 use Rattle.flat_unfolding.specs.Outcome.{Text, Outcome, good, bad, refused_if}
 use Rattle.flat_unfolding.specs.Names as n
 use Rattle.flat_unfolding.specs.Names.{Names, Range, span, meaning_in}
-use Rattle.flat_unfolding.specs.Instances as of
 use Rattle.flat_unfolding.specs.Instances.{Leaning, taken_bits, is_short}
-use Rattle.flat_unfolding.specs.Design.{Design, Stage}
-use Rattle.flat_unfolding.proofs.Steps.{some_is}
+use Rattle.flat_unfolding.specs.Design.{Stage}
 use Rattle.flat_names.specs.declared.scope.Bounds.{Bounds}
 use Rattle.flat_names.specs.declared.scope.Param.{Param}
 use Rattle.flat_names.specs.declared.scope.Meaning.{Meaning}

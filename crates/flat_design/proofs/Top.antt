@@ -9,7 +9,7 @@ use Rattle.cdc_base.specs.declared.fault.Stop.{Stop}
 use Rattle.cdc_base.specs.declared.fault.Stop.TheVariants.{Refused, Memory}
 use Rattle.verilog_ast.specs.declared.Module.{Module}
 use Rattle.verilog_reading.specs.SourceTree.{ModuleTree, module_of}
-use Rattle.flat_unfolding.specs.Outcome.{Text, Outcome, good, bad, then_}
+use Rattle.flat_unfolding.specs.Outcome.{Text, Outcome, good, then_}
 use Rattle.flat_unfolding.specs.Parameters.{parameters}
 use Rattle.flat_unfolding.specs.Declarations.{header_of, header_decls, declarations}
 use Rattle.flat_unfolding.specs.Design.{Design, Stage, look_of, no_design}

@@ -1,20 +1,17 @@
 -- Instances and the visit of modules: what the tables and the stack of open modules show of the definition's.
-use Rattle.std.specs.Prelude.{◌||◌, unwrap_or, slice_set, find, Vec, ◌≡◌, ℕ, zero, suc, ◌+◌, ◌-◌, ◌<◌, ◌≤◌, ◌^◌, ◌==◌, Bool, true, false, cond, ◌&&◌, not, List, [], ◌∷◌, ◌++◌, length, map, filter, filter_map, flat_map, drop, All, Option, Some, None, is_some, option_map, option_and_then, slice_get, bytes_eq, codes, Result, Ok, Err}
-use Rattle.std.specs.Option.{option_map_or}
-use Rattle.std.specs.Global.{Global}
+use Rattle.std.specs.Prelude.{◌||◌, unwrap_or, slice_set, find, ◌≡◌, ℕ, ◌+◌, ◌-◌, ◌<◌, ◌≤◌, ◌^◌, ◌==◌, Bool, true, false, cond, ◌&&◌, not, List, [], ◌∷◌, ◌++◌, length, map, filter, filter_map, flat_map, drop, All, Option, Some, None, is_some, option_map, option_and_then, slice_get, bytes_eq, codes, Result, Ok, Err}
 use Rattle.std.specs.declared.hash.BuildHasherDefault.{BuildHasherDefault}
 use Rattle.std.specs.declared.hash.FoldHasher.{FoldHasher}
 use Rattle.std.specs.List.{AllZip, list_any}
 use Rattle.std.specs.Cmp.Lexicographic.{pointwise}
 use Rattle.indexmap.specs.IndexMap.{IndexMap, get_by}
-use Rattle.indexmap.specs.IndexSet.{IndexSet, contains_by}
 use Rattle.cdc_base.specs.declared.signal.ResetPin.{ResetPin}
 use Rattle.cdc_base.specs.declared.signal.Signal.{Signal}
 use Rattle.cdc_base.specs.declared.signal.SigKind.TheVariants.{Input}
 use Rattle.cdc_base.specs.declared.fault.Place.{Place}
 use Rattle.cdc_base.specs.declared.fault.Stop.{Stop}
 use Rattle.cdc_base.specs.declared.fault.Stop.TheVariants.{Refused, Memory}
-use Rattle.cdc_base.specs.Words.{found_in, is_in}
+use Rattle.cdc_base.specs.Words.{is_in}
 use Rattle.verilog_ast.specs.declared.DeclKind.{DeclKind}
 use Rattle.verilog_ast.specs.declared.DeclKind.TheVariants as k
 use Rattle.verilog_ast.specs.declared.Module.{Module}
@@ -23,7 +20,6 @@ use Rattle.verilog_ast.specs.declared.ItemBody.{ItemBody}
 use Rattle.verilog_ast.specs.declared.ItemBody.TheVariants as body
 use Rattle.verilog_reading.specs.ExprTree.{ExprTree}
 use Rattle.verilog_reading.specs.SourceTree.{DeclTree, ConnsTree, BodyTree, decl, instance, ItemTree, ModuleTree, conns_of, item_of, module_of}
-use Rattle.flat_meaning.specs.Flat.{Expr, Read, Target, Whole}
 use Rattle.flat_form.specs.View.{expr_of, target_of}
 use Rattle.flat_form.specs.Sizes.{is_word, kept_of}
 use Rattle.flat_unfolding.specs.Outcome.{Text, Broken, Outcome, good, bad, then_, each, refused_if, by_number, judged}
@@ -37,7 +33,6 @@ use Rattle.flat_unfolding.specs.Instances.{Joint, joints, override, override_rul
 use Rattle.flat_unfolding.specs.Design.{Design, Stage, look_of}
 use Rattle.flat_unfolding.specs.Unfolding.{item, visit, instance_item, modules_differ, module_named}
 use Rattle.flat_unfolding.specs.Unfolding as law
-use Rattle.flat_unfolding.specs.Formed.{IsModuleFormed}
 use Rattle.flat_unfolding.specs.Widths.{keeps_sizes, target_keeps_sizes}
 use Rattle.flat_names.specs.declared.design.Entry as kept
 use Rattle.flat_names.specs.declared.design.Reset.{Reset}
@@ -59,7 +54,7 @@ use Rattle.flat_design.specs.declared.visit.Library.{Library}
 use Rattle.flat_design.specs.declared.visit.Open.{Open}
 use Rattle.flat_design.specs.declared.visit.Visit.{Visit}
 use Rattle.flat_design.specs.declared.visit.Instance.{Instance}
-use Rattle.flat_declarations.specs.Declaring.{given_in, ShowsOverrides}
+use Rattle.flat_declarations.specs.Declaring.{ShowsOverrides}
 
 -- ---- ports
 

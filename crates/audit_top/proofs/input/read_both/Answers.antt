@@ -1,4 +1,4 @@
-use Rattle.audit_top.proofs.ReadInTurn.{first_ends, second_ends, still_told}
+use Rattle.audit_top.proofs.ReadInTurn.{first_ends, first_unread, second_ends, second_unread, still_told}
 use Rattle.audit_top.proofs.input.read_both.Goals as goal
 
 pub returns-in-Err-clause-files : goal.returns-in-Err-clause-files
@@ -9,3 +9,9 @@ returns-in-Err-read_text-clause-files g c = second_ends _ _ _ _ _ _ _ c.in-Ok.en
 
 pub returns-in-Ok-read_text-clause-content : goal.returns-in-Ok-read_text-clause-content
 returns-in-Ok-read_text-clause-content g c = (still_told _ _ _ (c.in-Ok-read_text.ensures.holds c.args.net.now) c.in-Ok.ensures.content, c.in-Ok-read_text.ensures.content)
+
+pub returns-in-Err-clause-unread : goal.returns-in-Err-clause-unread
+returns-in-Err-clause-unread g c = first_unread _ _ _ _ _ c.in-Err.ensures
+
+pub returns-in-Err-read_text-clause-unread : goal.returns-in-Err-read_text-clause-unread
+returns-in-Err-read_text-clause-unread g c = second_unread _ _ _ _ _ c.in-Err-read_text.ensures

@@ -1,4 +1,5 @@
-use Rattle.audit_top.proofs.ReadInTurn.{first_of_three, second_of_three, third_of_three, all_read, netlist_length, constraints_length, record_length, still_told}
+use Rattle.std.proofs.Common.{inr}
+use Rattle.audit_top.proofs.ReadInTurn.{first_unread, second_unread, third_unread, first_of_three, second_of_three, third_of_three, all_read, netlist_length, constraints_length, record_length, still_told}
 use Rattle.audit_top.proofs.input.read_three.Goals as goal
 
 pub returns-in-Err-clause-files : goal.returns-in-Err-clause-files
@@ -28,3 +29,12 @@ returns-in-Ok-read_text-2-clause-content g c = (
   still_told _ _ _ (c.in-Ok-read_text-2.ensures.holds c.args.con.now) c.in-Ok-read_text.ensures.content,
   c.in-Ok-read_text-2.ensures.content,
 )
+
+pub returns-in-Err-clause-unread : goal.returns-in-Err-clause-unread
+returns-in-Err-clause-unread g c = inr (first_unread _ _ _ _ _ c.in-Err.ensures)
+
+pub returns-in-Err-read_text-clause-unread : goal.returns-in-Err-read_text-clause-unread
+returns-in-Err-read_text-clause-unread g c = inr (second_unread _ _ _ _ _ c.in-Err-read_text.ensures)
+
+pub returns-in-Err-read_text-2-clause-unread : goal.returns-in-Err-read_text-2-clause-unread
+returns-in-Err-read_text-2-clause-unread g c = third_unread _ _ _ _ _ _ c.in-Err-read_text-2.ensures

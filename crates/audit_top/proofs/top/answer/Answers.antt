@@ -3,7 +3,7 @@ use Rattle.command_line.specs.Cli.{files_of, file_words, page_of}
 use Rattle.audit_top.specs.Runs.{json_in}
 use Rattle.audit_top.proofs.Answered.{answered_audit, answered_test}
 use Rattle.audit_top.proofs.Replayed.{answered_replay}
-use Rattle.audit_top.proofs.Paged.{answered_page, page_asks, without_page}
+use Rattle.audit_top.proofs.Paged.{answered_page, answered_usage, page_asks, without_page}
 use Rattle.audit_top.proofs.top.answer.Goals as goal
 
 pub returns-in-Ok-Audit-clause-answered : goal.returns-in-Ok-Audit-clause-answered
@@ -39,3 +39,7 @@ returns-in-Ok-Show-clause-answered g c =
 pub returns-in-Ok-Show-clause-asks : goal.returns-in-Ok-Show-clause-asks
 returns-in-Ok-Show-clause-asks g c =
     page_asks _ _ _ c.in-Ok-Show.page (rw c.in-Ok-Show.field-0-is at c.in-Ok-Show.ensures.accepted) refl
+
+pub returns-in-Err-Words-clause-answered : goal.returns-in-Err-Words-clause-answered
+returns-in-Err-Words-clause-answered g c =
+    answered_usage _ _ _ ((rw c.in-Err-Words.field-0-is at c.in-Err-Words.ensures.refused) refl) _ c.usage.ensures

@@ -1,4 +1,4 @@
-use Rattle.std.proofs.Common.{◌≡◌, refl, sym, ap, ◌∙◌}
+use Rattle.std.proofs.Common.{refl, sym, ap, ◌∙◌}
 use Rattle.verilog_reading.specs.ExprTree.{tree_of}
 use Rattle.flat_names.specs.Noting.{all_noted}
 use Rattle.flat_statements.proofs.Sizes.{target-sized-keeps}

@@ -1,4 +1,4 @@
-use Rattle.std.proofs.Common.{◌≡◌, ◌<◌, ◌^◌, length, map, drop}
+use Rattle.std.proofs.Common.{◌≡◌, length, map, drop}
 use Rattle.verilog_reading.specs.SourceTree.{PortTree, port_of}
 use Rattle.flat_unfolding.specs.Design.{Stage}
 use Rattle.flat_unfolding.specs.Unfolding.{top_ports}

@@ -1,4 +1,4 @@
-use Rattle.std.proofs.Common.{◌≡◌, List, Bool, false, Some, None, sym, ap, subst, ◌∙◌, rules}
+use Rattle.std.proofs.Common.{◌≡◌, List, Some, None, sym, ap, subst, ◌∙◌, rules}
 use Rattle.std.specs.Prelude.{Err}
 use Rattle.flat_names.specs.declared.design.Design.{Design}
 use Rattle.flat_design.specs.declared.visit.Open.{Open}

@@ -1,4 +1,4 @@
-use Rattle.std.proofs.Common.{◌≡◌, true, false, Bool, map, sym, subst, rules}
+use Rattle.std.proofs.Common.{◌≡◌, Bool, map, sym, subst, rules}
 use Rattle.std.specs.Prelude.{Ok, Err}
 use Rattle.verilog_reading.specs.SourceTree.{module_of}
 use Rattle.flat_names.specs.Designs.{Ends}

@@ -6,10 +6,10 @@ use Rattle.verilog_items.proofs.header.read_pdecl.Goals as goal
 
 pub returns-in_err-long-clause-halts : goal.returns-in_err-long-clause-halts
 returns-in_err-long-clause-halts c = let p = err_from_is_err_and c.from_residual.result c.from_residual.ensures.1 in
-    rw (p.1, p.2) (Steps.long_halts 255 c.args.tokens.now _ _ _ c.in-Some.ensures.entry c.in_err-long.ensures.halts)
+    rw (p.1, p.2) (Steps.long_halts 255 c.args.tokens.now c.in-Some.local c.in-Some.inner.now _ c.in-Some.ensures.entry c.in_err-long.ensures.halts)
 
 pub returns-in-Some-clause-read : goal.returns-in-Some-clause-read
-returns-in-Some-clause-read c = Steps.long_put 255 _ c.args.tokens.now _ _ _ _ _ _ c.in-Some.ensures.entry (c.in_ok-long.ensures.read (form_of c.args.before))
+returns-in-Some-clause-read c = Steps.long_put 255 _ c.args.tokens.now c.in-Some.local c.in-Some.inner.now _ _ _ _ c.in-Some.ensures.entry (c.in_ok-long.ensures.read (form_of c.args.before))
 
 pub returns-in_err-param-clause-halts : goal.returns-in_err-param-clause-halts
 returns-in_err-param-clause-halts c = let p = err_from_is_err_and c.from_residual-in_err-param.result c.from_residual-in_err-param.ensures.1 in
