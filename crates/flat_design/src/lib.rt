@@ -12,6 +12,7 @@ ghost use Rattle.flat_design.specs.Flattened.{IsFlattened};
 
 mod finish;
 mod instance;
+mod top_ports;
 mod visit;
 
 use cdc_base::{Name, ResetPin, Stop};

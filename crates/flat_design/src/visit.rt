@@ -1,7 +1,6 @@
 //! The visit of modules, each instance in its place.
-ghost use Rattle.std.specs.Prelude.{◌≡◌, ◌==◌, ◌<◌, ◌^◌, ◌++◌, ◌∷◌, ℕ, false, cond, List, [], map, filter_map, length, string_bytes, codes, All, Some, None, is_some, option_map, option_copied, option_and_then, slice_get, slice_set, IfOk, IfErr};
+ghost use Rattle.std.specs.Prelude.{◌≡◌, ◌==◌, ◌<◌, ◌++◌, ◌∷◌, false, List, [], map, filter_map, length, string_bytes, codes, All, Some, None, option_copied, option_and_then, slice_get, slice_set, IfOk, IfErr};
 ghost use Rattle.std.specs.List.{list_any, AllZip};
-ghost use Rattle.std.specs.Cmp.Lexicographic.{pointwise};
 ghost use Rattle.refusals.specs.Numbers.{HasNumberIn, unfolding_numbers};
 ghost use Rattle.cdc_base.specs.declared.signal.ResetPin as pin;
 ghost use Rattle.cdc_base.specs.declared.signal.Signal.{Signal};
@@ -9,35 +8,34 @@ ghost use Rattle.flat_names.specs.declared.design.Entry.{Entry};
 ghost use Rattle.verilog_ast.specs.declared.Module as code;
 ghost use Rattle.verilog_reading.specs.SourceTree.{ItemTree, ModuleTree, PortTree, decl_of, body_of, item_of as item_tree_of, port_of, conns_of, module_of};
 ghost use Rattle.flat_unfolding.specs.Outcome.{Text, good, then_, each};
-ghost use Rattle.flat_unfolding.specs.Names as meanings;
 ghost use Rattle.flat_unfolding.specs.Names.{printed_part};
 ghost use Rattle.flat_unfolding.specs.Parameters as law_parameters;
 ghost use Rattle.flat_unfolding.specs.Declarations as law_declarations;
 ghost use Rattle.flat_unfolding.specs.Declarations.{header_of};
 ghost use Rattle.flat_unfolding.specs.Instances.{Link, connected};
 ghost use Rattle.flat_unfolding.specs.Design as grown;
-ghost use Rattle.flat_unfolding.specs.Design.{Stage, look_of, no_design, change_entry};
+ghost use Rattle.flat_unfolding.specs.Design.{Stage, look_of, no_design};
 ghost use Rattle.flat_unfolding.specs.Formed.{IsFormedIf, IsPortFormed, IsBodyFormed, AreConnsFormed, IsModuleFormed};
-ghost use Rattle.flat_unfolding.specs.Targets.{is_input as is_inward};
 ghost use Rattle.flat_unfolding.specs.Unfolding as law;
-ghost use Rattle.flat_unfolding.specs.Unfolding.{declared_value, header_values, top_ports, top_port, top_input};
-ghost use Rattle.flat_names.specs.Looks.{meaning_of, IsFit};
+ghost use Rattle.flat_unfolding.specs.Unfolding.{declared_value, header_values, top_ports};
+ghost use Rattle.flat_names.specs.Looks.{IsFit};
 ghost use Rattle.flat_names.specs.Designs.{ShowsNames, ShowsDesign, ShowsStage, Meets, Ends};
 ghost use Rattle.flat_declarations.specs.Declaring.{MeetsFit, ShowsOverrides, AreFitOverrides};
-ghost use Rattle.flat_design.specs.Visiting.{ShowsPorts, IsLinkOf, IsNumber, IsLibrary, Lists, Frame, IsFrame, closed, IsClosed, rest_of, part_in, part_of, item_before, IsVisiting, AreMarked, next_of, Goes, IsGrown, Steps, Begins, Enters, instance_tree, Finds, AreEnds, if_signal, pin_in, ShowsPins, outside_if, resolved_if, mark_at, prefix_of, is_declaration as is_declaration_of, declares as declares_of, IsPlain, IsFitDesign, AreFitNames};
+ghost use Rattle.flat_design.specs.Visiting.{ShowsPorts, IsLinkOf, IsNumber, IsLibrary, Lists, Frame, IsFrame, closed, IsClosed, rest_of, part_in, part_of, item_before, IsVisiting, AreMarked, next_of, Goes, IsGrown, Steps, Begins, Enters, instance_tree, Finds, AreEnds, mark_at, prefix_of, is_declaration as is_declaration_of, declares as declares_of, IsPlain, IsFitDesign, AreFitNames};
 
 use crate::instance::{
     Connected, Connection, Given, Overridden, Ports, add_connections, connections_of, has_short,
     overrides_of, ports_of,
 };
-use cdc_base::{Name, NoMemory, Place, ResetPin, SigKind, Signal, Stop};
+use crate::top_ports::set_top_ports;
+use cdc_base::{Name, NoMemory, Place, ResetPin, Stop};
 use flat_declarations::declare::add_declarations;
 use flat_declarations::parameter::{Overrides, add_parameters};
 use flat_form::memory::{append, push};
-use flat_names::design::{Design, Entry, Reset, Role};
+use flat_names::design::Design;
 use flat_names::fault::{Faults, Order, Rule, refused};
 use flat_names::printed::append_part;
-use flat_names::scope::{Look, Meaning, Names, define};
+use flat_names::scope::{Meaning, Names, define};
 use flat_process::always::add_process;
 use flat_process::assign::{add_assign, add_gate, add_wire_value};
 use flat_process::start::{add_declared_start, add_initial};
@@ -685,161 +683,4 @@ fn add_declared_value(
         }
         Some(value) => add_declared_start(alloc, place, decl, value, names, design),
     }
-}
-
-/// The inputs of the top come from outside, and those of one bit with the name of a reset resolve to it. Its outputs are
-/// listed in the order of its header.
-fn set_top_ports(
-    alloc: Global,
-    module: &Module,
-    resets: &[ResetPin],
-    names: &Names,
-    design: &mut Design,
-) -> Result<(), NoMemory>
-    ensures { (s : Stage) → ShowsStage resets.now names.now design.old s → AreFitNames s.names (length s.design.entries)
-        → IfOk result (λ _. ShowsStage resets.now names.now design.new (top_ports resets.now (header_of (module_of «module».now)) s)) }
-{
-    let pins = pins_by_name(alloc, resets)?;
-    for port in module.ports.as_slice() {
-        if let Some(sig) = port_signal(names, &port.name) {
-            set_top_port(sig, &pins, design)?;
-        }
-    }
-    Ok(())
-}
-
-/// The signal of a port, where it is declared.
-fn port_signal(names: &Names, name: &Name) -> Option<u32>
-    ensures { (s : meanings.Names) → ShowsNames names.now s → result ≡ if_signal (meanings.meaning_in s name.now) }
-{
-    match names.get(name) {
-        Some(meaning) => signal_of(*meaning),
-        None => None,
-    }
-}
-
-fn signal_of(meaning: Meaning) -> Option<u32>
-    ensures { result ≡ if_signal (option_and_then meanings.as_value (Some (meaning_of meaning))) }
-{
-    match meaning {
-        Meaning::Signal(sig) => Some(sig),
-        _ => None,
-    }
-}
-
-/// The first pin of each name. More pins than numbers count as want of memory.
-fn pins_by_name(alloc: Global, resets: &[ResetPin]) -> Result<IndexMap<Name, Reset>, NoMemory>
-    ensures { IfOk result (λ table. ShowsPins table resets.now) }
-{
-    let mut pins = IndexMap::new(alloc);
-    for (number, pin) in resets.iter().enumerate() {
-        let Ok(number) = u32::try_from(number) else {
-            return Err(NoMemory);
-        };
-        let reset = Reset {
-            pin: number,
-            is_high: pin.high,
-        };
-        add_pin(alloc, &mut pins, &pin.name, reset)?;
-    }
-    Ok(pins)
-}
-
-/// Adds a pin, unless one of that name is there.
-fn add_pin(
-    alloc: Global,
-    pins: &mut IndexMap<Name, Reset>,
-    name: &Name,
-    reset: Reset,
-) -> Result<(), NoMemory>
-    ensures { IfOk result (λ _. (x : Text) → pin_in pins.new x ≡ cond (is_some (pin_in pins.old name.now)) (pin_in pins.old x) (cond (pointwise ◌==◌ name.now x) (Some reset) (pin_in pins.old x))) }
-{
-    if pins.contains_key(name) {
-        return Ok(());
-    }
-    match pins.insert(name.copy(alloc)?, reset) {
-        Ok(_) => Ok(()),
-        Err(_) => Err(NoMemory),
-    }
-}
-
-fn set_top_port(sig: u32, pins: &IndexMap<Name, Reset>, design: &mut Design) -> Result<(), NoMemory>
-    ensures { (resets : List pin.ResetPin) (d : grown.Design) → ShowsPins pins.now resets → ShowsDesign resets design.old d → sig < length d.entries
-        → IfOk result (λ _. ShowsDesign resets design.new (top_port resets d (Some (meanings.a_signal sig)))) }
-{
-    if is_input(design, sig) {
-        set_top_input(design, sig, pins);
-        return Ok(());
-    }
-    push(&mut design.outputs, sig)
-}
-
-fn is_input(design: &Design, sig: u32) -> bool
-    ensures { (resets : List pin.ResetPin) (d : grown.Design) → ShowsDesign resets design.now d → result ≡ is_inward (meanings.direction_at d.entries sig) }
-{
-    match entry(design, sig) {
-        Some(entry) => entry.role == Role::Input,
-        None => false,
-    }
-}
-
-fn entry(design: &Design, sig: u32) -> Option<&Entry>
-    ensures { option_copied result ≡ slice_get design.now.entries.items sig }
-{
-    design
-        .entries
-        .get(usize::try_from(sig).unwrap_or(usize::MAX))
-}
-
-/// What comes from outside, with the reset that it resolves to.
-fn set_top_input(design: &mut Design, sig: u32, pins: &IndexMap<Name, Reset>)
-    ensures { (resets : List pin.ResetPin) (d : grown.Design) → ShowsPins pins.now resets → ShowsDesign resets design.old d
-        → ShowsDesign resets design.new (record d { entries = change_entry (top_input resets) sig d.entries }) }
-{
-    let reset = top_reset(design, sig, pins);
-    set_outside(&mut design.signals, sig);
-    set_reset(&mut design.entries, sig, reset);
-}
-
-fn set_outside(signals: &mut Vec<Signal>, sig: u32)
-    ensures { (s : ℕ) → slice_get signals.new.items s ≡ option_map (outside_if (s == sig)) (slice_get signals.old.items s) }
-{
-    if let Some(signal) = signals.get_mut(usize::try_from(sig).unwrap_or(usize::MAX)) {
-        signal.kind = SigKind::Input;
-    }
-}
-
-fn set_reset(entries: &mut Vec<Entry>, sig: u32, reset: Option<Reset>)
-    ensures { (s : ℕ) → slice_get entries.new.items s ≡ option_map (resolved_if reset (s == sig)) (slice_get entries.old.items s) }
-{
-    if let Some(entry) = entries.get_mut(usize::try_from(sig).unwrap_or(usize::MAX)) {
-        entry.reset = reset;
-    }
-}
-
-/// The reset that a signal resolves to as an input of the top.
-fn top_reset(design: &Design, sig: u32, pins: &IndexMap<Name, Reset>) -> Option<Reset>
-    ensures { (x : Entry) (y : Signal) → slice_get design.now.entries.items sig ≡ Some x → slice_get design.now.signals.items sig ≡ Some y → result ≡ cond (x.width == 1) (pin_in pins.now y.name) None }
-{
-    let entry = entry(design, sig)?;
-    let signal = signal(design, sig)?;
-    reset_named(&signal.name, entry.width, pins)
-}
-
-fn signal(design: &Design, sig: u32) -> Option<&Signal>
-    ensures { option_copied result ≡ slice_get design.now.signals.items sig }
-{
-    design
-        .signals
-        .get(usize::try_from(sig).unwrap_or(usize::MAX))
-}
-
-/// The reset that an input of the top resolves to: that of its name, where it has one bit.
-fn reset_named(name: &Name, width: u8, pins: &IndexMap<Name, Reset>) -> Option<Reset>
-    ensures { result ≡ cond (width == 1) (pin_in pins.now name.now) None }
-{
-    if width != 1 {
-        return None;
-    }
-    pins.get(name).copied()
 }

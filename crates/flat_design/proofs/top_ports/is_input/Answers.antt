@@ -1,6 +1,6 @@
 use Rattle.std.proofs.Common.{◌∙◌}
 use Rattle.flat_design.proofs.TopPorts.{role-input, side-is, side-none}
-use Rattle.flat_design.proofs.visit.is_input.Goals as goal
+use Rattle.flat_design.proofs.top_ports.is_input.Goals as goal
 
 pub returns-in-Some : goal.returns-in-Some
 returns-in-Some c = λ resets d h. let x = c.in-Some.entry.now in c.eq.ensures ∙ role-input x.role ∙ side-is resets c.args.design.now d h c.args.sig x c.in-Some.ensures

@@ -2,7 +2,7 @@ use Rattle.std.proofs.Common.{sym, subst, ◌∙◌}
 use Rattle.flat_names.specs.Designs.{ShowsDesign}
 use Rattle.flat_unfolding.specs.Names.{direction_at}
 use Rattle.flat_design.proofs.TopPorts.{in-port, out-port, shows-output, ok-if}
-use Rattle.flat_design.proofs.visit.set_top_port.Goals as goal
+use Rattle.flat_design.proofs.top_ports.set_top_port.Goals as goal
 
 pub returns-then-is_input : goal.returns-then-is_input
 returns-then-is_input c = λ resets d shows h few.

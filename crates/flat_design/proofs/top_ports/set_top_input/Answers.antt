@@ -1,5 +1,5 @@
 use Rattle.flat_design.proofs.TopInputs.{top-input-shown}
-use Rattle.flat_design.proofs.visit.set_top_input.Goals as goal
+use Rattle.flat_design.proofs.top_ports.set_top_input.Goals as goal
 
 pub returns : goal.returns
 returns c = λ resets d shows h.

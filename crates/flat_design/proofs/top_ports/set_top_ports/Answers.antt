@@ -8,8 +8,8 @@ use Rattle.flat_unfolding.specs.Unfolding.{top_port, top_ports}
 use Rattle.flat_names.specs.declared.design.Design.{Design}
 use Rattle.flat_names.specs.Designs.{ShowsDesign, ShowsStage}
 use Rattle.flat_design.proofs.TopPorts.{IsPortDone, port-done, port-passed}
-use Rattle.flat_design.proofs.visit.set_top_ports.Goals as goal
-use Rattle.flat_design.proofs.visit.set_top_ports.Goals.{in-Some+in_ok-set_top_port, in_default}
+use Rattle.flat_design.proofs.top_ports.set_top_ports.Goals as goal
+use Rattle.flat_design.proofs.top_ports.set_top_ports.Goals.{in-Some+in_ok-set_top_port, in_default}
 
 pub loop-port-preserved : goal.loop-port-preserved
 loop-port-preserved c = λ s shows fit.

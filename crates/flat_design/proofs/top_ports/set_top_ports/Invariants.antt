@@ -4,7 +4,7 @@ use Rattle.flat_unfolding.specs.Design.{Stage}
 use Rattle.flat_unfolding.specs.Unfolding.{top_ports}
 use Rattle.flat_names.specs.Designs.{ShowsStage}
 use Rattle.flat_design.specs.Visiting.{AreFitNames}
-use Rattle.flat_design.proofs.visit.set_top_ports.Given as goal
+use Rattle.flat_design.proofs.top_ports.set_top_ports.Given as goal
 
 abbrev pub invariant-loop-port : goal.invariant-loop-port
 invariant-loop-port l = (s : Stage) → ShowsStage l.resets l.names l.initial.design s → AreFitNames s.names (length s.design.entries)

@@ -4,7 +4,7 @@ use Rattle.std.proofs.lemmas.List.{drop_more}
 use Rattle.std.proofs.lemmas.Option.{slice_get-get_or}
 use Rattle.cdc_base.specs.declared.signal.ResetPin.{ResetPin}
 use Rattle.flat_design.proofs.Pins.{PinsSoFar, pins-more}
-use Rattle.flat_design.proofs.visit.pins_by_name.Goals as goal
+use Rattle.flat_design.proofs.top_ports.pins_by_name.Goals as goal
 
 pub loop-number-preserved : goal.loop-number-preserved
 loop-number-preserved c =
