@@ -9,6 +9,7 @@ use Rattle.flat_form.specs.declared.flat.Flat.{Flat}
 use Rattle.flat_form.specs.declared.flat.FlatAssign.{FlatAssign}
 use Rattle.flat_form.specs.declared.flat.FlatComb.{FlatComb}
 use Rattle.flat_form.specs.declared.flat.FlatClocked.{FlatClocked}
+use Rattle.flat_form.specs.declared.flat.FlatReset.{FlatReset}
 use Rattle.flat_form.specs.declared.flat.FExpr.{FExpr}
 use Rattle.flat_form.specs.declared.flat.FExpr.TheOpen.{FExpr-F}
 use Rattle.flat_form.specs.declared.flat.FExpr.TheFolds.{fold-FExpr}
@@ -129,3 +130,6 @@ flat_of f = record {
   clocked = map (λ (p : FlatClocked). (p.clock, stmt_of p.body)) f.clocked;
   outputs = f.outputs;
 }
+
+abbrev pub reset_of : FlatReset → Option ℕ × f.Stmt
+reset_of r = (r.edge, stmt_of r.branch)

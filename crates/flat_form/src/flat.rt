@@ -32,6 +32,14 @@ pub struct FlatClocked {
     pub body: FStmt,
 }
 
+/// What the reset of a clocked process tells of its drivers: the signal of its second edge, and the first branch of its
+/// reset form, or `Null`.
+#[derive(Drop)]
+pub struct FlatReset {
+    pub edge: Option<u32>,
+    pub branch: FStmt,
+}
+
 /// An expression. A `Number` stands for a number, a parameter, a maximal whole expression or a reset; a `Read` for a
 /// whole signal or a constant select, whose lowest bit is `at`; an `At` has a variable index; a `Gate` folds its inputs of
 /// one bit each from the left.

@@ -12,4 +12,4 @@ pub mod uses;
 pub mod value;
 pub mod whole;
 
-pub use flat::{FCaseItem, FExpr, FStmt, FTarget, Flat, FlatAssign, FlatClocked, FlatComb};
+pub use flat::{FCaseItem, FExpr, FStmt, FTarget, Flat, FlatAssign, FlatClocked, FlatComb, FlatReset};

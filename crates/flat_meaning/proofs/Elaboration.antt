@@ -1,8 +1,8 @@
 -- The law of elaboration.
-use Rattle.std.proofs.Common.{◌≡◌, ℕ, ◌+◌, ◌-◌, ◌<◌, ◌≤◌, Bool, true, false, cond, ◌&&◌, List, [], ◌∷◌, refl, sym, ap, ap₂, ◌∙◌, arith, lt-ltb, le-leb}
+use Rattle.std.proofs.Common.{◌≡◌, ℕ, zero, suc, ◌+◌, ◌-◌, ◌<◌, ◌≤◌, Bool, true, false, cond, ◌&&◌, List, [], ◌∷◌, refl, sym, ap, ap₂, subst, ◌∙◌, arith, lt-ltb, le-leb}
 use Rattle.std.specs.List.{AllByRecursion as Each}
 use Rattle.cell_graph.specs.Reading.{Reading}
-use Rattle.cell_graph.specs.Tree.{Tree, width, bit}
+use Rattle.cell_graph.specs.Tree.{Tree, Var, width, bit}
 use Rattle.flat_meaning.specs.Values.{Words}
 use Rattle.flat_meaning.specs.Flat.{Expr, Target, Stmt, assigns}
 use Rattle.flat_meaning.specs.Meaning.{run_clocked}
@@ -12,7 +12,7 @@ use Rattle.flat_meaning.specs.Law.{Shows, every, next_tree}
 use Rattle.flat_meaning.specs.Pieces.{pieces, comb_pieces, assigned_pieces, all_comb_pieces, Run, runs, run_pieces, IsRight}
 use Rattle.flat_meaning.specs.Design.{HoldsValue, IsKept, once, Flat, size_in, is_variable, Pin, given, bit_of, drivers, Consistent, next_in}
 use Rattle.flat_meaning.specs.Sound.{IsSoundAssign, inside, IsSoundComb, IsSoundClocked, IsSound}
-use Rattle.flat_meaning.specs.SignalTrees.{AreTrees, tree_of, next_tree_in}
+use Rattle.flat_meaning.specs.SignalTrees.{AreTrees, tree_of, sharing, giver, given_tree, next_tree_by, next_tree_in}
 use Rattle.flat_meaning.specs.Segments.{IsLoopFree}
 use Rattle.flat_meaning.specs.Elaboration.{LawOfElaboration}
 use Rattle.flat_meaning.proofs.Words.{IsWord, as_word, never, never_same}
@@ -21,6 +21,7 @@ use Rattle.flat_meaning.proofs.Depth.{by_bool, all_deep}
 use Rattle.flat_meaning.proofs.Placed.{each_of, of_each, each_map, each_and, each_left, each_right, each_hits, each_swap, some_piece, within, from_within}
 use Rattle.flat_meaning.proofs.Drivers.{driven, driven_times, driven_once, comb_in, comb_times, not_assigned}
 use Rattle.flat_meaning.proofs.Selects.{RightAt, select_word, value_word, AssignGives, CombGives, finished, right}
+use Rattle.flat_meaning.proofs.Shared.{joined_word, bit_by, by_sharing, bit_by_one, giver_bit}
 use Rattle.flat_meaning.proofs.Held.{pieces_right, held_bits, HasBits, piece_bit, no_bit, have_bits, run_keeps}
 
 -- a run's piece is a part of the whole tree at its own place
@@ -79,17 +80,44 @@ module _ (f : Flat) (sound : IsSound f) (free : IsLoopFree f) (sel : Selects) (a
     whole_word s h = as_word (given f pins r) (tree_word s 0 (size_in f s) (ap₂ (λ x y. x && y) (lt-ltb 0 (size_in f s) (omega arith)) (le-leb (0 + size_in f s) (size_in f s) (omega arith))))
         (λ i l. ap (v s) (let z : 0 + i ≡ i = omega arith in z))
 
+    -- the word that a clocked process gives a register
+    process_word : (body : Stmt) → IsSoundClocked f body → (s : ℕ) → assigns body s ≡ true → IsWord (given f pins r) (next_tree (size_in f) sel body s) (size_in f s) (run_clocked (size_in f) body v s)
+    process_word body h s z =
+        let q = clocked_law (given f pins r) v (size_in f) (inside f) sel sound.sized shows_all body h.fits (λ x i local l. sym (c.variables x i l (h.registers x local))) s z in
+        record { wide = q.0; bits = q.1 }
+
+    own_word : (s : ℕ) → is_variable f s ≡ true → IsWord (given f pins r) (Var s (size_in f s)) (size_in f s) (v s)
+    own_word s e = record { wide = refl; bits = λ i l. sym (c.variables s i l e) }
+
+    -- a process that assigns the register
+    abbrev Gives : ℕ → Stmt → Type 0
+    Gives s body = IsSoundClocked f body × (assigns body s ≡ true)
+
+    sharing_sound : (ps : List (ℕ × Stmt)) → Each (λ p. IsSoundClocked f p.1) ps → (s : ℕ) → Each (Gives s) (sharing ps s)
+    sharing_sound [] h s = tt
+    sharing_sound (p ∷ ps) h s = by_bool (assigns p.1 s)
+        (λ e. subst (λ (b : Bool). Each (Gives s) (cond b (p.1 ∷ sharing ps s) (sharing ps s))) (sym e) ((h.0, e), sharing_sound ps h.1 s))
+        (λ e. subst (λ (b : Bool). Each (Gives s) (cond b (p.1 ∷ sharing ps s) (sharing ps s))) (sym e) (sharing_sound ps h.1 s))
+
+    -- each numbered tree is a word of the register's size
+    given_word : (bodies : List Stmt) (s : ℕ) → is_variable f s ≡ true → Each (Gives s) bodies → (k : ℕ)
+        → IsWord (given f pins r) (given_tree (size_in f) sel bodies s k) (size_in f s) (λ i. bit (given f pins r) (given_tree (size_in f) sel bodies s k) i)
+    given_word [] s e h k = record { wide = refl; bits = λ i l. refl }
+    given_word (body ∷ bodies) s e h zero = record { wide = (process_word body h.0.0 s h.0.1).wide; bits = λ i l. refl }
+    given_word (body ∷ bodies) s e h (suc k) = given_word bodies s e h.1 k
+
+    next_by_word : (bodies : List Stmt) (s : ℕ) → is_variable f s ≡ true → Each (Gives s) bodies
+        → IsWord (given f pins r) (next_tree_by (size_in f) sel bodies s) (size_in f s) (bit_by (size_in f) v s bodies)
+    next_by_word [] s e h = own_word s e
+    next_by_word (body ∷ []) s e h = as_word (given f pins r) (process_word body h.0.0 s h.0.1) (λ i l. bit_by_one (size_in f) v s body i l)
+    next_by_word (body ∷ other ∷ bodies) s e h =
+        let all = body ∷ other ∷ bodies in
+        joined_word (given f pins r) (size_in f s) (sound.sized s) (given_tree (size_in f) sel all s) (giver (size_in f) all s) (bit_by (size_in f) v s all) (given_word all s e h)
+        (λ i l. giver_bit (size_in f) v s (given f pins r) sel all i l ((own_word s e).bits i l) (each_map (λ b k. (process_word b k.0 s k.1).bits i l) all h))
+
     next_word : (ps : List (ℕ × Stmt)) → Each (λ p. IsSoundClocked f p.1) ps → (s : ℕ) → is_variable f s ≡ true
         → IsWord (given f pins r) (next_tree_in (size_in f) sel ps s) (size_in f s) (next_in (size_in f) ps v s)
-    next_word [] h s e = record { wide = refl; bits = λ i l. sym (c.variables s i l e) }
-    next_word (p ∷ ps) h s e = go (assigns p.1 s) refl (next_word ps h.1 s e)
-      where
-        go : (u : Bool) → assigns p.1 s ≡ u → IsWord (given f pins r) (next_tree_in (size_in f) sel ps s) (size_in f s) (next_in (size_in f) ps v s)
-            → IsWord (given f pins r) (cond u (next_tree (size_in f) sel p.1 s) (next_tree_in (size_in f) sel ps s)) (size_in f s) (λ i. cond u (run_clocked (size_in f) p.1 v s i) (next_in (size_in f) ps v s i))
-        go true z rest =
-            let q = clocked_law (given f pins r) v (size_in f) (inside f) sel sound.sized shows_all p.1 h.0.fits (λ x i local l. sym (c.variables x i l (h.0.registers x local))) s z in
-            record { wide = q.0; bits = q.1 }
-        go false z rest = rest
+    next_word ps h s e = as_word (given f pins r) (next_by_word (sharing ps s) s e (sharing_sound ps h s)) (λ i l. by_sharing (size_in f) v s ps i)
 
   -- ---- and the bits of the trees are consistent
 

@@ -10,6 +10,7 @@ pub mod Placed
 pub mod Drivers
 pub mod Selects
 pub mod Held
+pub mod Shared
 pub mod Elaboration
 pub mod Examples
 pub mod Same

@@ -7,7 +7,7 @@ use Rattle.cdc_base.specs.declared.signal.Signal.{Signal}
 use Rattle.cdc_base.specs.declared.bit.Bit.{Bit}
 use Rattle.cell_graph.specs.Reading.{Reading}
 use Rattle.flat_meaning.specs.Values.{Word, Words}
-use Rattle.flat_meaning.specs.Flat.{Expr, Stmt, Target, Whole, Part, Pick, Group, Targets, no_targets, target, target_size, target_sizes, value_size, assigns}
+use Rattle.flat_meaning.specs.Flat.{Expr, Stmt, Target, Whole, Part, Pick, Group, Targets, no_targets, target, target_size, target_sizes, value_size}
 use Rattle.flat_meaning.specs.Meaning.{cat, value, index, run_blocking, run_clocked}
 use Rattle.flat_meaning.specs.Assigned.{is_within, may_assign}
 
@@ -114,10 +114,10 @@ pub record Consistent (f : Flat) (pins : ℕ → Pin) (r : Reading) (v : Words) 
   pub assigned : All (HoldsValue f v) f.assigns
   pub processed : All (IsKept f v) f.combs
 
--- the bit that the process of a register gives it; without one it keeps its bit
+-- the bit that a process gives a register's bit: the process that may assign it; one that none may assign keeps its bit
 abbrev pub next_in : (ℕ → ℕ) → List (ℕ × Stmt) → Words → (sig at : ℕ) → Bool
 next_in wid [] v s i = v s i
-next_in wid (p ∷ ps) v s i = cond (assigns p.1 s) (run_clocked wid p.1 v s i) (next_in wid ps v s i)
+next_in wid (p ∷ ps) v s i = cond (may_assign wid p.1 s i) (run_clocked wid p.1 v s i) (next_in wid ps v s i)
 
 abbrev pub Next : Flat → Words → (sig at : ℕ) → Bool
 Next f v s i = next_in (size_in f) f.clocked v s i

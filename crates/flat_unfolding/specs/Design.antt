@@ -1,5 +1,5 @@
 -- The design as it grows.
-use Rattle.std.specs.Prelude.{ℕ, zero, suc, false, List, [], ◌∷◌, ◌++◌}
+use Rattle.std.specs.Prelude.{ℕ, zero, suc, false, List, [], ◌∷◌, ◌++◌, Option}
 use Rattle.flat_meaning.specs.Flat.{Expr, Target, Stmt}
 use Rattle.flat_unfolding.specs.Names.{Names, Entry, Look}
 
@@ -20,12 +20,14 @@ pub record Design : Type 0 where
   pub assigns : List (Target × Expr)
   pub combs : List Stmt
   pub clocked : List (ℕ × Stmt)
+  -- for each clocked process the signal of its second edge, and the first branch of its reset form, or nothing
+  pub resets : List (Option ℕ × Stmt)
   pub outputs : List ℕ
   pub starts : List Start
   pub givens : List Given
 
 abbrev pub no_design : Design
-no_design = record { entries = []; assigns = []; combs = []; clocked = []; outputs = []; starts = []; givens = [] }
+no_design = record { entries = []; assigns = []; combs = []; clocked = []; resets = []; outputs = []; starts = []; givens = [] }
 
 -- a module that is visited: its names, and the design so far
 pub record Stage : Type 0 where

@@ -1,11 +1,11 @@
 -- What holds of every unfolding.
-use Rattle.std.specs.Prelude.{◌≡◌, ◌≢◌, ℕ, ◌+◌, ◌<◌, ◌≤◌, List, [], ◌∷◌, ◌++◌, length, map, All, Contains, Option, Some}
+use Rattle.std.specs.Prelude.{◌≡◌, ◌≢◌, ℕ, true, ◌+◌, ◌<◌, ◌≤◌, List, [], ◌∷◌, ◌++◌, length, map, All, Contains, Option, Some}
 use Rattle.cdc_base.specs.declared.signal.ResetPin.{ResetPin}
 use Rattle.verilog_reading.specs.SourceTree.{ModuleTree}
 use Rattle.flat_meaning.specs.Law.{AreWords}
 use Rattle.cdc_base.specs.declared.signal.SigKind.TheVariants.{Register}
-use Rattle.flat_meaning.specs.Flat.{Stmt}
-use Rattle.flat_meaning.specs.Design.{Flat, size_in, kind_in, drivers}
+use Rattle.flat_meaning.specs.Flat.{Stmt, assigns}
+use Rattle.flat_meaning.specs.Design.{Flat, size_in, kind_in, drivers, times_processed}
 use Rattle.flat_meaning.specs.Sound.{IsSound}
 use Rattle.flat_unfolding.specs.Drivers.{assigned_by, bodies}
 use Rattle.flat_unfolding.specs.Outcome.{Text, Broken, Order, first_of_all, good}
@@ -72,14 +72,17 @@ SizesLaw = (modules : List ModuleTree) → IsSourceFormed modules → (top : Tex
 abbrev pub SoundLaw : Type 0
 SoundLaw = (modules : List ModuleTree) → IsSourceFormed modules → (top : Text) (resets : List ResetPin) (f : Flat) → unfolded modules top resets ≡ good f → IsSound f
 
--- what the layers above may rest on: one clocked process assigns a register, none another signal, and a clock has one bit
-pub record IsClockedOnce (f : Flat) : Type 0 where
-  pub registers : (s : ℕ) → kind_in f.signals s ≡ Register → assigned_by (bodies f) s ≡ 1
+-- what the layers above may rest on: clocked processes assign registers and nothing else, each bit of a register at most one of them, and
+-- those of one register have one clock; a clock has one bit
+pub record IsWellClocked (f : Flat) : Type 0 where
+  pub registers : (s : ℕ) → kind_in f.signals s ≡ Register → 1 ≤ assigned_by (bodies f) s
   pub others : (s : ℕ) → kind_in f.signals s ≢ Register → assigned_by (bodies f) s ≡ 0
+  pub bits : (s i : ℕ) → i < size_in f s → times_processed (size_in f) s i (bodies f) ≤ 1
+  pub one_clock : (s : ℕ) → All (λ (p : ℕ × Stmt). All (λ (q : ℕ × Stmt). assigns p.1 s ≡ true → assigns q.1 s ≡ true → p.0 ≡ q.0) f.clocked) f.clocked
   pub clocks : All (λ (p : ℕ × Stmt). size_in f p.0 ≡ 1) f.clocked
 
-abbrev pub ClockedOnceLaw : Type 0
-ClockedOnceLaw = (modules : List ModuleTree) → IsSourceFormed modules → (top : Text) (resets : List ResetPin) (f : Flat) → unfolded modules top resets ≡ good f → IsClockedOnce f
+abbrev pub WellClockedLaw : Type 0
+WellClockedLaw = (modules : List ModuleTree) → IsSourceFormed modules → (top : Text) (resets : List ResetPin) (f : Flat) → unfolded modules top resets ≡ good f → IsWellClocked f
 
 -- with the widths that it keeps: where each is the size of what it stands for, a flat design that unfolds so is well sized
 abbrev pub WellSizedLaw : Type 0

@@ -1,5 +1,5 @@
 -- `always`: processes of wires and clocked ones.
-use Rattle.std.specs.Prelude.{ℕ, Bool, true, false, cond, not, ◌&&◌, ◌||◌, ◌==◌, List, [], ◌∷◌, ◌++◌, flat_map, Option, Some, None, unwrap_or}
+use Rattle.std.specs.Prelude.{ℕ, Bool, true, false, cond, not, ◌&&◌, ◌||◌, ◌==◌, List, [], ◌∷◌, ◌++◌, flat_map, Option, Some, None, unwrap_or, option_and_then}
 use Rattle.std.specs.Option.{option_map_or}
 use Rattle.cdc_base.specs.declared.fault.Place.{Place}
 use Rattle.verilog_ast.specs.declared.Edge.{Edge}
@@ -8,7 +8,7 @@ use Rattle.verilog_ast.specs.declared.EdgeKind.TheVariants as edge
 use Rattle.verilog_ast.specs.declared.Event.{Event}
 use Rattle.verilog_ast.specs.declared.Event.TheVariants as event
 use Rattle.verilog_reading.specs.StmtTree.{StmtTree}
-use Rattle.flat_meaning.specs.Flat.{Stmt}
+use Rattle.flat_meaning.specs.Flat.{Stmt, Null}
 use Rattle.flat_unfolding.specs.Outcome.{Text, Broken, breaks, breaks_if, Outcome, judged, by_number}
 use Rattle.flat_unfolding.specs.Names.{Meaning, a_signal, Look, meaning, width_at, unknown}
 use Rattle.flat_unfolding.specs.Statements.{of_wires, clocked, neither, Kind, done}
@@ -87,6 +87,17 @@ module _ (look : Look) where
   reset_gives None = []
   reset_gives (Some f) = unwrap_or f.given []
 
+  -- what drivers need to know of the reset: the signal of the second edge, and the first branch
+  abbrev pub reset_branch : Option ResetForm → Stmt
+  reset_branch None = Null
+  reset_branch (Some f) = (done look clocked f.branch).stmt
+
+  abbrev pub second_signal : List Edge → Option ℕ
+  second_signal edges = option_and_then (λ (e : Edge). meant_clock (meaning look e.name)) (second_of edges)
+
+  abbrev pub reset_of : List Edge → StmtTree → Option ℕ × Stmt
+  reset_of edges body = (second_signal edges, reset_branch (form_of edges body))
+
 abbrev pub wires_process : Stage → Place → StmtTree → Outcome Stage
 wires_process s p body = let look = look_of s in let b = done look of_wires body in
     judged by_number p (b.broken ++ latch_rule look.entries b.stmt) (with_design s (record s.design { combs = s.design.combs ++ (b.stmt ∷ []) }))
@@ -95,6 +106,7 @@ abbrev pub clocked_process : Stage → Place → List Edge → StmtTree → Outc
 clocked_process s p edges body = let look = look_of s in
     judged by_number p (clocked_rules look edges body) (with_design s (record s.design {
       clocked = s.design.clocked ++ ((unwrap_or (clock_of look edges) 0, clocked_body look edges body) ∷ []);
+      resets = s.design.resets ++ (reset_of look edges body ∷ []);
       givens = s.design.givens ++ reset_gives look (form_of look edges body);
     }))
 

@@ -122,15 +122,16 @@ module _ (look : Look) where
   branch_given (block rows) = rows_given rows
   branch_given s = row_given s
 
--- a process in reset form: the signals of its condition, what its first branch gives where that has its form, and its `else`
+-- a process in reset form: the signals of its condition, its first branch, what that gives where it has its form, and its `else`
 pub record ResetForm : Type 0 where
   pub signals : List ℕ
+  pub branch : StmtTree
   pub given : Option (List Given)
   pub rest : StmtTree
 
 abbrev pub form_in : Look → StmtTree → Option ResetForm
-form_in look (when c s) = option_map (λ ss. record { signals = ss; given = branch_given look s; rest = null }) (reset_signals look c)
-form_in look (either c s z) = option_map (λ ss. record { signals = ss; given = branch_given look s; rest = z }) (reset_signals look c)
+form_in look (when c s) = option_map (λ ss. record { signals = ss; branch = s; given = branch_given look s; rest = null }) (reset_signals look c)
+form_in look (either c s z) = option_map (λ ss. record { signals = ss; branch = s; given = branch_given look s; rest = z }) (reset_signals look c)
 form_in look s = None
 
 abbrev pub reset_form : Look → StmtTree → Option ResetForm

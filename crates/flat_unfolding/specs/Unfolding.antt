@@ -9,6 +9,7 @@ use Rattle.verilog_ast.specs.declared.DeclKind.TheVariants as k
 use Rattle.verilog_ast.specs.declared.Source.{Source}
 use Rattle.verilog_reading.specs.ExprTree.{ExprTree, whole}
 use Rattle.verilog_reading.specs.SourceTree.{DeclTree, ConnsTree, ItemTree, BodyTree, param, decl, assign, gate, instance, always, initial, ModuleTree, source_of}
+use Rattle.flat_meaning.specs.Flat.{Stmt}
 use Rattle.flat_meaning.specs.Design.{Flat}
 use Rattle.flat_form.specs.declared.flat.Flat as f
 use Rattle.flat_form.specs.View.{flat_of}
@@ -113,11 +114,11 @@ modules_differ modules = go (module_twice [] modules)
     go None = good tt
     go (Some m) = refused 304 (Some m.place) m.name
 
-abbrev pub checked : Flat → Outcome Flat
-checked f = then_ (driven_once f) (λ u. good f)
+abbrev pub checked : Flat → List (Option ℕ × Stmt) → Outcome Flat
+checked f resets = then_ (driven_once f resets) (λ u. good f)
 
 abbrev pub finished : Design → Outcome Flat
-finished d = checked (flat_design d)
+finished d = checked (flat_design d) d.resets
 
 abbrev pub from_top : List ModuleTree → List ResetPin → (top : Text) → Option ModuleTree → Outcome Flat
 from_top modules resets top None = refused 301 None top

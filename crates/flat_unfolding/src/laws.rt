@@ -1,5 +1,5 @@
 //! What holds of every unfolding.
-ghost use Rattle.flat_unfolding.specs.Laws.{OneIsToldLaw, FirstIsToldLaw, OneDriverLaw, LimitsLaw, DepthLaw, NumbersLaw, SizesLaw, WellSizedLaw, SoundLaw, ClockedOnceLaw};
+ghost use Rattle.flat_unfolding.specs.Laws.{OneIsToldLaw, FirstIsToldLaw, OneDriverLaw, LimitsLaw, DepthLaw, NumbersLaw, SizesLaw, WellSizedLaw, SoundLaw, WellClockedLaw};
 
 /// Of the rules that an item breaks, the refusal tells the one that is tried first.
 pub fn first_rule_is_told()
@@ -38,7 +38,7 @@ pub fn unfoldings_are_sound()
     ensures { SoundLaw }
 {}
 
-/// A register is what exactly one clocked process assigns; clocks have one bit.
-pub fn registers_have_one_process()
-    ensures { ClockedOnceLaw }
+/// A register is what clocked processes of one clock assign, each bit at most one of them; clocks have one bit.
+pub fn registers_have_one_clock()
+    ensures { WellClockedLaw }
 {}
