@@ -1,5 +1,5 @@
 -- The flat designs that the Rust types stand for, without pointers. The widths that the types keep are left out: a size is computed.
-use Rattle.std.specs.Prelude.{List, [], ◌∷◌, map, Option, Some, None, Box}
+use Rattle.std.specs.Prelude.{ℕ, List, [], ◌∷◌, map, Option, Some, None, Box}
 use Rattle.std.specs.declared.alloc.Global.{Global}
 use Rattle.verilog_ast.specs.declared.UnaryOp.{UnaryOp}
 use Rattle.verilog_ast.specs.declared.UnaryOp.TheVariants as u

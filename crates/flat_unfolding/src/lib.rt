@@ -8,5 +8,5 @@ pub mod laws;
 
 pub use laws::{
     bits_have_one_driver, depth_is_no_rule, first_rule_is_told, limits_are_kept,
-    registers_have_one_process, signals_keep_their_numbers, unfoldings_are_sound, words_have_bits,
+    registers_have_one_clock, signals_keep_their_numbers, unfoldings_are_sound, words_have_bits,
 };
