@@ -1,5 +1,5 @@
 -- Counts of drivers: what assigns a signal counts, and the trial of drivers leaves no more than one process.
-use Rattle.std.proofs.Common.{◌≡◌, ℕ, zero, suc, ◌+◌, ◌^◌, ◌<◌, ◌≤◌, Bool, true, false, ◌&&◌, ◌==◌, nat_le, List, [], ◌∷◌, ◌++◌, map, Some, refl, sym, ap, subst, ◌∙◌, arith, rules, eqb-true, leb-false}
+use Rattle.std.proofs.Common.{◌≡◌, ℕ, zero, suc, ◌+◌, ◌^◌, ◌<◌, ◌≤◌, Bool, true, false, ◌&&◌, ◌||◌, ◌==◌, nat_le, List, [], ◌∷◌, ◌++◌, map, Option, Some, refl, sym, ap, subst, ◌∙◌, arith, rules, eqb-true, leb-false, le-leb}
 use Rattle.std.specs.Prelude.{slice_get, All}
 use Rattle.std.specs.List.{list_any}
 use Rattle.std.proofs.lemmas.Bool.{or_parts}
@@ -12,12 +12,13 @@ use Rattle.flat_meaning.specs.Design.{Flat, size_in, once, times_in, all_times_i
 use Rattle.flat_meaning.proofs.Drivers.{not_assigned}
 use Rattle.flat_unfolding.specs.Outcome.{good}
 use Rattle.flat_unfolding.specs.Reads.{first_from}
-use Rattle.flat_unfolding.specs.Drivers.{assigned_by, bodies, all_drivers, is_double, refuse_first, is_undriven, driven_once}
+use Rattle.flat_unfolding.specs.Drivers.{assigned_by, bodies, is_clocked, all_drivers, processes, times_driven, have_other_edges, is_shared, is_double, refuse_first, is_undriven, driven_once}
 use Rattle.flat_unfolding.specs.Sized.{IsTargetSized, AreTargetsSized, IsStmtSized, AreItemsSized, AreStmtsSized}
 use Rattle.flat_unfolding.proofs.Steps.{good_then, some_is}
 use Rattle.flat_unfolding.proofs.OneDriver.{no_bit_breaks, none_from, no_bit}
 use Rattle.flat_unfolding.proofs.Grown.{all_on}
 use Rattle.flat_unfolding.proofs.Alike.{either}
+use Rattle.flat_unfolding.proofs.Apart.{fewer_bodies, OneClock, clock_of_all}
 use Rattle.flat_unfolding.proofs.Fit.{true_left, true_right}
 
 -- ---- what is assigned is declared, and may be a target
@@ -207,27 +208,53 @@ no_signal_breaks rule p n (y ∷ xs) u e (suc s) i x f l =
     let h : n + suc s ≡ suc n + s = omega arith in
     ap (λ k. p k x i) h ∙ no_signal_breaks rule p (suc n) xs u g.1 s i x f l
 
-module _ (f : Flat) (u : Unit {0}) (tried : driven_once f ≡ good u) where
-  pub not_double : (s i : ℕ) → i < size_in f s → is_double f s i ≡ false
+-- clocked processes count as one driver
+pub clocked_counts : (f : Flat) (s : ℕ) → 1 ≤ assigned_by (bodies f) s → once (is_clocked f s) ≡ 1
+clocked_counts f s l = ap once (le-leb 1 (assigned_by (bodies f) s) l)
+
+pub unclocked_counts : (f : Flat) (s : ℕ) → assigned_by (bodies f) s ≡ 0 → once (is_clocked f s) ≡ 0
+unclocked_counts f s e = ap (λ n. once (nat_le 1 n)) e
+
+module _ (f : Flat) (resets : List (Option ℕ × Stmt)) (u : Unit {0}) (tried : driven_once f resets ≡ good u) where
+  abbrev times : (s i : ℕ) → ℕ
+  times s i = times_driven (size_in f) (processes f.clocked resets) s i
+
+  pub not_double : (s i : ℕ) → i < size_in f s → is_double f resets s i ≡ false
   not_double s i l =
-      let g = good_then (refuse_first 309 (λ s x i. is_double f s i) 0 f.signals) (λ w. refuse_first 310 (is_undriven f) 0 f.signals) u tried in
+      let g = good_then (refuse_first 309 (λ s x i. is_double f resets s i) 0 f.signals) (λ w. refuse_first 310 (is_undriven f) 0 f.signals) u tried in
       let z : 0 + s ≡ s = omega arith in
-      sym (ap (λ m. is_double f m i) z) ∙ no_bit_breaks 309 (is_double f) 0 f.signals g.0 g.1 s i l
+      sym (ap (λ m. is_double f resets m i) z) ∙ no_bit_breaks 309 (is_double f resets) 0 f.signals g.0 g.1 s i l
 
   pub not_undriven : (s i : ℕ) (x : Signal) → slice_get f.signals s ≡ Some x → i < x.width → is_undriven f s x i ≡ false
   not_undriven s i x e l =
-      let g = good_then (refuse_first 309 (λ s x i. is_double f s i) 0 f.signals) (λ w. refuse_first 310 (is_undriven f) 0 f.signals) u tried in
+      let g = good_then (refuse_first 309 (λ s x i. is_double f resets s i) 0 f.signals) (λ w. refuse_first 310 (is_undriven f) 0 f.signals) u tried in
       let z : 0 + s ≡ s = omega arith in
       sym (ap (λ m. is_undriven f m x i) z) ∙ no_signal_breaks 310 (is_undriven f) 0 f.signals u g.2 s i x e l
 
-  -- a bit has one driver at most, and a signal one process
-  pub few_drivers : (s i : ℕ) → i < size_in f s → all_drivers f s i ≤ 1
-  few_drivers s i l =
-      let d = or_parts (nat_le 2 (all_drivers f s i)) (nat_le 2 (assigned_by (f.combs ++ bodies f) s)) (not_double s i l) in
-      let m = leb-false 2 (all_drivers f s i) d.0 in omega arith
+  -- the three ways in which a bit has two drivers
+  not_twice : (s i : ℕ) → i < size_in f s → (nat_le 2 (all_drivers f s i) ≡ false) × (nat_le 2 (times s i) ≡ false) × (is_shared f resets s ≡ false)
+  not_twice s i l =
+      let d = or_parts (nat_le 2 (all_drivers f s i) || nat_le 2 (times s i)) (is_shared f resets s) (not_double s i l) in
+      let e = or_parts (nat_le 2 (all_drivers f s i)) (nat_le 2 (times s i)) d.0 in (e.0, e.1, d.1)
 
-  pub few_processes : (s : ℕ) → 1 ≤ size_in f s → assigned_by f.combs s + assigned_by (bodies f) s ≤ 1
+  -- a bit has one driver at most
+  pub few_drivers : (s i : ℕ) → i < size_in f s → all_drivers f s i ≤ 1
+  few_drivers s i l = let m = leb-false 2 (all_drivers f s i) (not_twice s i l).0 in omega arith
+
+  -- and one clocked process at most assigns it
+  pub few_bodies : (s i : ℕ) → i < size_in f s → times_processed (size_in f) s i (bodies f) ≤ 1
+  few_bodies s i l = let m = leb-false 2 (times s i) (not_twice s i l).1 in let n = fewer_bodies (size_in f) s i f.clocked resets in omega arith
+
+  not_shared : (s : ℕ) → 1 ≤ size_in f s → is_shared f resets s ≡ false
+  not_shared s l = (not_twice s 0 (let k : 0 < size_in f s = omega arith in k)).2
+
+  -- a signal has one process of wires, or clocked ones
+  pub few_processes : (s : ℕ) → 1 ≤ size_in f s → assigned_by f.combs s + once (is_clocked f s) ≤ 1
   few_processes s l =
-      let d = or_parts (nat_le 2 (all_drivers f s 0)) (nat_le 2 (assigned_by (f.combs ++ bodies f) s)) (not_double s 0 (let k : 0 < size_in f s = omega arith in k)) in
-      let m = leb-false 2 (assigned_by (f.combs ++ bodies f) s) d.1 in
-      let e = assigned_by_both f.combs (bodies f) s in omega arith
+      let d = or_parts (nat_le 2 (assigned_by f.combs s + once (is_clocked f s))) (have_other_edges (processes f.clocked resets) s) (not_shared s l) in
+      let m = leb-false 2 (assigned_by f.combs s + once (is_clocked f s)) d.0 in omega arith
+
+  pub one_clock : (s : ℕ) → 1 ≤ size_in f s → OneClock s f.clocked
+  one_clock s l =
+      let d = or_parts (nat_le 2 (assigned_by f.combs s + once (is_clocked f s))) (have_other_edges (processes f.clocked resets) s) (not_shared s l) in
+      clock_of_all s f.clocked resets d.1

@@ -20,6 +20,7 @@ pub mod Visited
 pub mod Alike
 pub mod Directed
 pub mod Fit
+mod Apart
 pub mod Driven
 pub mod Sound
 pub mod Widths

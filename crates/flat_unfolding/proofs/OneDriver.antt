@@ -1,10 +1,11 @@
 -- No bit of an unfolding has two drivers.
 use Rattle.std.proofs.Common.{◌≡◌, ℕ, zero, suc, ◌+◌, ◌<◌, ◌≤◌, Bool, true, false, cond, ◌||◌, nat_le, List, [], ◌∷◌, Option, Some, None, refl, sym, ap, ◌∙◌, arith, rules, leb-false}
 use Rattle.cdc_base.specs.declared.signal.Signal.{Signal}
+use Rattle.flat_meaning.specs.Flat.{Stmt}
 use Rattle.flat_meaning.specs.Design.{Flat, size_in, width_in, drivers}
 use Rattle.flat_unfolding.specs.Outcome.{Outcome, good}
 use Rattle.flat_unfolding.specs.Reads.{first_from}
-use Rattle.flat_unfolding.specs.Drivers.{all_drivers, is_double, is_undriven, refuse_bit, refuse_first, driven_once}
+use Rattle.flat_unfolding.specs.Drivers.{all_drivers, processes, times_driven, is_double, is_undriven, refuse_bit, refuse_first, driven_once}
 use Rattle.flat_unfolding.proofs.Steps.{good_then}
 
 -- nothing that is found: no number passes the test
@@ -40,11 +41,11 @@ left_false true b e = absurd (search (rules, e))
 left_false false b e = refl
 
 -- a design that the trial of drivers accepts
-pub one_driver : (f : Flat) (u : Unit {0}) → driven_once f ≡ good u → (s i : ℕ) → i < size_in f s → drivers f s i ≤ 1
-one_driver f u e s i l =
-    let g = good_then (refuse_first 309 (λ s x i. is_double f s i) 0 f.signals) (λ w. refuse_first 310 (is_undriven f) 0 f.signals) u e in
-    let h = no_bit_breaks 309 (is_double f) 0 f.signals g.0 g.1 s i l in
+pub one_driver : (f : Flat) (resets : List (Option ℕ × Stmt)) (u : Unit {0}) → driven_once f resets ≡ good u → (s i : ℕ) → i < size_in f s → drivers f s i ≤ 1
+one_driver f resets u e s i l =
+    let g = good_then (refuse_first 309 (λ s x i. is_double f resets s i) 0 f.signals) (λ w. refuse_first 310 (is_undriven f) 0 f.signals) u e in
+    let h = no_bit_breaks 309 (is_double f resets) 0 f.signals g.0 g.1 s i l in
     let k : 0 + s ≡ s = omega arith in
-    let d = left_false (nat_le 2 (all_drivers f s i)) _ (sym (ap (λ m. is_double f m i) k) ∙ h) in
+    let d = left_false (nat_le 2 (all_drivers f s i)) _ (left_false (nat_le 2 (all_drivers f s i) || nat_le 2 (times_driven (size_in f) (processes f.clocked resets) s i)) _ (sym (ap (λ m. is_double f resets m i) k) ∙ h)) in
     let m = leb-false 2 (all_drivers f s i) d in
     omega arith

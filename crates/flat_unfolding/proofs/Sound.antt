@@ -23,7 +23,7 @@ use Rattle.flat_unfolding.specs.Design.{Design}
 use Rattle.flat_unfolding.specs.Signals.{is_register, kind_of, signals_from, flat_design}
 use Rattle.flat_unfolding.specs.Drivers.{assigned_by, bodies, all_drivers, is_read, is_from_outside, driven_once}
 use Rattle.flat_unfolding.specs.Sized.{IsTargetSized, AreTargetsSized, IsStmtSized}
-use Rattle.flat_unfolding.specs.Laws.{SoundLaw, IsClockedOnce, ClockedOnceLaw}
+use Rattle.flat_unfolding.specs.Laws.{SoundLaw, IsWellClocked, WellClockedLaw}
 use Rattle.flat_unfolding.proofs.Steps.{good_is, good_then}
 use Rattle.flat_unfolding.proofs.OneDriver.{one_driver}
 use Rattle.flat_unfolding.proofs.Known.{reg_at, top_at}
@@ -32,7 +32,8 @@ use Rattle.flat_unfolding.proofs.Grown.{is_declared_at, has_bits, all_on, expr_a
 use Rattle.flat_unfolding.proofs.Stages.{IsEntry, words_of, drivable_at, IsAssignIn, IsCombIn, IsClockedIn, IsDesign}
 use Rattle.flat_unfolding.proofs.Alike.{either, no_latch_on}
 use Rattle.flat_unfolding.proofs.Fit.{fits, good as good_bits, stmt_fits, early_read, stmt_reads_in}
-use Rattle.flat_unfolding.proofs.Driven.{assigned_is, never_timed, counted, registered, unregistered, among, any_front, all_and, all_swap, only, timed, not_undriven, few_drivers, few_processes}
+use Rattle.flat_unfolding.proofs.Driven.{assigned_is, never_timed, counted, registered, unregistered, among, any_front, all_and, all_swap, only, timed, clocked_counts, unclocked_counts, not_undriven, few_drivers, few_bodies, few_processes, one_clock}
+use Rattle.flat_unfolding.proofs.Apart.{HasClock}
 use Rattle.flat_unfolding.proofs.Visits.{signal_widths}
 use Rattle.flat_unfolding.proofs.Visited.{flat_agrees, reached}
 
@@ -89,7 +90,7 @@ not_outside Wire e = refl
 both_false : (a b : Bool) → a ≡ false → b ≡ false → (a || b) ≡ false
 both_false a b h k = ap₂ (λ p q. p || q) h k
 
-module _ (d : Design) (h : IsDesign d) (u : Unit {0}) (ok : driven_once (flat_design d) ≡ good u) where
+module _ (d : Design) (h : IsDesign d) (u : Unit {0}) (ok : driven_once (flat_design d) d.resets ≡ good u) where
   abbrev f : Flat
   f = flat_design d
 
@@ -142,7 +143,7 @@ module _ (d : Design) (h : IsDesign d) (u : Unit {0}) (ok : driven_once (flat_de
     where
       go : (b : Bool) → is_register d s ≡ b → b ≡ false
       go false e = refl
-      go true e = let r = registered d.clocked s e in let n = few_drivers f u ok s i l in absurd (omega (arith, r, n, t))
+      go true e = let r = clocked_counts f s (registered d.clocked s e) in let n = few_drivers f d.resets u ok s i l in absurd (omega (arith, r, n, t))
 
   not_top : (t : Target) (s i : ℕ) → IsTargetSized flat (drivable_at d.entries) t → 1 ≤ times_in flat s i t → (top_at d.entries s ≡ false) × (reg_at d.entries s ≡ false)
   not_top t s i k n = go (drivable_at d.entries s) refl
@@ -243,7 +244,7 @@ module _ (d : Design) (h : IsDesign d) (u : Unit {0}) (ok : driven_once (flat_de
         go false k = refl
         go true k =
             let t = assigned_is flat (reg_at d.entries) b body s e in
-            let r = registered d.clocked s k in let n = m.counts s e in let p = few_processes f u ok s t.1 in absurd (omega (arith, r, n, p))
+            let r = clocked_counts f s (registered d.clocked s k) in let n = m.counts s e in let p = few_processes f d.resets u ok s t.1 in absurd (omega (arith, r, n, p))
 
     comb_wires : (s : ℕ) → assigns b s ≡ true → is_variable f s ≡ false
     comb_wires s e =
@@ -284,11 +285,11 @@ module _ (d : Design) (h : IsDesign d) (u : Unit {0}) (ok : driven_once (flat_de
         go (Some x) k =
             let w : flat s ≡ x.width = (rw k refl) in
             let v : kind_is_variable x.kind ≡ false = (rw k at wire) in
-            let n = not_undriven f u ok s i x k (subst (λ y. i < y) w l) in
+            let n = not_undriven f d.resets u ok s i x k (subst (λ y. i < y) w l) in
             let a = some (all_drivers f s i) (holds (is_from_outside x.kind) (is_read f s i) (all_drivers f s i == 0) n (not_outside x.kind v) read) in
             let t = assigned_is flat (reg_at d.entries) b body s e in
-            let p = few_processes f u ok s t.1 in
-            let z = unregistered d.clocked s (comb_unregistered s e) in
+            let p = few_processes f d.resets u ok s t.1 in
+            let z = unclocked_counts f s (unregistered d.clocked s (comb_unregistered s e)) in
             let y = none_assigned s i t.0 d.assigns h.assigns in
             m.alone s i (let q : assigned_by d.combs s ≤ 1 = omega (arith, p) in q) (let q : 1 ≤ times_processed flat s i d.combs = omega (arith, a, z, y) in q) e
 
@@ -344,7 +345,7 @@ module _ (d : Design) (h : IsDesign d) (u : Unit {0}) (ok : driven_once (flat_de
     clocked = all_clocked;
     clocks = all_on (IsClockedIn d.entries) (λ (p : ℕ × Stmt). 1 ≤ flat p.0) d.clocked (λ p k. let e = same p.0 ∙ k.0 in let l : 1 ≤ flat p.0 = omega arith in l) h.clocked;
     outputs = all_outputs;
-    one_driver = one_driver f u ok;
+    one_driver = one_driver f d.resets u ok;
   }
 
   -- ---- registers
@@ -355,11 +356,11 @@ module _ (d : Design) (h : IsDesign d) (u : Unit {0}) (ok : driven_once (flat_de
       either (assigns p.1 s) (list_any (λ (q : ℕ × Stmt). assigns q.1 s) ps) e (λ a. (assigned_is wid (reg_at d.entries) p.1 (All-head (IsClockedIn d.entries) p ps k).1 s a).1)
       (any_assigned s ps (All-tail (IsClockedIn d.entries) p ps k))
 
-  registers_once : (s : ℕ) → kind_in f.signals s ≡ Register → assigned_by (bodies f) s ≡ 1
-  registers_once s e =
-      let k = register_kind d 0 d.entries s e in
-      let r = registered d.clocked s (subst (λ n. is_register d n ≡ true) (let z : 0 + s ≡ s = omega arith in z) k.1) in
-      let p = few_processes f u ok s (subst (λ w. 1 ≤ w) (sym (same s)) (has_bits d.entries s k.0)) in omega arith
+  register_size : (s : ℕ) → kind_in f.signals s ≡ Register → 1 ≤ flat s
+  register_size s e = subst (λ w. 1 ≤ w) (sym (same s)) (has_bits d.entries s (register_kind d 0 d.entries s e).0)
+
+  registers_assigned : (s : ℕ) → kind_in f.signals s ≡ Register → 1 ≤ assigned_by (bodies f) s
+  registers_assigned s e = registered d.clocked s (subst (λ n. is_register d n ≡ true) (let z : 0 + s ≡ s = omega arith in z) (register_kind d 0 d.entries s e).1)
 
   others_none : (s : ℕ) → kind_in f.signals s ≢ Register → assigned_by (bodies f) s ≡ 0
   others_none s n = unregistered d.clocked s (go (is_register d s) refl)
@@ -370,10 +371,18 @@ module _ (d : Design) (h : IsDesign d) (u : Unit {0}) (ok : driven_once (flat_de
           let l = is_declared_at d.entries s (any_assigned s d.clocked h.clocked e) in
           absurd (n (kind_register d 0 d.entries s l (subst (λ k. is_register d k ≡ true) (let z : s ≡ 0 + s = omega arith in z) e)))
 
-  pub clocked_once : IsClockedOnce f
-  clocked_once = record {
-    registers = registers_once;
+  registers_clock : (s : ℕ) → kind_in f.signals s ≡ Register → All (λ (p : ℕ × Stmt). All (λ (q : ℕ × Stmt). assigns p.1 s ≡ true → assigns q.1 s ≡ true → p.0 ≡ q.0) d.clocked) d.clocked
+  registers_clock s e =
+      let one = one_clock f d.resets u ok s (register_size s e) in
+      all_on (HasClock s one.0) (λ (p : ℕ × Stmt). All (λ (q : ℕ × Stmt). assigns p.1 s ≡ true → assigns q.1 s ≡ true → p.0 ≡ q.0) d.clocked) d.clocked
+      (λ p h. all_on (HasClock s one.0) (λ (q : ℕ × Stmt). assigns p.1 s ≡ true → assigns q.1 s ≡ true → p.0 ≡ q.0) d.clocked (λ q k a b. sym (h a) ∙ k b) one.1) one.1
+
+  pub well_clocked : IsWellClocked f
+  well_clocked = record {
+    registers = registers_assigned;
     others = others_none;
+    bits = few_bodies f d.resets u ok;
+    one_clock = registers_clock;
     clocks = all_on (IsClockedIn d.entries) (λ (p : ℕ × Stmt). flat p.0 ≡ 1) d.clocked (λ p k. same p.0 ∙ k.0) h.clocked;
   }
 
@@ -382,11 +391,11 @@ module _ (d : Design) (h : IsDesign d) (u : Unit {0}) (ok : driven_once (flat_de
 pub sound_law : SoundLaw
 sound_law modules formed top resets f e =
     let r = reached modules formed top resets f e in
-    let g = good_then (driven_once (flat_design r.0)) (λ u. good (flat_design r.0)) f r.2 in
+    let g = good_then (driven_once (flat_design r.0) r.0.resets) (λ u. good (flat_design r.0)) f r.2 in
     subst IsSound (good_is (flat_design r.0) f g.2) (sound r.0 r.1 g.0 g.1)
 
-pub clocked_once_law : ClockedOnceLaw
-clocked_once_law modules formed top resets f e =
+pub well_clocked_law : WellClockedLaw
+well_clocked_law modules formed top resets f e =
     let r = reached modules formed top resets f e in
-    let g = good_then (driven_once (flat_design r.0)) (λ u. good (flat_design r.0)) f r.2 in
-    subst IsClockedOnce (good_is (flat_design r.0) f g.2) (clocked_once r.0 r.1 g.0 g.1)
+    let g = good_then (driven_once (flat_design r.0) r.0.resets) (λ u. good (flat_design r.0)) f r.2 in
+    subst IsWellClocked (good_is (flat_design r.0) f g.2) (well_clocked r.0 r.1 g.0 g.1)

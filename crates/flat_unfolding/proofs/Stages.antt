@@ -278,12 +278,12 @@ module _ (s : Stage) (h : IsStage s) where
   rest_fine : (body : StmtTree) → IsFine body → (r : ResetForm) → form_in (look_of s) body ≡ Some r → IsFine r.rest
   rest_fine (when c x) f r e = go (reset_signals (look_of s) c) e
     where
-      go : (o : Option (List ℕ)) → option_map (λ ss. record { signals = ss; given = branch_given (look_of s) x; rest = null }) o ≡ Some r → IsFine r.rest
+      go : (o : Option (List ℕ)) → option_map (λ ss. record { signals = ss; branch = x; given = branch_given (look_of s) x; rest = null }) o ≡ Some r → IsFine r.rest
       go None e = absurd (search (rules, e))
       go (Some ss) e = subst (λ (q : ResetForm). IsFine q.rest) (some_is _ r e) (tt, refl)
   rest_fine (either c x y) f r e = go (reset_signals (look_of s) c) e
     where
-      go : (o : Option (List ℕ)) → option_map (λ ss. record { signals = ss; given = branch_given (look_of s) x; rest = y }) o ≡ Some r → IsFine r.rest
+      go : (o : Option (List ℕ)) → option_map (λ ss. record { signals = ss; branch = x; given = branch_given (look_of s) x; rest = y }) o ≡ Some r → IsFine r.rest
       go None e = absurd (search (rules, e))
       go (Some ss) e =
           let p = none_of_both ((read (look_of s) c).broken ++ (done (look_of s) clocked x).broken) (done (look_of s) clocked y).broken f.1 in

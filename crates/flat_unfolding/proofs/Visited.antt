@@ -200,5 +200,5 @@ flat_sized d h =
 pub sizes_law : SizesLaw
 sizes_law modules formed top resets f e =
     let r = reached modules formed top resets f e in
-    let g = good_then (driven_once (flat_design r.0)) (λ u. good (flat_design r.0)) f r.2 in
+    let g = good_then (driven_once (flat_design r.0) r.0.resets) (λ u. good (flat_design r.0)) f r.2 in
     subst IsSizedFlat (good_is (flat_design r.0) f g.2) (flat_sized r.0 r.1)

@@ -16,6 +16,7 @@ use Rattle.verilog_reading.specs.SourceTree.{ParamTree, DeclTree, ConnsTree, Bod
 use Rattle.flat_meaning.specs.Flat.{Expr, Target}
 use Rattle.flat_meaning.specs.Law.{AreWords}
 use Rattle.flat_meaning.specs.Design.{Flat, width_in, size_in}
+use Rattle.flat_meaning.specs.Flat.{Stmt}
 use Rattle.flat_unfolding.specs.Outcome.{Text, Broken, good, each, refused_if, Order, by_number, judged}
 use Rattle.flat_unfolding.specs.Names.{Range, width_of, meaning, Meaning, a_signal, Names, is_declared, meaning_in, Direction, inward, Entry, width_at, direction_at, printed_part}
 use Rattle.flat_unfolding.specs.Expressions.{Term, read}
@@ -36,22 +37,22 @@ use Rattle.flat_unfolding.proofs.Entries.{Fine, none_are_fine, range_narrow, nar
 use Rattle.flat_unfolding.proofs.OneDriver.{one_driver}
 
 -- a design that is accepted had its drivers tried
-pub tried : (d : Design) (f : Flat) → finished d ≡ good f → (u : Unit {0}) × (driven_once f ≡ good u)
+pub tried : (d : Design) (f : Flat) → finished d ≡ good f → (u : Unit {0}) × (driven_once f d.resets ≡ good u)
 tried d f e =
-    let g = good_then (driven_once (flat_design d)) (λ u. good (flat_design d)) f e in
-    (g.0, subst (λ x. driven_once x ≡ good g.0) (good_is _ f g.2) g.1)
+    let g = good_then (driven_once (flat_design d) d.resets) (λ u. good (flat_design d)) f e in
+    (g.0, subst (λ x. driven_once x d.resets ≡ good g.0) (good_is _ f g.2) g.1)
 
 from_top_tried : (modules : List ModuleTree) (resets : List ResetPin) (top : Text) (o : Option ModuleTree) (f : Flat) → from_top modules resets top o ≡ good f
-    → (u : Unit {0}) × (driven_once f ≡ good u)
+    → (rs : List (Option ℕ × Stmt)) × (u : Unit {0}) × (driven_once f rs ≡ good u)
 from_top_tried modules resets top None f e = absurd (search (rules, e))
 from_top_tried modules resets top (Some m) f e =
-    let g = good_then (visit modules (length modules) [] (m.name ∷ []) m [] (top_ports resets (header_of m)) no_design) (λ (s : Stage). finished s.design) f e in tried g.0.design f g.2
+    let g = good_then (visit modules (length modules) [] (m.name ∷ []) m [] (top_ports resets (header_of m)) no_design) (λ (s : Stage). finished s.design) f e in let t = tried g.0.design f g.2 in (g.0.design.resets, t.0, t.1)
 
 pub one_driver_law : OneDriverLaw
 one_driver_law modules top resets f e =
     let g = good_then (modules_differ modules) (λ u. from_top modules resets top (module_named top modules)) f e in
     let h = from_top_tried modules resets top (module_named top modules) f g.2 in
-    one_driver f h.0 h.1
+    one_driver f h.0 h.1 h.2
 
 -- ---- what a step makes of signals that are sound over those before
 
@@ -211,7 +212,7 @@ IsLimited f = AreWords (size_in f) × (length f.signals ≤ 65536)
 
 limited : (d : Design) (f : Flat) → finished d ≡ good f → Fine d.entries → IsLimited f
 limited d f e h =
-    let g = good_then (driven_once (flat_design d)) (λ u. good (flat_design d)) f e in
+    let g = good_then (driven_once (flat_design d) d.resets) (λ u. good (flat_design d)) f e in
     subst IsLimited (good_is (flat_design d) f g.2)
     ((λ s. subst (λ w. w ≤ 64) (sym (signal_widths d 0 d.entries s)) (h.narrow s)), subst (λ n. n ≤ 65536) (sym (signal_count d 0 d.entries)) h.few)
 

@@ -78,7 +78,7 @@ pub record IsWellClocked (f : Flat) : Type 0 where
   pub registers : (s : ℕ) → kind_in f.signals s ≡ Register → 1 ≤ assigned_by (bodies f) s
   pub others : (s : ℕ) → kind_in f.signals s ≢ Register → assigned_by (bodies f) s ≡ 0
   pub bits : (s i : ℕ) → i < size_in f s → times_processed (size_in f) s i (bodies f) ≤ 1
-  pub one_clock : (s : ℕ) → All (λ (p : ℕ × Stmt). All (λ (q : ℕ × Stmt). assigns p.1 s ≡ true → assigns q.1 s ≡ true → p.0 ≡ q.0) f.clocked) f.clocked
+  pub one_clock : (s : ℕ) → kind_in f.signals s ≡ Register → All (λ (p : ℕ × Stmt). All (λ (q : ℕ × Stmt). assigns p.1 s ≡ true → assigns q.1 s ≡ true → p.0 ≡ q.0) f.clocked) f.clocked
   pub clocks : All (λ (p : ℕ × Stmt). size_in f p.0 ≡ 1) f.clocked
 
 abbrev pub WellClockedLaw : Type 0

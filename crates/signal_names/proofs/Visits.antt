@@ -371,7 +371,7 @@ module _ (modules : List ModuleTree) (visible : IsSourceVisible modules) where
 
   finished_named : (d : Design) (f : Flat) → finished d ≡ good f → Grows [] no_design d → AreNames (names_in f)
   finished_named d f e h =
-      let g = good_then (driven_once (flat_design d)) (λ u. good (flat_design d)) f e in
+      let g = good_then (driven_once (flat_design d) d.resets) (λ u. good (flat_design d)) f e in
       subst (λ x. AreNames (names_in x)) (good_is (flat_design d) f g.2)
       (subst AreNames (sym (h.printed) ∙ sym (signal_names d 0 d.entries)) (record { printed = h.names; differ = h.differ }))
 
