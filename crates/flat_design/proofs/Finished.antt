@@ -14,7 +14,8 @@ use Rattle.flat_meaning.specs.Flat.{Expr, Target, Stmt}
 use Rattle.flat_form.specs.declared.flat.FlatAssign.{FlatAssign}
 use Rattle.flat_form.specs.declared.flat.FlatComb.{FlatComb}
 use Rattle.flat_form.specs.declared.flat.FlatClocked.{FlatClocked}
-use Rattle.flat_form.specs.View.{flat_of}
+use Rattle.flat_form.specs.declared.flat.FlatReset.{FlatReset}
+use Rattle.flat_form.specs.View.{flat_of, reset_of}
 use Rattle.flat_meaning.specs.Design.{Flat}
 use Rattle.flat_form.specs.Sizes.{is_word}
 use Rattle.flat_unfolding.specs.Names as n
@@ -219,22 +220,25 @@ module _ (pins : List ResetPin) (k : table.Design) (d : Design) (h : ShowsDesign
       go (e ∷ es) = ap suc (go es)
 
   -- the trial of the very lists
-  pub trial : IsFitDesign d → (ss : List Signal) (xs : List FlatAssign) (ys : List FlatComb) (zs : List FlatClocked) → ss ≡ k.signals.items → xs ≡ k.assigns.items → ys ≡ k.combs.items → zs ≡ k.clocked.items
-      → (r : Result (Unit {0}) Stop) → ((f : Flat) → IsFinished (design_of ss xs ys zs) f → All (λ (x : Signal). x.width ≤ 64) ss → length ss ≤ 2 ^ 32 → Meets (driven_once f) r) → Meets (driven_once (flat_design d)) r
-  trial fit ss xs ys zs e f g i r try =
-      try (flat_design d)
+  pub trial : IsFitDesign d → (ss : List Signal) (xs : List FlatAssign) (ys : List FlatComb) (zs : List FlatClocked) (rs : List FlatReset)
+      → ss ≡ k.signals.items → xs ≡ k.assigns.items → ys ≡ k.combs.items → zs ≡ k.clocked.items → rs ≡ k.resets.items
+      → (r : Result (Unit {0}) Stop) → ((f : Flat) → IsFinished (design_of ss xs ys zs) f → All (λ (x : Signal). x.width ≤ 64) ss → length ss ≤ 2 ^ 32 → Meets (driven_once f (map reset_of rs)) r)
+      → Meets (driven_once (flat_design d) d.resets) r
+  trial fit ss xs ys zs rs e f g i j r try =
+      subst (λ (os : List (Option ℕ × Stmt)). Meets (driven_once (flat_design d) os) r) (ap (map reset_of) j ∙ h.process_resets)
+      (try (flat_design d)
       (subst (λ (v : List Signal). IsFinished (design_of v xs ys zs) (flat_design d)) (sym e)
       (subst (λ (v : List FlatAssign). IsFinished (design_of k.signals.items v ys zs) (flat_design d)) (sym f)
       (subst (λ (v : List FlatComb). IsFinished (design_of k.signals.items k.assigns.items v zs) (flat_design d)) (sym g)
       (subst (λ (v : List FlatClocked). IsFinished (design_of k.signals.items k.assigns.items k.combs.items v) (flat_design d)) (sym i) on-trial))))
       (subst (λ (v : List Signal). All (λ (x : Signal). x.width ≤ 64) v) (sym e) (all-narrow fit))
-      (subst (λ (v : List Signal). length v ≤ 2 ^ 32) (sym e) (few-signals fit))
+      (subst (λ (v : List Signal). length v ≤ 2 ^ 32) (sym e) (few-signals fit)))
 
 -- how the trial ends, for the unfolding
-pub trial-passed : (d : Design) → driven_once (flat_design d) ≡ good tt → law.finished d ≡ good (flat_design d)
+pub trial-passed : (d : Design) → driven_once (flat_design d) d.resets ≡ good tt → law.finished d ≡ good (flat_design d)
 trial-passed d e = ap (λ (p : Outcome (Unit {0})). then_ p (λ u. good (flat_design d))) e
 
-pub trial-failed : (d : Design) (e : Stop) → Meets (driven_once (flat_design d)) (Err e) → IsUnfolding (law.finished d) (Err e)
+pub trial-failed : (d : Design) (e : Stop) → Meets (driven_once (flat_design d) d.resets) (Err e) → IsUnfolding (law.finished d) (Err e)
 trial-failed d (Refused f) h = ap (λ (p : Outcome (Unit {0})). then_ p (λ u. good (flat_design d))) h
 trial-failed d Memory h = tt
 

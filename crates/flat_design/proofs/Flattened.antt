@@ -6,6 +6,7 @@ use Rattle.cdc_base.specs.declared.fault.Stop.{Stop}
 use Rattle.verilog_reading.specs.SourceTree.{ModuleTree}
 use Rattle.flat_form.specs.declared.flat.Flat as code
 use Rattle.flat_form.specs.View.{flat_of}
+use Rattle.flat_meaning.specs.Flat.{Stmt}
 use Rattle.flat_meaning.specs.Design.{Flat}
 use Rattle.flat_unfolding.specs.Outcome.{Text, good}
 use Rattle.flat_unfolding.specs.Design.{Stage, no_design}
@@ -16,7 +17,7 @@ use Rattle.flat_unfolding.specs.Reads.{first_from}
 use Rattle.flat_unfolding.specs.Unfolding.{IsUnfolding, unfolded, from_top, module_named, modules_differ, visit, top_ports, finished}
 use Rattle.flat_unfolding.specs.Widths.{KeepsSizes}
 use Rattle.flat_unfolding.proofs.OneDriver.{none_from, no_bit}
-use Rattle.flat_unfolding.proofs.Sound.{clocked_once_law, sound_law}
+use Rattle.flat_unfolding.proofs.Sound.{well_clocked_law, sound_law}
 use Rattle.flat_unfolding.proofs.Steps.{good_then, some_is}
 use Rattle.flat_unfolding.proofs.Visits.{limits_law, tried}
 use Rattle.flat_unfolding.proofs.Widths.{well_sized_law}
@@ -38,9 +39,9 @@ no_bit_of rule p n (y ∷ xs) u e (suc s) i x g l =
     let b = no_bit rule y (first_from (p n y) 0 y.width) (refuse_first rule p (suc n) xs) u e in
     ap (λ m. p m x i) h ∙ no_bit_of rule p (suc n) xs u b.1 s i x g l
 
-driven : (f : Flat) (u : Unit {0}) → driven_once f ≡ good u → IsDriven f
-driven f u e s i x g l =
-    let d = good_then (refuse_first 309 (λ s x i. is_double f s i) 0 f.signals) (λ w. refuse_first 310 (is_undriven f) 0 f.signals) u e in
+driven : (f : Flat) (resets : List (Option ℕ × Stmt)) (u : Unit {0}) → driven_once f resets ≡ good u → IsDriven f
+driven f resets u e s i x g l =
+    let d = good_then (refuse_first 309 (λ s x i. is_double f resets s i) 0 f.signals) (λ w. refuse_first 310 (is_undriven f) 0 f.signals) u e in
     let k : 0 + s ≡ s = omega arith in
     sym (ap (λ m. is_undriven f m x i) k) ∙ no_bit_of 310 (is_undriven f) 0 f.signals u d.2 s i x g l
 
@@ -50,7 +51,7 @@ module _ (modules : List ModuleTree) (top : Text) (resets : List ResetPin) (f : 
   from_top_driven None e = absurd (search (rules, e))
   from_top_driven (Some m) e =
       let g = good_then (visit modules (length modules) [] (m.name ∷ []) m [] (top_ports resets (header_of m)) no_design) (λ (s : Stage). finished s.design) f e in
-      let t = tried g.0.design f g.2 in driven f t.0 t.1
+      let t = tried g.0.design f g.2 in driven f g.0.design.resets t.0 t.1
 
   unfolded_driven : unfolded modules top resets ≡ good f → IsDriven f
   unfolded_driven e =
@@ -62,7 +63,7 @@ pub flattened : (modules : List ModuleTree) → IsSourceFormed modules → IsSou
 flattened modules formed visible top resets f e sizes = record {
   sized = well_sized_law modules formed top resets f e sizes;
   sound = sound_law modules formed top resets (flat_of f) e;
-  clocked_once = clocked_once_law modules formed top resets (flat_of f) e;
+  well_clocked = well_clocked_law modules formed top resets (flat_of f) e;
   driven = unfolded_driven modules top resets (flat_of f) e;
   names = names_differ modules visible top resets (flat_of f) e;
   few = (limits_law modules top resets (flat_of f) e).1;

@@ -100,5 +100,6 @@ shows-reset pins d e q r s v h k i = record {
     known = λ j l. ap (λ n. bit_at n j) (ap (λ xs. known_at xs t) i ∙ kept-told (λ o. option_map_or (λ (x : Entry). x.reset_known) o 0) q (λ x. refl) s d.entries.items t) ∙ w.known j l;
     value = λ j l. ap (λ n. bit_at n j) (ap (λ xs. value_at xs t) i ∙ kept-told (λ o. option_map_or (λ (x : Entry). x.reset_start) o 0) q (λ x. refl) s d.entries.items t) ∙ w.value j l;
   };
+  process_resets = h.process_resets;
   sizes = h.sizes;
 }

@@ -60,6 +60,7 @@ shows-outside pins k d s y v h at i = record {
   outputs = h.outputs;
   starts = h.starts;
   givens = h.givens;
+  process_resets = h.process_resets;
   sizes = record { assigns = h.sizes.assigns; combs = h.sizes.combs; clocked = h.sizes.clocked };
 }
 
@@ -188,6 +189,7 @@ same-items pins k d v w h e f = record {
   outputs = h.outputs;
   starts = λ t. ap (λ (xs : List Entry). start_at xs t) e ∙ h.starts t;
   givens = λ t. subst (λ (xs : List Entry). AreGiven d.givens xs t) (sym e) (h.givens t);
+  process_resets = h.process_resets;
   sizes = record { assigns = h.sizes.assigns; combs = h.sizes.combs; clocked = h.sizes.clocked };
 }
 

@@ -36,6 +36,7 @@ shows-output pins k d s v h e = record {
   outputs = e ∙ ap (λ xs. xs ++ s ∷ []) h.outputs;
   starts = h.starts;
   givens = h.givens;
+  process_resets = h.process_resets;
   sizes = record { assigns = h.sizes.assigns; combs = h.sizes.combs; clocked = h.sizes.clocked };
 }
 

@@ -34,6 +34,7 @@ pub fn checked(alloc: Global, design: Design) -> Result<Flat, Stop>
         design.assigns.as_slice(),
         design.combs.as_slice(),
         design.clocked.as_slice(),
+        design.resets.as_slice(),
     )?;
     Ok(finished(alloc, design)?)
 }

@@ -11,12 +11,12 @@ returns-in_err-try_drivers-clause-exact c = λ pins d shows fit.
     let e = c.in_err-try_drivers.field-0.0 in
     let same : c.from_residual.result ≡ Err e = search rules in
     subst (IsUnfolding (law.finished d)) (sym same) (trial-failed d e
-    (trial pins c.args.design d shows fit c.as_slice.result.now c.as_slice-2.result.now c.as_slice-3.result.now c.as_slice-4.result.now
-    c.as_slice.ensures.value c.as_slice-2.ensures.value c.as_slice-3.ensures.value c.as_slice-4.ensures.value (Err e) c.in_err-try_drivers.ensures.exact))
+    (trial pins c.args.design d shows fit c.as_slice.result.now c.as_slice-2.result.now c.as_slice-3.result.now c.as_slice-4.result.now c.as_slice-5.result.now
+    c.as_slice.ensures.value c.as_slice-2.ensures.value c.as_slice-3.ensures.value c.as_slice-4.ensures.value c.as_slice-5.ensures.value (Err e) c.in_err-try_drivers.ensures.exact))
 
 pub returns-clause-exact : goal.returns-clause-exact
 returns-clause-exact c = λ pins d shows fit.
     trial-passed d
-    (trial pins c.args.design d shows fit c.as_slice.result.now c.as_slice-2.result.now c.as_slice-3.result.now c.as_slice-4.result.now
-    c.as_slice.ensures.value c.as_slice-2.ensures.value c.as_slice-3.ensures.value c.as_slice-4.ensures.value (Ok tt) c.in_ok-try_drivers.ensures.exact)
+    (trial pins c.args.design d shows fit c.as_slice.result.now c.as_slice-2.result.now c.as_slice-3.result.now c.as_slice-4.result.now c.as_slice-5.result.now
+    c.as_slice.ensures.value c.as_slice-2.ensures.value c.as_slice-3.ensures.value c.as_slice-4.ensures.value c.as_slice-5.ensures.value (Ok tt) c.in_ok-try_drivers.ensures.exact)
     ∙ ap good (sym (c.in_ok-finished.ensures.exact pins d shows fit))
