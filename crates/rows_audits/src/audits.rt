@@ -267,6 +267,32 @@ violations=1 crossings=3
     )
 }
 
+/// Each bit of a register is a Slice of the tree of its process.
+#[test]
+fn registers_with_several_processes(rt: HostRuntime) -> Result<(), Fail> {
+    let net = "module m(input ca, cb, d); reg [3:0] r; reg [1:0] s; always @(posedge ca) r[0] <= d; \
+always @(posedge ca) if (d) r[3:2] <= r[1:0]; always @(posedge ca) r[1] <= r[0]; \
+always @(posedge cb) s[0] <= r[3]; always @(posedge cb) s[1] <= s[0] & r[1]; endmodule";
+    audit_all(
+        &rt,
+        rt.alloc(),
+        &[(
+            net,
+            "",
+            "",
+            "d",
+            "V1 r[1] -> s[1]: no scheme
+  path s[1] <- Concat[1] <- Slice[0] <- Concat[1] <- And[0] <- Slice[0] <- r[1]
+  at 1:41
+V2 r[3] -> s[0]: no second flop
+  path s[0] <- Concat[0] <- Slice[0] <- Concat[0] <- Slice[0] <- r[3]
+  at 1:41
+violations=2 crossings=2
+1",
+        )],
+    )
+}
+
 #[test]
 fn a_whole_design(rt: HostRuntime) -> Result<(), Fail> {
     let answer = audited(rt.alloc(), CHIP.as_bytes(), CHIP_CONSTRAINTS)?;

@@ -140,6 +140,40 @@ fn later_assignment_wins(rt: HostRuntime) -> Result<(), Fail> {
     Ok(())
 }
 
+/// Assigns one bit of a signal.
+fn set_bit(sig: u32, at: u8, value: FExpr) -> FStmt {
+    FStmt::Set {
+        blocking: false,
+        target: FTarget::Part { sig, at, width: 1 },
+        value,
+    }
+}
+
+/// A register of three bits that two processes assign; its highest bit stays.
+#[test]
+fn processes_share_a_register(rt: HostRuntime) -> Result<(), Fail> {
+    let alloc = rt.alloc();
+    let mut flat = design(
+        alloc,
+        &[
+            ("ca", 1, SigKind::Input),
+            ("d", 1, SigKind::Input),
+            ("r", 3, SigKind::Register),
+        ],
+    )?;
+    let body = set_bit(2, 1, bit(2, 0));
+    flat.clocked.push(FlatClocked { clock: 0, body })?;
+    let body = set_bit(2, 0, read(1, 1));
+    flat.clocked.push(FlatClocked { clock: 0, body })?;
+    let net = elaborate(alloc, &flat)?;
+    assert_eq!(rt; net.regs.len(), 1);
+    let next = next_of(&net, 0);
+    for (d, r, wanted) in [(1, 0b010, 0b001), (0, 0b001, 0b010), (1, 0b111, 0b111), (0, 0b100, 0b100)] {
+        assert_eq!(rt; value(alloc, &net, next, &[0, d, r])?, wanted);
+    }
+    Ok(())
+}
+
 #[test]
 fn operators_have_their_values(rt: HostRuntime) -> Result<(), Fail> {
     let alloc = rt.alloc();

@@ -194,6 +194,57 @@ fn other_meanings(rt: HostRuntime) -> Result<(), Fail> {
     )
 }
 
+/// Bits of one register in several processes: their edges differ, two may assign one bit, or one is a process of wires.
+#[test]
+fn registers_with_two_drivers(rt: HostRuntime) -> Result<(), Fail> {
+    refuse_all(
+        &rt,
+        rt.alloc(),
+        &[
+            (
+                "module m(input ca, cb, d); reg [1:0] r; always @(posedge ca) r[0] <= d; always @(posedge cb) r[1] <= r[0]; endmodule",
+                "error E309: two drivers at 1:28: r[0]",
+            ),
+            (
+                "module m(input ca, cb, d); reg i; reg [1:0] r; always @(posedge ca) r[0] <= d; always @(posedge ca) r[i] <= d; endmodule",
+                "error E309: two drivers at 1:35: r[0]",
+            ),
+            (
+                "module m(input ca, cb, d); reg [1:0] r; always @* r[1] = d; always @(posedge ca) r[0] <= d; endmodule",
+                "error E309: two drivers at 1:28: r[0]",
+            ),
+        ],
+    )
+}
+
+/// The edges of a register's processes are the same, and a reset's branch drives what it assigns.
+#[test]
+fn registers_with_resets(rt: HostRuntime) -> Result<(), Fail> {
+    let alloc = rt.alloc();
+    let declared = constraints(alloc, "")?;
+    let con = format!(in alloc; "{declared}[[reset]]\nname = \"e\"\nactive = \"low\"\n")?;
+    let reset = "always @(posedge ca or negedge e) if (!e) r[0] <= 0; else r[0] <= r[1];";
+    for (other, wanted) in [
+        (
+            "always @(posedge ca or negedge e) if (!e) r[1] <= 1; else r[1] <= r[0];",
+            "clean crossings=0\n0",
+        ),
+        (
+            "always @(posedge ca) r[1] <= r[0];",
+            "error E309: two drivers at 1:28: r[0]\n3",
+        ),
+        (
+            "always @(posedge ca or negedge e) if (!e) r <= 0; else r[1] <= r[0];",
+            "error E309: two drivers at 1:28: r[0]\n3",
+        ),
+    ] {
+        let net = format!(in alloc; "module m(input ca, cb, e); reg [1:0] r; {reset} {other} endmodule")?;
+        let answer = audited(alloc, net.as_bytes(), con.as_str())?;
+        assert_eq!(&rt; answer.as_str(), wanted, "{other}");
+    }
+    Ok(())
+}
+
 #[test]
 fn constraint_files(rt: HostRuntime) -> Result<(), Fail> {
     let alloc = rt.alloc();
@@ -267,6 +318,7 @@ fn accepted_texts(rt: HostRuntime) -> Result<(), Fail> {
         "`line 7 \"a.v\" 1\nmodule m(input ca, cb, output q); assign q = 2'b10 > 1; endmodule",
         "module m(input ca, cb, output q); (* a = \"\\\"*)\" *) assign q = 0; endmodule",
         "module m(input ca, cb, output q); reg [1:0] i; reg M [0:4]; always @(posedge ca) begin i <= i; M[i] <= 0; end assign q = M[i]; endmodule",
+        "module m(input ca, cb); reg [1:0] r; always @(posedge ca) r[0] <= r[1]; always @(posedge ca) r[1] <= r[0]; endmodule",
         "module n(input i); endmodule module m(input ca, cb); n u(); endmodule",
         "module n #(parameter [7:0] P = 0) (); endmodule module m(input ca, cb); n #(.P(15 + 2)) u (); endmodule",
     ] {

@@ -1,11 +1,9 @@
 -- The lines of a run.
-use Rattle.std.specs.Prelude.{◌≡◌, ℕ, ◌+◌, ◌≤◌, ◌^◌, ◌==◌, Bool, false, not, ◌&&◌, List, [], ◌∷◌, ◌++◌, length, replicate, Option, Some, None, codes, slice_get, IsPermutation, IsSorted, if◌then◌else◌}
+use Rattle.std.specs.Prelude.{◌≡◌, ℕ, ◌+◌, ◌≤◌, ◌^◌, ◌==◌, Bool, false, not, ◌&&◌, List, [], ◌∷◌, ◌++◌, length, replicate, Option, Some, None, codes, IsPermutation, IsSorted, if◌then◌else◌}
 use Rattle.std.specs.List.Sorted.{IsStrictlyIncreasing}
-use Rattle.std.specs.Option.{option_map_or}
 use Rattle.std.specs.Fmt.{decimal}
 use Rattle.cdc_base.specs.declared.bit.Bit.{Bit}
 use Rattle.cdc_base.specs.declared.signal.Signal.{Signal}
-use Rattle.cdc_base.specs.Bits.{bit_text}
 use Rattle.cdc_base.specs.contracts.bit.BitOrd.TheImpl as bit_order
 use Rattle.cell_graph.specs.declared.net.Net.{Net}
 use Rattle.cell_graph.specs.Values.{word_at}
@@ -13,13 +11,10 @@ use Rattle.clock_constraints.specs.declared.ClockPin.{ClockPin}
 use Rattle.domains.specs.declared.Domains.{Domains}
 use Rattle.cdc_model.specs.declared.record.Race.{Race}
 use Rattle.cdc_model.specs.declared.record.RecordStep.{RecordStep}
+use Rattle.report.specs.Names.{bit_of, spaced}
 use Rattle.settling_sim.specs.Edges.{is_marked, mark_in}
 use Rattle.settling_sim.specs.State.{is_state_signal}
 use Rattle.run_report.specs.Values.{value_text}
-
--- the printed name of a bit
-abbrev pub bit_of : List Signal → Bit → List ℕ
-bit_of signals b = option_map_or (λ s. bit_text s b.at) (slice_get signals b.sig) []
 
 -- a line of each state signal, from number k on
 abbrev pub start_line : Signal → ℕ → List ℕ
@@ -39,13 +34,9 @@ edge_names ticking k [] = []
 edge_names ticking k (c ∷ cs) = edge_name (is_marked ticking (Some k)) c ++ edge_names ticking (k + 1) cs
 
 -- bits, each behind a space, or a dash
-abbrev pub names_of : List Signal → List Bit → List ℕ
-names_of signals [] = []
-names_of signals (b ∷ bs) = (codes " " ++ bit_of signals b) ++ names_of signals bs
-
 abbrev pub list_of : List Signal → List Bit → List ℕ
 list_of signals [] = codes " -"
-list_of signals (b ∷ bs) = names_of signals (b ∷ bs)
+list_of signals (b ∷ bs) = spaced signals (b ∷ bs)
 
 abbrev pub other_of : List Signal → Option (List Bit) → List ℕ
 other_of signals None = []

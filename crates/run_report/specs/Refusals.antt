@@ -4,7 +4,7 @@ use Rattle.std.specs.Fmt.{decimal}
 use Rattle.cdc_base.specs.declared.signal.Signal.{Signal}
 use Rattle.settling_sim.specs.declared.fault.StepFault.{StepFault}
 use Rattle.settling_sim.specs.declared.fault.StepFault.TheVariants.{NoEdge, Unticked, NotLoose, NotOther}
-use Rattle.run_report.specs.Lines.{bit_of}
+use Rattle.report.specs.Names.{bit_of}
 
 -- the numbers of the rules of steps
 abbrev pub step_numbers : List ℕ

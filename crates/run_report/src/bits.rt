@@ -1,6 +1,7 @@
 //! Lists of bits.
 ghost use Rattle.std.specs.Prelude.{◌≡◌, ◌++◌, IfOk};
-ghost use Rattle.run_report.specs.Lines.{bit_of, names_of, list_of};
+ghost use Rattle.report.specs.Names.{bit_of, spaced};
+ghost use Rattle.run_report.specs.Lines.{list_of};
 
 use cdc_base::signal::bit_name;
 use cdc_base::{Bit, NoMemory};
@@ -21,7 +22,7 @@ pub fn add_bit(text: &mut Text, net: &Net, bit: Bit) -> Result<(), NoMemory>
 }
 
 fn add_names(text: &mut Text, net: &Net, bits: &[Bit]) -> Result<(), NoMemory>
-    ensures { IfOk result (λ _. text.new ≡ text.old ++ names_of net.now.graph.signals bits.now) }
+    ensures { IfOk result (λ _. text.new ≡ text.old ++ spaced net.now.graph.signals bits.now) }
 {
     for bit in bits {
         text.add(" ")?;

@@ -2,7 +2,7 @@
 ghost use Rattle.std.specs.Prelude.{◌≡◌, true, ◌++◌, codes, IfOk};
 ghost use Rattle.std.specs.Fmt.{decimal};
 ghost use Rattle.clock_constraints.specs.Refusals.{IsStop};
-ghost use Rattle.run_report.specs.Lines.{bit_of};
+ghost use Rattle.report.specs.Names.{bit_of};
 ghost use Rattle.run_report.specs.Refusals.{number_of, name_of, step_numbers};
 ghost use Rattle.refusals.specs.Numbers.{is_listed, HasNumberIn};
 

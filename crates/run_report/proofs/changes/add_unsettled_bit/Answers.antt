@@ -1,5 +1,5 @@
 use Rattle.std.specs.Prelude.{codes}
-use Rattle.run_report.specs.Lines.{bit_of}
+use Rattle.report.specs.Names.{bit_of}
 use Rattle.run_report.proofs.Lines.{three-pieces}
 use Rattle.run_report.proofs.changes.add_unsettled_bit.Goals as goal
 
