@@ -1,6 +1,6 @@
 -- Counts of drivers, one step after another.
-use Rattle.std.proofs.Common.{◌≡◌, ◌≢◌, ℕ, zero, suc, ◌+◌, ◌^◌, ◌<◌, ◌≤◌, Bool, true, false, not, ◌&&◌, ◌||◌, ◌==◌, nat_le, nat_lt, nat_eq, List, [], ◌∷◌, ◌++◌, drop, length, get_or, refl, sym, ap, ap₂, subst, ◌∙◌, arith, eqb-true, lt-ltb, le-ltb, le-leb, leb-true, leb-false, ne_eqb}
-use Rattle.std.specs.List.{IsDistinct, AllByRecursion}
+use Rattle.std.proofs.Common.{◌≡◌, ◌≢◌, ℕ, zero, suc, ◌+◌, ◌^◌, ◌<◌, ◌≤◌, Bool, true, false, not, ◌&&◌, ◌||◌, ◌==◌, nat_le, nat_lt, nat_eq, List, [], ◌∷◌, map, drop, length, get_or, refl, sym, ap, ap₂, subst, ◌∙◌, arith, eqb-true, lt-ltb, le-ltb, le-leb, leb-true, leb-false, ne_eqb}
+use Rattle.std.specs.List.{IsDistinct, AllByRecursion, list_any}
 use Rattle.std.proofs.lemmas.Bool.{lt-leb}
 use Rattle.std.proofs.lemmas.List.{drop_more, drop_all}
 use Rattle.std.proofs.lemmas.Map.Keys.{IsDistinct-head, IsDistinct-tail}
@@ -14,8 +14,7 @@ use Rattle.flat_meaning.specs.Flat.{Stmt, assigns}
 use Rattle.flat_meaning.specs.Deps.{Bits}
 use Rattle.flat_meaning.specs.Design.{Flat, size_in, once, times_assigned, times_processed}
 use Rattle.flat_meaning.proofs.Drivers.{not_assigned}
-use Rattle.flat_unfolding.specs.Drivers.{assigned_by, bodies, all_drivers}
-use Rattle.flat_unfolding.proofs.Driven.{assigned_by_both}
+use Rattle.flat_unfolding.specs.Drivers.{assigned_by, bodies, is_clocked, all_drivers}
 use Rattle.flat_drivers.specs.declared.drivers.Drivers.{Drivers}
 use Rattle.flat_drivers.specs.Driving.{Counts, CountsMore, is_among}
 
@@ -295,15 +294,15 @@ module _ (wid : ℕ → ℕ) (a b : Drivers) (sig mask : ℕ) where
 pub all-counted : (f : Flat) (a b c d : Drivers) → Counts (size_in f) a (λ s i. 0) (λ s. 0)
     → CountsMore (size_in f) a b (λ s i. times_assigned (size_in f) s i f.assigns) (λ s. 0)
     → CountsMore (size_in f) b c (λ s i. times_processed (size_in f) s i f.combs) (λ s. assigned_by f.combs s)
-    → CountsMore (size_in f) c d (λ s i. assigned_by (bodies f) s) (λ s. assigned_by (bodies f) s)
-    → Counts (size_in f) d (all_drivers f) (assigned_by (f.combs ++ bodies f))
+    → CountsMore (size_in f) c d (λ s i. once (is_clocked f s)) (λ s. once (is_clocked f s))
+    → Counts (size_in f) d (all_drivers f) (λ s. assigned_by f.combs s + once (is_clocked f s))
 all-counted f a b c d none first second third =
     let t = λ (s i : ℕ). times_assigned (size_in f) s i f.assigns in
     let u = λ (s i : ℕ). times_processed (size_in f) s i f.combs in
-    let v = λ (s : ℕ). assigned_by (bodies f) s in
+    let v = λ (s : ℕ). once (is_clocked f s) in
     let p = λ (s : ℕ). assigned_by f.combs s in
-    counts-same (size_in f) d (λ s i. 0 + t s i + u s i + v s) (all_drivers f) (λ s. 0 + 0 + p s + v s) (assigned_by (f.combs ++ bodies f))
-    (record { at = λ s i l m. front (t s i) (u s i) (v s) }) (λ s. behind (p s) (v s) ∙ sym (assigned_by_both f.combs (bodies f) s))
+    counts-same (size_in f) d (λ s i. 0 + t s i + u s i + v s) (all_drivers f) (λ s. 0 + 0 + p s + v s) (λ s. p s + v s)
+    (record { at = λ s i l m. front (t s i) (u s i) (v s) }) (λ s. behind (p s) (v s))
     (third.counts (λ s i. 0 + t s i + u s i) (λ s. 0 + 0 + p s) (second.counts (λ s i. 0 + t s i) (λ s. 0 + 0) (first.counts (λ s i. 0) (λ s. 0) none)))
   where
     front : (x y z : ℕ) → 0 + x + y + z ≡ x + y + z
@@ -311,6 +310,15 @@ all-counted f a b c d none first second third =
 
     behind : (x y : ℕ) → 0 + 0 + x + y ≡ x + y
     behind x y = omega arith
+
+-- some clocked process assigns the signal
+pub some-assigns : (ps : List (ℕ × Stmt)) (s : ℕ) → list_any (λ (p : ℕ × Stmt). assigns p.1 s) ps ≡ nat_le 1 (assigned_by (map (λ (p : ℕ × Stmt). p.1) ps) s)
+some-assigns [] s = refl
+some-assigns (p ∷ ps) s = ap (λ b. assigns p.1 s || b) (some-assigns ps s) ∙ sym (one_before (assigns p.1 s) (assigned_by (map (λ (q : ℕ × Stmt). q.1) ps) s))
+  where
+    one_before : (b : Bool) (n : ℕ) → nat_le 1 (once b + n) ≡ (b || nat_le 1 n)
+    one_before true n = le-leb 1 (1 + n) (omega arith)
+    one_before false n = ap (nat_le 1) (let e : 0 + n ≡ n = omega arith in e)
 
 -- ---- the signals of a process, one after another
 

@@ -2,3 +2,4 @@ pub mod Counted
 pub mod Reading
 pub mod Trials
 pub mod Marked
+pub mod Sharing

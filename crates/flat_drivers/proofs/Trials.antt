@@ -13,14 +13,16 @@ use Rattle.cell_graph.specs.Tree.{bit_at}
 use Rattle.cell_graph.proofs.Words.{bit_and-bit, bit-zero}
 use Rattle.flat_meaning.specs.Flat.{Expr, Target, Stmt}
 use Rattle.flat_meaning.specs.Assigned.{is_within}
-use Rattle.flat_meaning.specs.Design.{Flat, width_in, size_in, times_assigned, times_processed}
+use Rattle.flat_meaning.specs.Design.{Flat, width_in, size_in, once, times_assigned, times_processed}
 use Rattle.flat_unfolding.specs.Outcome.{Outcome, good, bad, then_}
 use Rattle.flat_unfolding.specs.Reads.{first_from}
-use Rattle.flat_unfolding.specs.Drivers.{assigned_by, bodies, all_drivers, is_double, is_read, is_undriven, is_from_outside, refuse_bit, refuse_first, driven_once}
+use Rattle.flat_unfolding.specs.Drivers.{assigned_by, bodies, is_clocked, processes, times_driven, have_other_edges, all_drivers, is_double, is_read, is_undriven, is_from_outside, refuse_bit, refuse_first, driven_once}
 use Rattle.flat_form.specs.declared.masks.Masks.{Masks}
 use Rattle.flat_form.specs.Masks.{bits_in}
-use Rattle.flat_drivers.specs.Driving.{Meets, Tries, IsMarked, AreMarked, IsFinished, assigns_read, bodies_read, clocks_read}
-use Rattle.flat_drivers.proofs.Counted.{by_same, within, none_of}
+use Rattle.flat_drivers.specs.declared.drivers.Drivers.{Drivers}
+use Rattle.flat_drivers.specs.Clocked.{is_shared_bit}
+use Rattle.flat_drivers.specs.Driving.{Counts, Meets, Tries, IsMarked, AreMarked, IsFinished, assigns_read, bodies_read, clocks_read}
+use Rattle.flat_drivers.proofs.Counted.{by_same, by_le, within, none_of}
 
 pub none_first : (p : ℕ → Bool) (n more : ℕ) → ((i : ℕ) → i < more → p (n + i) ≡ false) → first_from p n more ≡ None
 none_first p n zero h = refl
@@ -172,27 +174,52 @@ module _ (g f : Flat) (h : IsFinished g f) where
   parts-same r = ap (λ w. r w f.assigns f.combs f.clocked) sizes ∙ ap (λ a. r (size_in g) a f.combs f.clocked) h.assigns ∙ ap₂ (λ c k. r (size_in g) g.assigns c k) h.combs h.clocked
 
   drivers-same : (s i : ℕ) → all_drivers f s i ≡ all_drivers g s i
-  drivers-same s i = parts-same (λ w a c k. times_assigned w s i a + times_processed w s i c + assigned_by (map (λ (p : ℕ × Stmt). p.1) k) s)
+  drivers-same s i = parts-same (λ w a c k. times_assigned w s i a + times_processed w s i c + once (nat_le 1 (assigned_by (map (λ (p : ℕ × Stmt). p.1) k) s)))
 
-  double-same : (s i : ℕ) → is_double f s i ≡ is_double g s i
-  double-same s i = parts-same (λ w a c k. nat_le 2 (times_assigned w s i a + times_processed w s i c + assigned_by (map (λ (p : ℕ × Stmt). p.1) k) s) || nat_le 2 (assigned_by (c ++ map (λ (p : ℕ × Stmt). p.1) k) s))
+  double-same : (rs : List (Option ℕ × Stmt)) (s i : ℕ) → is_double f rs s i ≡ is_double g rs s i
+  double-same rs s i = parts-same (λ w a c k.
+      let clocked = once (nat_le 1 (assigned_by (map (λ (p : ℕ × Stmt). p.1) k) s)) in
+      nat_le 2 (times_assigned w s i a + times_processed w s i c + clocked) || nat_le 2 (times_driven w (processes k rs) s i) || (nat_le 2 (assigned_by c s + clocked) || have_other_edges (processes k rs) s))
 
   read-same : (s i : ℕ) → is_read f s i ≡ is_read g s i
   read-same s i = parts-same (λ w a c k. assigns_read w a s i || bodies_read w (c ++ map (λ (p : ℕ × Stmt). p.1) k) s i || clocks_read k s i)
 
   -- what a clocked process drives wants no other driver, whatever its kind
-  wanted : (n d b : ℕ) (u v r : Bool) → (b ≡ 0 → v ≡ u) → n ≡ d + b → (not v && r && (n == 0)) ≡ (not u && r && (n == 0))
+  wanted : (n d b : ℕ) (u v r : Bool) → (b ≡ 0 → v ≡ u) → n ≡ d + once (nat_le 1 b) → (not v && r && (n == 0)) ≡ (not u && r && (n == 0))
   wanted n d b u v r e is = by_same (λ t. (not v && r && t) ≡ (not u && r && t)) n 0
-      (λ z. ap (λ x. not x && r && true) (e (omega (arith, is, z)))) (λ z. no (not v && r) ∙ sym (no (not u && r)))
+      (λ z. ap (λ x. not x && r && true) (e (unassigned b (omega (arith, is, z))))) (λ z. no (not v && r) ∙ sym (no (not u && r)))
     where
       no : (x : Bool) → (x && false) ≡ false
       no true = refl
       no false = refl
 
-  pub finished : driven_once f ≡ then_ (refuse_first 309 (λ s x i. is_double g s i) 0 g.signals) (λ u. refuse_first 310 (is_undriven g) 0 g.signals)
-  finished = ap₂ (λ a b. then_ a (λ u. b))
-      (refuse-same 309 (λ s x i. is_double g s i) (λ s x i. is_double f s i) (assigned_by (bodies g)) (λ n x y m i. double-same n i) 0 g.signals f.signals h.signals)
+      unassigned : (k : ℕ) → once (nat_le 1 k) ≡ 0 → k ≡ 0
+      unassigned k = by_le (λ t. once t ≡ 0 → k ≡ 0) 1 k (λ l z. absurd (omega (arith, z))) (λ l z. omega (arith, l))
+
+  pub finished : (rs : List (Option ℕ × Stmt)) → driven_once f rs ≡ then_ (refuse_first 309 (λ s x i. is_double g rs s i) 0 g.signals) (λ u. refuse_first 310 (is_undriven g) 0 g.signals)
+  finished rs = ap₂ (λ a b. then_ a (λ u. b))
+      (refuse-same 309 (λ s x i. is_double g rs s i) (λ s x i. is_double f rs s i) (assigned_by (bodies g)) (λ n x y m i. double-same rs n i) 0 g.signals f.signals h.signals)
       (refuse-same 310 (is_undriven g) (is_undriven f) (assigned_by (bodies g))
       (λ n x y m i. ap₂ (λ r d. not (is_from_outside y.kind) && r && (d == 0)) (read-same n i) (drivers-same n i)
       ∙ wanted (all_drivers g n i) (times_assigned (size_in g) n i g.assigns + times_processed (size_in g) n i g.combs) (assigned_by (bodies g) n) (is_from_outside x.kind) (is_from_outside y.kind) (is_read g n i) m.outside refl)
       0 g.signals f.signals h.signals)
+
+-- ---- two drivers of a bit
+
+four_ways : (all times shared other : Bool) → ((times || other) || (all || shared)) ≡ (all || times || (shared || other))
+four_ways true true s o = refl
+four_ways true false s true = refl
+four_ways true false s false = refl
+four_ways false true s o = refl
+four_ways false false true true = refl
+four_ways false false true false = refl
+four_ways false false false true = refl
+four_ways false false false false = refl
+
+-- those of clocked processes, and the others
+pub all-doubles : (f : Flat) (rs : List (Option ℕ × Stmt)) (d : Drivers) → Counts (size_in f) d (all_drivers f) (λ s. assigned_by f.combs s + once (is_clocked f s))
+    → (s i : ℕ) → i < size_in f s → i < 64 → (is_shared_bit (size_in f) (processes f.clocked rs) s i || bits_in d.twice s i) ≡ is_double f rs s i
+all-doubles f rs d h s i l m =
+    let ps = processes f.clocked rs in
+    ap (λ x. is_shared_bit (size_in f) ps s i || x) (h.doubly s i l m)
+    ∙ four_ways (nat_le 2 (all_drivers f s i)) (nat_le 2 (times_driven (size_in f) ps s i)) (nat_le 2 (assigned_by f.combs s + once (is_clocked f s))) (have_other_edges ps s)

@@ -1,5 +1,5 @@
 //! Drivers: each bit has one at most, and each bit that is read has one.
-ghost use Rattle.std.specs.Prelude.{◌≡◌, true, ℕ, Bool, ◌<◌, ◌≤◌, ◌^◌, length, map, not, ◌&&◌, ◌||◌, ◌==◌, nat_eq, nat_le, ◌++◌, All, IfOk, IfErr};
+ghost use Rattle.std.specs.Prelude.{◌≡◌, true, ℕ, Bool, ◌<◌, ◌≤◌, ◌^◌, length, map, not, ◌&&◌, ◌||◌, ◌==◌, nat_eq, nat_le, ◌+◌, All, IfOk, IfErr};
 ghost use Rattle.std.specs.List.{IsDistinct};
 ghost use Rattle.cdc_base.specs.declared.signal.Signal.{Signal};
 ghost use Rattle.cell_graph.specs.Tree.{bit_at};
@@ -8,18 +8,21 @@ ghost use Rattle.flat_meaning.specs.Flat.{assigns as is_assigned};
 ghost use Rattle.flat_meaning.specs.Assigned.{is_within, may_assign};
 ghost use Rattle.flat_meaning.specs.Deps.{union};
 ghost use Rattle.flat_meaning.specs.Design.{Flat, width_in, once, times_in, all_times_in, times_assigned, times_processed};
-ghost use Rattle.flat_form.specs.View.{expr_of, target_of, targets_of, stmt_of};
+ghost use Rattle.flat_form.specs.View.{expr_of, target_of, targets_of, stmt_of, reset_of};
 ghost use Rattle.flat_form.specs.Masks.{bits_in, Adds};
 ghost use Rattle.flat_meaning.specs.Law.{expr_reads};
 ghost use Rattle.flat_form.specs.Uses.{target_reads};
 ghost use Rattle.flat_unfolding.specs.Reads.{first_from};
-ghost use Rattle.flat_unfolding.specs.Drivers.{assigned_by, bodies, all_drivers, is_read, is_from_outside, refuse_bit, refuse_first, driven_once};
+ghost use Rattle.flat_unfolding.specs.Drivers.{assigned_by, is_clocked, all_drivers, is_read, is_from_outside, refuse_bit, refuse_first, driven_once};
+ghost use Rattle.flat_drivers.specs.Clocked.{processes_in, is_shared_bit};
 ghost use Rattle.flat_drivers.specs.Driving.{Counts, CountsMore, Tries, Meets, IsFinished, is_among, design_of, assigned_in, wires_in, clocked_in, bodies_in, assigns_read, bodies_read, clocks_read};
 
+use crate::clocked::shared_bits;
+use crate::registers::registers_of;
 use cdc_base::signal::bit_name;
 use cdc_base::{Fault, NoMemory, SigKind, Signal, Stop};
 use flat_form::bits::{bits, low_bits, lowest};
-use flat_form::flat::{FStmt, FTarget, FlatAssign, FlatClocked, FlatComb};
+use flat_form::flat::{FStmt, FTarget, FlatAssign, FlatClocked, FlatComb, FlatReset};
 use flat_form::masks::Masks;
 use flat_form::uses::{add_may_assign, add_reads, add_statement_reads, add_target_reads, all_bits};
 use std::alloc::Global;
@@ -94,27 +97,48 @@ pub fn try_drivers(
     assigns: &[FlatAssign],
     combs: &[FlatComb],
     clocked: &[FlatClocked],
+    resets: &[FlatReset],
 ) -> Result<(), Stop>
     ensures exact { (f : Flat) → IsFinished (design_of signals.now assigns.now combs.now clocked.now) f
-        → All (λ (x : Signal). x.width ≤ 64) signals.now → length signals.now ≤ 2 ^ 32 → Meets (driven_once f) result }
+        → All (λ (x : Signal). x.width ≤ 64) signals.now → length signals.now ≤ 2 ^ 32
+        → Meets (driven_once f (map reset_of resets.now)) result }
     ensures numbered { IfErr result (HasNumberIn unfolding_numbers) }
 {
     let drivers = drivers_of(alloc, signals, assigns, combs, clocked)?;
-    refuse_doubles(alloc, signals, &drivers)?;
+    try_doubles(alloc, signals, clocked, resets, &drivers)?;
     let reads = reads_of(alloc, signals, assigns, combs, clocked)?;
     refuse_undriven(alloc, signals, &drivers, &reads)
 }
 
-/// Refuses the first bit with two drivers.
-fn refuse_doubles(alloc: Global, signals: &[Signal], drivers: &Drivers) -> Result<(), Stop>
+/// Refuses a bit with two drivers, or with two clocked processes that may not drive it together.
+fn try_doubles(
+    alloc: Global,
+    signals: &[Signal],
+    clocked: &[FlatClocked],
+    resets: &[FlatReset],
+    drivers: &Drivers,
+) -> Result<(), Stop>
     ensures exact { (double : ℕ → ℕ → Bool) → All (λ (x : Signal). x.width ≤ 64) signals.now → length signals.now ≤ 2 ^ 32
-        → ((s i : ℕ) → i < width_in signals.now s → i < 64 → bits_in drivers.now.twice s i ≡ double s i)
+        → ((s i : ℕ) → i < width_in signals.now s → i < 64
+        → (is_shared_bit (width_in signals.now) (processes_in clocked.now resets.now) s i || bits_in drivers.now.twice s i) ≡ double s i)
+        → Meets (refuse_first 309 (λ s x i. double s i) 0 signals.now) result }
+    ensures numbered { IfErr result (HasNumberIn unfolding_numbers) }
+{
+    let mut doubles = shared_bits(alloc, signals, clocked, resets)?;
+    doubles.add_all(&drivers.twice)?;
+    refuse_doubles(alloc, signals, &doubles)
+}
+
+/// Refuses the first of these bits.
+fn refuse_doubles(alloc: Global, signals: &[Signal], doubles: &Masks) -> Result<(), Stop>
+    ensures exact { (double : ℕ → ℕ → Bool) → All (λ (x : Signal). x.width ≤ 64) signals.now → length signals.now ≤ 2 ^ 32
+        → ((s i : ℕ) → i < width_in signals.now s → i < 64 → bits_in doubles.now s i ≡ double s i)
         → Meets (refuse_first 309 (λ s x i. double s i) 0 signals.now) result }
     ensures numbered { IfErr result (HasNumberIn unfolding_numbers) }
 {
     for (number, signal) in signals.iter().enumerate() {
         let sig = numbered(number);
-        refuse_lowest(alloc, TWO_DRIVERS, signal, drivers.twice.of(sig))?;
+        refuse_lowest(alloc, TWO_DRIVERS, signal, doubles.of(sig))?;
     }
     Ok(())
 }
@@ -196,7 +220,7 @@ fn drivers_of(
     clocked: &[FlatClocked],
 ) -> Result<Drivers, NoMemory>
     ensures { let f = design_of signals.now assigns.now combs.now clocked.now in
-        IfOk result (λ d. Counts (width_in signals.now) d (all_drivers f) (assigned_by (f.combs ++ bodies f))) }
+        IfOk result (λ d. Counts (width_in signals.now) d (all_drivers f) (λ s. assigned_by f.combs s + once (is_clocked f s))) }
 {
     let mut drivers = Drivers::new(alloc);
     add_assigns(signals, assigns, &mut drivers)?;
@@ -260,18 +284,17 @@ fn add_wires_processes(
     Ok(())
 }
 
+/// Clocked processes drive all bits of each signal that they assign, as one driver.
 fn add_clocked_processes(
     alloc: Global,
     signals: &[Signal],
     clocked: &[FlatClocked],
     drivers: &mut Drivers,
 ) -> Result<(), NoMemory>
-    ensures { IfOk result (λ _. CountsMore (width_in signals.now) drivers.old drivers.new (λ s i. assigned_by (bodies_in clocked.now) s) (λ s. assigned_by (bodies_in clocked.now) s)) }
+    ensures { IfOk result (λ _. CountsMore (width_in signals.now) drivers.old drivers.new (λ s i. once (nat_le 1 (assigned_by (bodies_in clocked.now) s))) (λ s. once (nat_le 1 (assigned_by (bodies_in clocked.now) s)))) }
 {
-    for process in clocked {
-        add_clocked_process(alloc, signals, &process.body, drivers)?;
-    }
-    Ok(())
+    let registers = registers_of(alloc, signals, clocked)?;
+    add_registers(signals, registers.signals(), drivers)
 }
 
 /// A process of wires drives the bits that it may assign.
@@ -286,20 +309,6 @@ fn add_wires_process(
     let mut may = Masks::new(alloc);
     add_may_assign(signals, body, &mut may)?;
     add_wires(signals, may.signals(), &may, drivers)
-}
-
-/// A clocked process drives all bits of each signal that it assigns.
-fn add_clocked_process(
-    alloc: Global,
-    signals: &[Signal],
-    body: &FStmt,
-    drivers: &mut Drivers,
-) -> Result<(), NoMemory>
-    ensures { IfOk result (λ _. CountsMore (width_in signals.now) drivers.old drivers.new (λ s i. once (is_assigned (stmt_of body.now) s)) (λ s. once (is_assigned (stmt_of body.now) s))) }
-{
-    let mut may = Masks::new(alloc);
-    add_may_assign(signals, body, &mut may)?;
-    add_registers(signals, may.signals(), drivers)
 }
 
 /// A process drives its bits of each of these signals.

@@ -2,5 +2,6 @@
 //! are what clocked processes drive.
 #![tactic(auto)]
 
+mod clocked;
 pub mod drivers;
 pub mod registers;

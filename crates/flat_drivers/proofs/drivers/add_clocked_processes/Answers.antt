@@ -1,27 +1,17 @@
-use Rattle.std.proofs.Common.{ℕ, List, refl}
-use Rattle.flat_meaning.specs.Flat.{assigns}
+use Rattle.std.proofs.Common.{ℕ, nat_le, ap, ◌∙◌}
+use Rattle.std.proofs.lemmas.Result.{IfOk-weaker}
 use Rattle.flat_meaning.specs.Design.{width_in, once}
-use Rattle.flat_form.specs.declared.flat.FlatClocked.{FlatClocked}
-use Rattle.flat_form.specs.View.{stmt_of}
 use Rattle.flat_unfolding.specs.Drivers.{assigned_by}
-use Rattle.flat_drivers.specs.Driving.{bodies_in}
-use Rattle.flat_drivers.proofs.Counted.{reached-start, list-step, list-end}
+use Rattle.flat_drivers.specs.Driving.{clocked_in, bodies_in, is_among}
+use Rattle.flat_drivers.proofs.Counted.{more-same, some-assigns}
 use Rattle.flat_drivers.proofs.drivers.add_clocked_processes.Goals as goal
-
-pub loop-process-init : goal.loop-process-init
-loop-process-init c = reached-start (width_in c.args.signals.now) c.args.drivers.now (λ s i. assigned_by (bodies_in c.args.clocked.now) s) (λ s. assigned_by (bodies_in c.args.clocked.now) s)
-
-pub loop-process-preserved : goal.loop-process-preserved
-loop-process-preserved c =
-    let wid = width_in c.args.signals.now in
-    let all = c.args.clocked.now in
-    let x = c.process-item.result in
-    list-step wid c.args.drivers.now c.loop-process.drivers c.add_clocked_process.new.drivers (λ (xs : List FlatClocked) (s i : ℕ). assigned_by (bodies_in xs) s) (λ (xs : List FlatClocked) (s : ℕ). assigned_by (bodies_in xs) s)
-    (λ s i. once (assigns (stmt_of x.body) s)) (λ s. once (assigns (stmt_of x.body) s)) all c.loop-process.process-index x c.loop-process-test.true c.process-item.is
-    (record { at = λ s i l m. refl }) (λ s. refl) c.loop-process.invariant c.in_ok-add_clocked_process.ensures
 
 pub returns : goal.returns
 returns c =
     let wid = width_in c.args.signals.now in
-    list-end wid c.args.drivers.now c.loop-process.drivers (λ (xs : List FlatClocked) (s i : ℕ). assigned_by (bodies_in xs) s) (λ (xs : List FlatClocked) (s : ℕ). assigned_by (bodies_in xs) s)
-    c.args.clocked.now c.loop-process.process-index c.loop-process-test.false (λ s j. refl) (λ s. refl) c.loop-process.invariant
+    let ps = c.args.clocked.now in
+    let all = c.signals.result.now in
+    let some = λ (s : ℕ). nat_le 1 (assigned_by (bodies_in ps) s) in
+    let listed = λ (s : ℕ). c.signals.ensures.exact s ∙ c.in_ok-registers.ensures s ∙ some-assigns (clocked_in ps) s in
+    IfOk-weaker c.add_registers.result _ _ (λ _ h. more-same wid c.args.drivers.now c.add_registers.new.drivers (λ s i. once (is_among all s)) (λ s i. once (some s)) (λ s. once (is_among all s)) (λ s. once (some s))
+    (record { at = λ s i l m. ap once (listed s) }) (λ s. ap once (listed s)) h) (c.add_registers.ensures c.signals.ensures.distinct)

@@ -15,7 +15,7 @@ loop-number-preserved c = λ double h few e.
     let is = c.index-signals-number.is in
     let small = one_signal (λ (y : Signal). y.width ≤ 64) xs n x h lt is in
     let p = λ (s : ℕ) (y : Signal) (i : ℕ). double s i in
-    let bits = mask-is c.args.drivers.now.twice c.numbered-sig.result n c.of.result x.width xs double (c.numbered-sig.ensures (omega arith)) c.of.ensures.bits e (width_here xs n x lt is) small in
+    let bits = mask-is c.args.doubles.now c.numbered-sig.result n c.of.result x.width xs double (c.numbered-sig.ensures (omega arith)) c.of.ensures.bits e (width_here xs n x lt is) small in
     passes (refuse_first 309 p 0 xs) (refuse_first 309 p (n + 1) (drop (n + 1) xs)) (refuse_bit 309 x (first_from (double n) 0 x.width)) (c.loop-number.invariant double h few e ∙ turn 309 p xs n x lt is) (c.in_ok-refuse_lowest.ensures.exact (double n) small bits)
 
 pub returns-in_err-refuse_lowest-clause-exact : goal.returns-in_err-refuse_lowest-clause-exact
@@ -27,7 +27,7 @@ returns-in_err-refuse_lowest-clause-exact c = λ double h few e.
     let is = c.index-signals-number.is in
     let small = one_signal (λ (y : Signal). y.width ≤ 64) xs n x h lt is in
     let p = λ (s : ℕ) (y : Signal) (i : ℕ). double s i in
-    let bits = mask-is c.args.drivers.now.twice c.numbered-sig.result n c.of.result x.width xs double (c.numbered-sig.ensures (omega arith)) c.of.ensures.bits e (width_here xs n x lt is) small in
+    let bits = mask-is c.args.doubles.now c.numbered-sig.result n c.of.result x.width xs double (c.numbered-sig.ensures (omega arith)) c.of.ensures.bits e (width_here xs n x lt is) small in
     let q = err_from_is_err_and c.from_residual.result c.from_residual.ensures.1 in
     rw (q.1, q.2) (meets-stop (refuse_first 309 p 0 xs) (refuse_first 309 p (n + 1) (drop (n + 1) xs)) (refuse_bit 309 x (first_from (double n) 0 x.width)) c.in_err-refuse_lowest.field-0.0 (c.loop-number.invariant double h few e ∙ turn 309 p xs n x lt is)
     (c.in_err-refuse_lowest.ensures.exact (double n) small bits))

@@ -8,5 +8,5 @@ use Rattle.flat_drivers.proofs.drivers.refuse_doubles.Given as goal
 
 abbrev pub invariant-loop-number : goal.invariant-loop-number
 invariant-loop-number l = (double : ℕ → ℕ → Bool) → All (λ (x : Signal). x.width ≤ 64) l.signals → length l.signals ≤ 2 ^ 32
-    → ((s i : ℕ) → i < width_in l.signals s → i < 64 → bits_in l.drivers.twice s i ≡ double s i)
+    → ((s i : ℕ) → i < width_in l.signals s → i < 64 → bits_in l.doubles s i ≡ double s i)
     → refuse_first 309 (λ s x i. double s i) 0 l.signals ≡ refuse_first 309 (λ s x i. double s i) l.number (drop l.number l.signals)
