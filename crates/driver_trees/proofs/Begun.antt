@@ -1,32 +1,33 @@
 -- Processes that begin, and that end.
-use Rattle.std.proofs.Common.{◌≡◌, ℕ, zero, suc, ◌+◌, ◌-◌, ◌<◌, ◌≤◌, Bool, true, false, cond, ◌&&◌, ◌||◌, ◌==◌, List, [], ◌∷◌, ◌++◌, Option, Some, None, is_some, unwrap_or, slice_get, slice_set, option_map, refl, sym, ap, ap₂, subst, ◌∙◌, arith, eqb-true, eq-eqb}
+use Rattle.std.proofs.Common.{◌≡◌, ℕ, zero, suc, ◌+◌, ◌-◌, ◌<◌, ◌≤◌, Bool, true, false, cond, ◌||◌, ◌==◌, List, [], ◌∷◌, ◌++◌, Option, Some, None, is_some, unwrap_or, slice_get, slice_set, option_map, ◌≢◌, refl, sym, ap, ap₂, subst, ◌∙◌, arith, eqb-true, eq-eqb, append-nil}
 use mathlib.Core.Path.{fun_ext}
-use Rattle.std.specs.List.{AllByRecursion as Each}
-use Rattle.std.specs.Option.{option_flatten, option_or}
+use Rattle.std.specs.Option.{option_flatten, option_or, option_map_or}
 use Rattle.std.specs.Ordering.{nat_cmp}
 use Rattle.std.specs.Map.{lookup}
 use Rattle.std.specs.BTreeMap.{BTreeMap, get, IsEmpty, is_at}
 use Rattle.std.proofs.lemmas.Option.{same_Some}
 use Rattle.cell_graph.specs.declared.cell.CellId.{CellId}
-use Rattle.cell_graph.specs.Tree.{Tree, bit_at}
+use Rattle.cell_graph.specs.Tree.{Const, bit_at}
 use Rattle.cell_graph.proofs.Words.{bit-zero}
 use Rattle.flat_meaning.specs.Flat.{Stmt, assigns}
-use Rattle.flat_meaning.specs.Trees.{Selects, Trees, after}
+use Rattle.flat_meaning.specs.Trees.{Selects, Trees}
 use Rattle.flat_meaning.specs.Assigned.{Done, may_assign}
 use Rattle.flat_meaning.specs.Law.{AreWords}
-use Rattle.flat_meaning.specs.Pieces.{Run, run_pieces, runs}
+use Rattle.flat_meaning.specs.Pieces.{runs}
+use Rattle.flat_meaning.specs.SignalTrees.{sharing, clock_tree_in}
 use Rattle.flat_meaning.proofs.Depth.{by_bool}
 use Rattle.driver_trees.specs.declared.draft.Draft.{Draft}
 use Rattle.driver_trees.specs.declared.present.Present.{Present}
+use Rattle.driver_trees.specs.declared.shared.Giver.{Giver}
+use Rattle.driver_trees.specs.declared.sketch.Next.{Next}
 use Rattle.driver_trees.specs.Drafts.{tree_in, AreDrafts, IsDraftOf}
 use Rattle.driver_trees.specs.Growth.{Grows}
 use Rattle.driver_trees.specs.Presents.{present_of}
-use Rattle.driver_trees.specs.Changes.{IsWordOf, IsProcess, look_of}
+use Rattle.driver_trees.specs.Changes.{IsWordOf, IsProcess}
 use Rattle.driver_trees.specs.Collected.{has_bit, Adds}
-use Rattle.driver_trees.specs.Sketched.{IsIdle, begin_tree, last_tree, next_in, clock_in, IsNext, AreNexts}
+use Rattle.driver_trees.specs.Sketched.{IsIdle, begin_tree, last_tree, IsNext, IsGiver, AreGivers, givers_in, clock_at, IsClockOf, AreNexts, given_by}
 use Rattle.driver_trees.proofs.Growing.{place-kept, tree-kept}
 use Rattle.driver_trees.proofs.Maps.{at_query}
-use Rattle.driver_trees.proofs.Merges.{word_same}
 use Rattle.driver_trees.proofs.Stays.{word_grows}
 use Rattle.driver_trees.proofs.Runs.{runs_past, runs_same}
 
@@ -148,96 +149,172 @@ all_ended left p e h x = go (present_of p x) (λ s. sym (ap (λ es. is_some (loo
     go None f = refl
     go (Some i) f = never_true (f refl)
 
--- ---- next values, process by process
+-- ---- what one process gives, register by register
 
-abbrev Next : Type 0
-Next = CellId × CellId
+pub nothing_given : (gs : List Giver) (b : Bool) → gs ≡ gs ++ cond b [] []
+nothing_given gs true = sym (append-nil gs)
+nothing_given gs false = sym (append-nil gs)
 
-pub next_taken : (clock : CellId) (k x : ℕ) (n new : Option Next) (p : ℕ → Option CellId) (q : Option CellId) → q ≡ cond (x == k) None (p x)
-    → new ≡ option_or n (cond (x == k) (option_map (λ id. (id, clock)) (p k)) None) → option_or new (option_map (λ id. (id, clock)) q) ≡ option_or n (option_map (λ id. (id, clock)) (p x))
-next_taken clock k x n new p q e f = ap₂ (λ a b. option_or a (option_map (λ id. (id, clock)) b)) f e ∙ go (x == k) refl n
+last_or : {A : Type 0} (o : Option A) → option_or o None ≡ o
+last_or None = refl
+last_or (Some i) = refl
+
+pub no_clock : (o : Option CellId) (b : Bool) → o ≡ option_or o (cond b None None)
+no_clock o true = sym (last_or o)
+no_clock o false = sym (last_or o)
+
+pub givers_taken : (k v x : ℕ) (old new : List Giver) (p : ℕ → Option CellId) (q : Option CellId) (bits : ℕ → ℕ) → bits k ≡ v → q ≡ cond (x == k) None (p x)
+    → new ≡ old ++ cond (x == k) (given_by (p k) v) [] → new ++ given_by q (bits x) ≡ old ++ given_by (p x) (bits x)
+givers_taken k v x old new p q bits a e f = ap₂ (λ u w. u ++ given_by w (bits x)) f e ∙ go (x == k) refl
   where
-    last : (o : Option Next) → option_or o None ≡ o
-    last None = refl
-    last (Some i) = refl
+    go : (b : Bool) → (x == k) ≡ b → (old ++ cond b (given_by (p k) v) []) ++ given_by (cond b None (p x)) (bits x) ≡ old ++ given_by (p x) (bits x)
+    go true c = append-nil (old ++ given_by (p k) v) ∙ ap₂ (λ y w. old ++ given_by (p y) w) (sym (eqb-true x k c)) (sym a ∙ ap bits (sym (eqb-true x k c)))
+    go false c = ap (λ l. l ++ given_by (p x) (bits x)) (append-nil old)
 
-    go : (b : Bool) → (x == k) ≡ b → (n : Option Next) → option_or (option_or n (cond b (option_map (λ id. (id, clock)) (p k)) None)) (option_map (λ id. (id, clock)) (cond b None (p x))) ≡ option_or n (option_map (λ id. (id, clock)) (p x))
+pub clock_taken : (clock : CellId) (k x : ℕ) (old new : Option CellId) (p : ℕ → Option CellId) (q : Option CellId) → q ≡ cond (x == k) None (p x)
+    → new ≡ option_or old (cond (x == k) (option_map (λ id. clock) (p k)) None) → option_or new (option_map (λ id. clock) q) ≡ option_or old (option_map (λ id. clock) (p x))
+clock_taken clock k x old new p q e f = ap₂ (λ a b. option_or a (option_map (λ id. clock) b)) f e ∙ go (x == k) refl old
+  where
+    go : (b : Bool) → (x == k) ≡ b → (n : Option CellId) → option_or (option_or n (cond b (option_map (λ id. clock) (p k)) None)) (option_map (λ id. clock) (cond b None (p x))) ≡ option_or n (option_map (λ id. clock) (p x))
     go b c (Some i) = refl
-    go true c None = last (option_map (λ id. (id, clock)) (p k)) ∙ ap (λ y. option_map (λ id. (id, clock)) (p y)) (sym (eqb-true x k c))
+    go true c None = last_or (option_map (λ id. clock) (p k)) ∙ ap (λ y. option_map (λ id. clock) (p y)) (sym (eqb-true x k c))
     go false c None = refl
 
-pub nexts_end : (clock : CellId) (n v : Option Next) (q : Option CellId) → q ≡ None → option_or n (option_map (λ id. (id, clock)) q) ≡ v → n ≡ v
-nexts_end clock n v q e h = sym (last n) ∙ ap (λ o. option_or n (option_map (λ id. (id, clock)) o)) (sym e) ∙ h
-  where
-    last : (o : Option Next) → option_or o None ≡ o
-    last None = refl
-    last (Some i) = refl
+pub givers_end : (gs all : List Giver) (q : Option CellId) (bits : ℕ) → q ≡ None → gs ++ given_by q bits ≡ all → gs ≡ all
+givers_end gs all q bits e h = sym (append-nil gs) ∙ ap (λ o. gs ++ given_by o bits) (sym e) ∙ h
 
-pub next_grows : (wid : ℕ → ℕ) (ds es : List Draft) (g : Grows wid ds es) (e : Next) (x : ℕ) (next clock : Selects → Trees) → IsNext wid ds e x next clock → IsNext wid es e x next clock
+pub clocks_end : (clock : CellId) (o all : Option CellId) (q : Option CellId) → q ≡ None → option_or o (option_map (λ id. clock) q) ≡ all → o ≡ all
+clocks_end clock o all q e h = sym (last_or o) ∙ ap (λ u. option_or o (option_map (λ id. clock) u)) (sym e) ∙ h
+
+-- ---- what processes give, one after another
+
+pub next_grows : (wid : ℕ → ℕ) (ds es : List Draft) (g : Grows wid ds es) (e : CellId × CellId) (x : ℕ) (next clock : Selects → Trees) → IsNext wid ds e x next clock → IsNext wid es e x next clock
 next_grows wid ds es g e x next clock h = record {
   next = word_grows wid ds es g e.0 x next h.next;
   clock = place-kept ds es e.1 1 g.longer h.clock;
   clock_tree = λ sel. tree-kept sel ds es g.longer e.1 h.clock.0 ∙ h.clock_tree sel;
 }
 
-pub nexts_grow : (wid : ℕ → ℕ) (ds es : List Draft) (g : Grows wid ds es) (m : BTreeMap ℕ Next) (left all : List (ℕ × Stmt)) → AreNexts wid ds m left all → AreNexts wid es m left all
-nexts_grow wid ds es g m left all h = record { known = λ x e k. next_grows wid ds es g e x (next_in wid all) (clock_in all) (h.known x e k); unknown = h.unknown }
+shares_grow : (wid : ℕ → ℕ) (ds es : List Draft) (g : Grows wid ds es) (x : ℕ) (gs : List Giver) (bodies : List Stmt) → AreGivers wid ds x gs bodies → AreGivers wid es x gs bodies
+shares_grow wid ds es g x [] [] h = h
+shares_grow wid ds es g x [] (body ∷ bodies) h = h
+shares_grow wid ds es g x (a ∷ gs) [] h = h
+shares_grow wid ds es g x (a ∷ gs) (body ∷ bodies) h = (
+  record { word = word_grows wid ds es g a.tree x (λ sel. last_tree wid sel body) h.0.word; bits = h.0.bits },
+  shares_grow wid ds es g x gs bodies h.1,
+)
 
-pub nexts_none : (wid : ℕ → ℕ) (ds : List Draft) (m : BTreeMap ℕ Next) (all : List (ℕ × Stmt)) → IsEmpty m → AreNexts wid ds m all all
-nexts_none wid ds m all empty = record { known = λ x e h. never (sym (ap (λ es. lookup (is_at (nat_cmp x)) es) empty) ∙ h); unknown = λ x h sel. (refl, refl) }
+clock_grows : (wid : ℕ → ℕ) (ds es : List Draft) (g : Grows wid ds es) (x : ℕ) (o : Option CellId) (ps : List (ℕ × Stmt)) → IsClockOf ds x o ps → IsClockOf es x o ps
+clock_grows wid ds es g x None ps h = h
+clock_grows wid ds es g x (Some id) ps h = (place-kept ds es id 1 g.longer h.0, λ sel. tree-kept sel ds es g.longer id h.0.0 ∙ h.1 sel, h.2)
 
-module _ (wid : ℕ → ℕ) (ds es : List Draft) (g : Grows wid ds es) (old new : BTreeMap ℕ Next) (p : ℕ × Stmt) (left all : List (ℕ × Stmt)) (clock : CellId) (q : ℕ → Option CellId) where
-  pub nexts_more : AreNexts wid ds old (p ∷ left) all → ((x : ℕ) → get nat_cmp new x ≡ option_or (get nat_cmp old x) (option_map (λ id. (id, clock)) (q x))) → ((x : ℕ) → is_some (q x) ≡ assigns p.1 x)
-      → ((x : ℕ) (id : CellId) → q x ≡ Some id → IsWordOf wid es id x (λ sel. last_tree wid sel p.1)) → IsDraftOf es clock 1 → ((sel : Selects) → tree_in sel es clock ≡ sel p.0 0 1) → AreNexts wid es new left all
-  nexts_more h now targets words place tree = record {
-    known = λ x e k. one x e (get nat_cmp old x) refl (q x) refl (sym (now x) ∙ k);
-    unknown = λ x k sel. two x sel (get nat_cmp old x) refl (q x) refl (sym (now x) ∙ k);
+pub nexts_grow : (wid : ℕ → ℕ) (ds es : List Draft) (g : Grows wid ds es) (m : BTreeMap ℕ Next) (ps : List (ℕ × Stmt)) → AreNexts wid ds m ps → AreNexts wid es m ps
+nexts_grow wid ds es g m ps h = record { shares = λ x. shares_grow wid ds es g x (givers_in m x) (sharing ps x) (h.shares x); clocks = λ x. clock_grows wid ds es g x (clock_at m x) ps (h.clocks x) }
+
+pub nexts_none : (wid : ℕ → ℕ) (ds : List Draft) (m : BTreeMap ℕ Next) → IsEmpty m → AreNexts wid ds m []
+nexts_none wid ds m empty = record {
+  shares = λ x. subst (λ (o : Option Next). AreGivers wid ds x (option_map_or (λ (n : Next). n.givers.items) o []) []) (sym (none x)) tt;
+  clocks = λ x. subst (λ (o : Option Next). IsClockOf ds x (option_map (λ (n : Next). n.clock) o) []) (sym (none x)) refl;
+}
+  where
+    none : (x : ℕ) → get nat_cmp m x ≡ None
+    none x = ap (λ es. lookup (is_at (nat_cmp x)) es) empty
+
+sharing_end : (ps : List (ℕ × Stmt)) (p : ℕ × Stmt) (x : ℕ) → sharing (ps ++ p ∷ []) x ≡ sharing ps x ++ cond (assigns p.1 x) (p.1 ∷ []) []
+sharing_end [] p x = refl
+sharing_end (r ∷ ps) p x = ap (λ l. cond (assigns r.1 x) (r.1 ∷ l) l) (sharing_end ps p x) ∙ go (assigns r.1 x)
+  where
+    go : (b : Bool) → cond b (r.1 ∷ sharing ps x ++ cond (assigns p.1 x) (p.1 ∷ []) []) (sharing ps x ++ cond (assigns p.1 x) (p.1 ∷ []) []) ≡ cond b (r.1 ∷ sharing ps x) (sharing ps x) ++ cond (assigns p.1 x) (p.1 ∷ []) []
+    go true = refl
+    go false = refl
+
+module _ (sel : Selects) (x : ℕ) (p : ℕ × Stmt) where
+  -- the clock is that of the first process
+  clock_stays : (ps : List (ℕ × Stmt)) → (sharing ps x ≢ []) → clock_tree_in sel (ps ++ p ∷ []) x ≡ clock_tree_in sel ps x
+  clock_stays [] h = absurd (h refl)
+  clock_stays (r ∷ ps) h = let rest = clock_tree_in sel (ps ++ p ∷ []) x in by_bool (assigns r.1 x)
+      (λ e. ap (λ b. cond b (sel r.0 0 1) rest) e ∙ sym (ap (λ b. cond b (sel r.0 0 1) (clock_tree_in sel ps x)) e))
+      (λ e. ap (λ t. cond (assigns r.1 x) (sel r.0 0 1) t) (clock_stays ps (λ f. h (ap (λ b. cond b (r.1 ∷ sharing ps x) (sharing ps x)) e ∙ f))))
+
+some_first : (b : Stmt) (bs : List Stmt) → b ∷ bs ≡ [] → ⊥
+some_first b bs e = cc
+
+-- the processes that don't assign the register have no part in its clock
+clock_behind : (sel : Selects) (x : ℕ) (ps qs : List (ℕ × Stmt)) → sharing ps x ≡ [] → clock_tree_in sel (ps ++ qs) x ≡ clock_tree_in sel qs x
+clock_behind sel x [] qs h = refl
+clock_behind sel x (r ∷ ps) qs h = let shared = λ (b : Bool). cond b (r.1 ∷ sharing ps x) (sharing ps x) in by_bool (assigns r.1 x)
+    (λ e. absurd (some_first r.1 (sharing ps x) (sym (ap shared e) ∙ h)))
+    (λ e. ap (λ b. cond b (sel r.0 0 1) (clock_tree_in sel (ps ++ qs) x)) e ∙ clock_behind sel x ps qs (sym (ap shared e) ∙ h))
+
+pub no_clock_tree : (sel : Selects) (x : ℕ) (ps : List (ℕ × Stmt)) → sharing ps x ≡ [] → clock_tree_in sel ps x ≡ Const 1 0
+no_clock_tree sel x ps h = ap (λ l. clock_tree_in sel l x) (sym (append-nil ps)) ∙ clock_behind sel x ps [] h
+
+shares_more : (wid : ℕ → ℕ) (ds : List Draft) (x : ℕ) (gs : List Giver) (bodies : List Stmt) (g : Giver) (body : Stmt) → AreGivers wid ds x gs bodies → IsGiver wid ds x g body → AreGivers wid ds x (gs ++ g ∷ []) (bodies ++ body ∷ [])
+shares_more wid ds x [] [] g body h is = (is, tt)
+shares_more wid ds x [] (b ∷ bodies) g body h is = absurd h
+shares_more wid ds x (a ∷ gs) [] g body h is = absurd h
+shares_more wid ds x (a ∷ gs) (b ∷ bodies) g body h is = (h.0, shares_more wid ds x gs bodies g body h.1 is)
+
+front_none : (xs ys : List Stmt) → xs ++ ys ≡ [] → xs ≡ []
+front_none [] ys e = refl
+front_none (x ∷ xs) ys e = cc
+
+module _ (wid : ℕ → ℕ) (ds es : List Draft) (g : Grows wid ds es) (old new : BTreeMap ℕ Next) (ps : List (ℕ × Stmt)) (p : ℕ × Stmt) (clock : CellId) (q : ℕ → Option CellId) (bits : ℕ → ℕ) where
+  pub nexts_more : AreNexts wid ds old ps → ((x : ℕ) → givers_in new x ≡ givers_in old x ++ given_by (q x) (bits x)) → ((x : ℕ) → clock_at new x ≡ option_or (clock_at old x) (option_map (λ id. clock) (q x)))
+      → ((x : ℕ) → is_some (q x) ≡ assigns p.1 x) → ((x : ℕ) (id : CellId) → q x ≡ Some id → IsWordOf wid es id x (λ sel. last_tree wid sel p.1)) → ((x i : ℕ) → i < 64 → bit_at (bits x) i ≡ may_assign wid p.1 x i)
+      → IsDraftOf es clock 1 → ((sel : Selects) → tree_in sel es clock ≡ sel p.0 0 1) → AreNexts wid es new (ps ++ p ∷ [])
+  nexts_more h givers clocks targets words may place tree = record {
+    shares = λ x. subst (λ (l : List Giver). AreGivers wid es x l (sharing (ps ++ p ∷ []) x)) (sym (givers x)) (one x (q x) refl);
+    clocks = λ x. subst (λ (o : Option CellId). IsClockOf es x o (ps ++ p ∷ [])) (sym (clocks x)) (two x (clock_at old x) (h.clocks x) (q x) refl);
   }
     where
-      one : (x : ℕ) (e : Next) (o : Option Next) → get nat_cmp old x ≡ o → (u : Option CellId) → q x ≡ u → option_or o (option_map (λ id. (id, clock)) u) ≡ Some e → IsNext wid es e x (next_in wid all) (clock_in all)
-      one x e (Some i) a u b c = subst (λ j. IsNext wid es j x (next_in wid all) (clock_in all)) (some_next i e c) (next_grows wid ds es g i x (next_in wid all) (clock_in all) (h.known x i a))
-        where
-          some_next : (i e : Next) → Some i ≡ Some e → i ≡ e
-          some_next i e h = ap (λ o. unwrap_or o i) h
-      one x e None a None b c = never c
-      one x e None a (Some id) b c = subst (λ j. IsNext wid es j x (next_in wid all) (clock_in all)) (some_next (id, clock) e c) (record {
-        next = word_same wid es id x (λ sel. last_tree wid sel p.1) (next_in wid all) (words x id b) (λ sel. sym (ap (λ z. cond z (last_tree wid sel p.1 x) (next_in wid left sel x)) mine) ∙ (h.unknown x a sel).0);
-        clock = place;
-        clock_tree = λ sel. tree sel ∙ sym (ap (λ z. cond z (sel p.0 0 1) (clock_in left sel x)) mine) ∙ (h.unknown x a sel).1;
-      })
-        where
-          some_next : (i e : Next) → Some i ≡ Some e → i ≡ e
-          some_next i e h = ap (λ o. unwrap_or o i) h
+      added : (x : ℕ) (u : Option CellId) → q x ≡ u → sharing (ps ++ p ∷ []) x ≡ sharing ps x ++ cond (is_some u) (p.1 ∷ []) []
+      added x u e = sharing_end ps p x ∙ ap (λ b. sharing ps x ++ cond b (p.1 ∷ []) []) (sym (targets x) ∙ ap is_some e)
 
-          mine : assigns p.1 x ≡ true
-          mine = sym (targets x) ∙ ap is_some b
+      one : (x : ℕ) (u : Option CellId) → q x ≡ u → AreGivers wid es x (givers_in old x ++ given_by u (bits x)) (sharing (ps ++ p ∷ []) x)
+      one x None e = subst (λ (l : List Giver). AreGivers wid es x l (sharing (ps ++ p ∷ []) x)) (sym (append-nil (givers_in old x)))
+          (subst (AreGivers wid es x (givers_in old x)) (sym (added x None e ∙ append-nil (sharing ps x))) (shares_grow wid ds es g x (givers_in old x) (sharing ps x) (h.shares x)))
+      one x (Some id) e = subst (AreGivers wid es x (givers_in old x ++ record { tree = id; bits = bits x } ∷ [])) (sym (added x (Some id) e))
+          (shares_more wid es x (givers_in old x) (sharing ps x) (record { tree = id; bits = bits x }) p.1 (shares_grow wid ds es g x (givers_in old x) (sharing ps x) (h.shares x)) (record { word = words x id e; bits = may x }))
 
-      two : (x : ℕ) (sel : Selects) (o : Option Next) → get nat_cmp old x ≡ o → (u : Option CellId) → q x ≡ u → option_or o (option_map (λ id. (id, clock)) u) ≡ None
-          → (next_in wid left sel x ≡ next_in wid all sel x) × (clock_in left sel x ≡ clock_in all sel x)
-      two x sel (Some i) a u b c = never (sym c)
-      two x sel None a (Some id) b c = never (sym c)
-      two x sel None a None b c = let other = sym (targets x) ∙ ap is_some b in
-          (sym (ap (λ z. cond z (last_tree wid sel p.1 x) (next_in wid left sel x)) other) ∙ (h.unknown x a sel).0, sym (ap (λ z. cond z (sel p.0 0 1) (clock_in left sel x)) other) ∙ (h.unknown x a sel).1)
+      some_end : (bs : List Stmt) (b : Stmt) → bs ≡ [] → bs ++ b ∷ [] ≡ [] → ⊥
+      some_end [] b e f = cc
+      some_end (c ∷ bs) b e f = cc
 
-last_or : (o : Option Next) → option_or o None ≡ o
-last_or None = refl
-last_or (Some i) = refl
+      two : (x : ℕ) (o : Option CellId) → IsClockOf ds x o ps → (u : Option CellId) → q x ≡ u → IsClockOf es x (option_or o (option_map (λ id. clock) u)) (ps ++ p ∷ [])
+      two x (Some i) k u e = (
+        place-kept ds es i 1 g.longer k.0,
+        λ sel. tree-kept sel ds es g.longer i k.0.0 ∙ k.1 sel ∙ sym (clock_stays sel x p ps k.2),
+        λ f. k.2 (front_none (sharing ps x) (cond (assigns p.1 x) (p.1 ∷ []) []) (sym (sharing_end ps p x) ∙ f)),
+      )
+      two x None k None e = added x None e ∙ append-nil (sharing ps x) ∙ k
+      two x None k (Some id) e = (
+        place,
+        λ sel. tree sel ∙ sym (clock_behind sel x ps (p ∷ []) k ∙ ap (λ b. cond b (sel p.0 0 1) (Const 1 0)) (sym (targets x) ∙ ap is_some e)),
+        λ f. some_end (sharing ps x) p.1 k (sym (added x (Some id) e) ∙ f),
+      )
 
-pub known_stays : (p : ℕ → Option Next) (k : ℕ) (v w : Next) → p k ≡ Some w → (x : ℕ) → p x ≡ option_or (p x) (cond (x == k) (Some v) None)
-known_stays p k v w h x = go (p x) refl (x == k) refl
-  where
-    go : (o : Option Next) → p x ≡ o → (b : Bool) → (x == k) ≡ b → o ≡ option_or o (cond b (Some v) None)
-    go (Some i) e b f = refl
-    go None e true f = never (sym e ∙ ap p (eqb-true x k f) ∙ h)
-    go None e false f = refl
+-- ---- a register's entry
 
-pub new_added : (p q : ℕ → Option Next) (k : ℕ) (v : Next) → p k ≡ None → ((x : ℕ) → q x ≡ cond (is_at (nat_cmp k) x) (Some v) (p x)) → (x : ℕ) → q x ≡ option_or (p x) (cond (x == k) (Some v) None)
-new_added p q k v h e x = e x ∙ ap (λ b. cond b (Some v) (p x)) (at_query k x) ∙ go (x == k) refl
-  where
-    go : (b : Bool) → (x == k) ≡ b → cond b (Some v) (p x) ≡ option_or (p x) (cond b (Some v) None)
-    go true f = sym (ap (λ o. option_or o (Some v)) (ap p (eqb-true x k f) ∙ h))
-    go false f = sym (last_or (p x))
+module _ (k : ℕ) (giver : Giver) (clock : CellId) (old mid new : BTreeMap ℕ Next) (next : Next) (at_others : (x : ℕ) → get nat_cmp mid x ≡ cond (x == k) None (get nat_cmp old x))
+    (puts : (x : ℕ) → get nat_cmp new x ≡ cond (is_at (nat_cmp k) x) (Some next) (get nat_cmp mid x)) where
+  now_at : (x : ℕ) → get nat_cmp new x ≡ cond (x == k) (Some next) (get nat_cmp old x)
+  now_at x = puts x ∙ ap₂ (λ b o. cond b (Some next) o) (at_query k x) (at_others x) ∙ go (x == k) (get nat_cmp old x)
+    where
+      go : (b : Bool) (o : Option Next) → cond b (Some next) (cond b None o) ≡ cond b (Some next) o
+      go true o = refl
+      go false o = refl
 
-pub nothing_added : (n : Option Next) (b : Bool) → n ≡ option_or n (cond b None None)
-nothing_added n true = sym (last_or n)
-nothing_added n false = sym (last_or n)
+  pub giver_added : next.givers.items ≡ givers_in old k ++ giver ∷ [] → (x : ℕ) → givers_in new x ≡ givers_in old x ++ cond (x == k) (giver ∷ []) []
+  giver_added h x = ap (λ (o : Option Next). option_map_or (λ (n : Next). n.givers.items) o []) (now_at x) ∙ go (x == k) refl
+    where
+      go : (b : Bool) → (x == k) ≡ b → option_map_or (λ (n : Next). n.givers.items) (cond b (Some next) (get nat_cmp old x)) [] ≡ givers_in old x ++ cond b (giver ∷ []) []
+      go true e = h ∙ ap (λ y. givers_in old y ++ giver ∷ []) (sym (eqb-true x k e))
+      go false e = sym (append-nil (givers_in old x))
+
+  pub clock_added : Some next.clock ≡ option_or (clock_at old k) (Some clock) → (x : ℕ) → clock_at new x ≡ option_or (clock_at old x) (cond (x == k) (Some clock) None)
+  clock_added h x = ap (option_map (λ (n : Next). n.clock)) (now_at x) ∙ go (x == k) refl
+    where
+      go : (b : Bool) → (x == k) ≡ b → option_map (λ (n : Next). n.clock) (cond b (Some next) (get nat_cmp old x)) ≡ option_or (clock_at old x) (cond b (Some clock) None)
+      go true e = h ∙ ap (λ y. option_or (clock_at old y) (Some clock)) (sym (eqb-true x k e))
+      go false e = sym (last_or (clock_at old x))

@@ -5,6 +5,7 @@ pub mod Collected
 pub mod Copies
 pub mod Drafted
 pub mod Forms
+pub mod Givers
 pub mod Growing
 pub mod Joining
 pub mod Maps

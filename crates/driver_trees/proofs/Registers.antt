@@ -1,5 +1,5 @@
 -- Registers' next values, where the selects are a design's trees.
-use Rattle.std.proofs.Common.{◌≡◌, ℕ, ◌+◌, ◌<◌, ◌≤◌, Bool, true, false, cond, ◌==◌, List, [], ◌∷◌, ◌++◌, map, All, Option, Some, None, slice_get, length, get_or, refl, sym, ap, ap₂, subst, ◌∙◌, arith, eq-eqb}
+use Rattle.std.proofs.Common.{◌≡◌, ℕ, zero, suc, Bool, true, cond, List, [], ◌∷◌, ◌++◌, map, All, Some, slice_get, get_or, refl, sym, ap, ap₂, subst, ◌∙◌, eq-eqb}
 use mathlib.Core.Path.{fun_ext}
 use Rattle.std.specs.List.{AllByRecursion as Each}
 use Rattle.std.specs.Option.{option_map_or}
@@ -15,7 +15,7 @@ use Rattle.flat_meaning.specs.Law.{next_tree}
 use Rattle.flat_meaning.specs.Pieces.{wire_select}
 use Rattle.flat_meaning.specs.Design.{Flat, size_in, kind_in, kind_is_variable, is_variable}
 use Rattle.flat_meaning.specs.Sound.{IsSoundClocked}
-use Rattle.flat_meaning.specs.SignalTrees.{AreTrees, pieces_of, next_tree_in}
+use Rattle.flat_meaning.specs.SignalTrees.{AreTrees, pieces_of, sharing, giver, given_tree, joined_runs, next_tree_by, next_tree_in}
 use Rattle.flat_meaning.proofs.Depth.{by_bool}
 use Rattle.flat_meaning.proofs.Placed.{each_of}
 use Rattle.driver_trees.specs.declared.draft.Draft.{Draft}
@@ -23,7 +23,7 @@ use Rattle.driver_trees.specs.declared.sketch.Register.{Register}
 use Rattle.driver_trees.specs.Drafts.{tree_in, width_at, IsDraftOf}
 use Rattle.driver_trees.specs.Growth.{Grows}
 use Rattle.driver_trees.specs.Sketches.{IsRegisterIn}
-use Rattle.driver_trees.specs.Sketched.{begin_tree, last_tree, next_in, clock_in, IsRegisterOf}
+use Rattle.driver_trees.specs.Sketched.{last_tree, given_in, next_by, next_in, clock_in, IsRegisterOf}
 use Rattle.driver_trees.proofs.Growing.{place-kept, tree-kept}
 use Rattle.driver_trees.proofs.Begun.{next_grows}
 
@@ -37,9 +37,28 @@ module _ (f : Flat) (sel : Selects) (are : AreTrees f sel) where
   last_same body h x = ap (λ (ts : Trees). after (size_in f) (λ us. sel) body ts x) (fun_ext (λ y. by_bool (assigns body y)
       (λ e. ap (λ b. cond b (sel y 0 (size_in f y)) (Var y (size_in f y))) e ∙ own y (h y e)) (λ e. ap (λ b. cond b (sel y 0 (size_in f y)) (Var y (size_in f y))) e)))
 
+  -- a process that assigns only variables
+  abbrev AssignsVariables : Stmt → Type 0
+  AssignsVariables body = (s : ℕ) → assigns body s ≡ true → is_variable f s ≡ true
+
+  given_same : (bodies : List Stmt) → Each AssignsVariables bodies → (x : ℕ) → is_variable f x ≡ true → (k : ℕ) → given_in (size_in f) sel bodies x k ≡ given_tree (size_in f) sel bodies x k
+  given_same [] h x v k = own x v
+  given_same (body ∷ bodies) h x v zero = last_same body h.0 x
+  given_same (body ∷ bodies) h x v (suc k) = given_same bodies h.1 x v k
+
+  by_same : (bodies : List Stmt) → Each AssignsVariables bodies → (x : ℕ) → is_variable f x ≡ true → next_by (size_in f) sel bodies x ≡ next_tree_by (size_in f) sel bodies x
+  by_same [] h x v = own x v
+  by_same (body ∷ []) h x v = last_same body h.0 x
+  by_same (body ∷ other ∷ bodies) h x v = let all = body ∷ other ∷ bodies in ap (λ (words : ℕ → Tree). joined_runs (size_in f x) words (giver (size_in f) all x)) (fun_ext (given_same all h x v))
+
+  sharing_sound : (ps : List (ℕ × Stmt)) → Each (λ p. IsSoundClocked f p.1) ps → (x : ℕ) → Each AssignsVariables (sharing ps x)
+  sharing_sound [] h x = tt
+  sharing_sound (p ∷ ps) h x = let rest = sharing_sound ps h.1 x in by_bool (assigns p.1 x)
+      (λ e. subst (λ (b : Bool). Each AssignsVariables (cond b (p.1 ∷ sharing ps x) (sharing ps x))) (sym e) (h.0.registers, rest))
+      (λ e. subst (λ (b : Bool). Each AssignsVariables (cond b (p.1 ∷ sharing ps x) (sharing ps x))) (sym e) rest)
+
   pub next_same : (ps : List (ℕ × Stmt)) → Each (λ p. IsSoundClocked f p.1) ps → (x : ℕ) → is_variable f x ≡ true → next_in (size_in f) ps sel x ≡ next_tree_in (size_in f) sel ps x
-  next_same [] h x v = own x v
-  next_same (p ∷ ps) h x v = ap₂ (λ a b. cond (assigns p.1 x) a b) (last_same p.1 h.0.registers x) (next_same ps h.1 x v)
+  next_same ps h x v = by_same (sharing ps x) (sharing_sound ps h x) x v
 
 pub register_in : (f : Flat) → All (λ p. IsSoundClocked f p.1) f.clocked → (ds : List Draft) (r : Register) → IsRegisterOf (size_in f) f.signals ds r (next_in (size_in f) f.clocked) (clock_in f.clocked) → IsRegisterIn f ds r
 register_in f sound ds r h = record {

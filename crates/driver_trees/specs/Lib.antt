@@ -2,6 +2,7 @@ pub mod Changes
 pub mod Choices
 pub mod Collected
 pub mod Drafts
+pub mod Givers
 pub mod Growth
 pub mod Operators
 pub mod Presents

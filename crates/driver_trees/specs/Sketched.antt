@@ -1,21 +1,25 @@
 -- The drivers of a design that are drafted so far.
-use Rattle.std.specs.Prelude.{◌≡◌, ℕ, ◌+◌, ◌<◌, ◌≤◌, Bool, true, false, cond, ◌==◌, List, [], ◌∷◌, ◌++◌, map, All, Some, None}
+use Rattle.std.specs.Prelude.{◌≡◌, ◌≢◌, ℕ, zero, suc, ◌<◌, Bool, true, false, cond, ◌==◌, List, [], ◌∷◌, ◌++◌, All, Option, Some, None, option_map}
+use Rattle.std.specs.Option.{option_map_or}
 use Rattle.std.specs.Ordering.{nat_cmp}
 use Rattle.std.specs.BTreeMap.{BTreeMap, get}
 use Rattle.cdc_base.specs.declared.signal.Signal.{Signal}
 use Rattle.cell_graph.specs.declared.cell.CellId.{CellId}
-use Rattle.cell_graph.specs.Tree.{Tree, Var, Const}
+use Rattle.cell_graph.specs.Tree.{Tree, Var, Const, bit_at}
 use Rattle.flat_form.specs.declared.flat.FlatAssign.{FlatAssign}
 use Rattle.flat_form.specs.View.{target_of, expr_of}
 use Rattle.flat_meaning.specs.Flat.{Target, Expr, Stmt, assigns}
 use Rattle.flat_meaning.specs.Trees.{Selects, Trees, after}
+use Rattle.flat_meaning.specs.Assigned.{may_assign}
 use Rattle.flat_meaning.specs.Law.{AreWords}
 use Rattle.flat_meaning.specs.Pieces as meaning
 use Rattle.flat_meaning.specs.Pieces.{whole_piece}
 use Rattle.flat_meaning.specs.Design.{kind_in, kind_is_variable}
-use Rattle.flat_meaning.specs.SignalTrees.{clock_tree_in}
+use Rattle.flat_meaning.specs.SignalTrees.{sharing, giver, joined_runs, clock_tree_in}
 use Rattle.driver_trees.specs.declared.draft.Draft.{Draft}
 use Rattle.driver_trees.specs.declared.present.Present.{Present}
+use Rattle.driver_trees.specs.declared.shared.Giver.{Giver}
+use Rattle.driver_trees.specs.declared.sketch.Next.{Next}
 use Rattle.driver_trees.specs.declared.sketch.Piece.{Piece}
 use Rattle.driver_trees.specs.declared.sketch.Register.{Register}
 use Rattle.driver_trees.specs.declared.target.Put.{Put}
@@ -73,10 +77,20 @@ begin_tree false target wid sel x = cond (target x) (sel x 0 (wid x)) (Var x (wi
 abbrev pub last_tree : (ℕ → ℕ) → Selects → Stmt → Trees
 last_tree wid sel body = after wid (λ ts. sel) body (begin_tree false (assigns body) wid sel)
 
--- a register's next value by the first process that assigns it; one that none assigns stays
+-- the tree that a process gives the register, by the process's number; behind the last process, what the register's own select stands for
+abbrev pub given_in : (ℕ → ℕ) → Selects → List Stmt → ℕ → (number : ℕ) → Tree
+given_in wid sel [] x k = sel x 0 (wid x)
+given_in wid sel (body ∷ bodies) x zero = last_tree wid sel body x
+given_in wid sel (body ∷ bodies) x (suc k) = given_in wid sel bodies x k
+
+-- a register's next value by the processes that assign it; one that none assigns stays
+abbrev pub next_by : (ℕ → ℕ) → Selects → List Stmt → ℕ → Tree
+next_by wid sel [] x = sel x 0 (wid x)
+next_by wid sel (body ∷ []) x = last_tree wid sel body x
+next_by wid sel (body ∷ other ∷ bodies) x = let all = body ∷ other ∷ bodies in joined_runs (wid x) (given_in wid sel all x) (giver wid all x)
+
 abbrev pub next_in : (ℕ → ℕ) → List (ℕ × Stmt) → Selects → Trees
-next_in wid [] sel x = sel x 0 (wid x)
-next_in wid (p ∷ ps) sel x = cond (assigns p.1 x) (last_tree wid sel p.1 x) (next_in wid ps sel x)
+next_in wid ps sel x = next_by wid sel (sharing ps x) x
 
 abbrev pub clock_in : List (ℕ × Stmt) → Selects → Trees
 clock_in ps sel x = clock_tree_in sel ps x
@@ -87,10 +101,39 @@ pub record IsNext (wid : ℕ → ℕ) (ds : List Draft) (e : CellId × CellId) (
   pub clock : IsDraftOf ds e.1 1
   pub clock_tree : (sel : Selects) → tree_in sel ds e.1 ≡ cs sel x
 
--- those that are known are as all processes make them, the others as those that are left
-pub record AreNexts (wid : ℕ → ℕ) (ds : List Draft) (nexts : BTreeMap ℕ (CellId × CellId)) (left all : List (ℕ × Stmt)) : Type 0 where
-  pub known : (x : ℕ) (e : CellId × CellId) → get nat_cmp nexts x ≡ Some e → IsNext wid ds e x (next_in wid all) (clock_in all)
-  pub unknown : (x : ℕ) → get nat_cmp nexts x ≡ None → (sel : Selects) → (next_in wid left sel x ≡ next_in wid all sel x) × (clock_in left sel x ≡ clock_in all sel x)
+-- what a process gives a register: its last tree, and the bits that it may assign
+pub record IsGiver (wid : ℕ → ℕ) (ds : List Draft) (x : ℕ) (g : Giver) (body : Stmt) : Type 0 where
+  pub word : IsWordOf wid ds g.tree x (λ sel. last_tree wid sel body)
+  pub bits : (i : ℕ) → i < 64 → bit_at g.bits i ≡ may_assign wid body x i
+
+-- these givers are those processes, one by one
+abbrev pub AreGivers : (ℕ → ℕ) → List Draft → ℕ → List Giver → List Stmt → Type 0
+AreGivers wid ds x [] [] = Unit {0}
+AreGivers wid ds x [] (body ∷ bodies) = ⊥
+AreGivers wid ds x (g ∷ gs) [] = ⊥
+AreGivers wid ds x (g ∷ gs) (body ∷ bodies) = IsGiver wid ds x g body × AreGivers wid ds x gs bodies
+
+-- those that give a register bits; none where it isn't in the map
+abbrev pub givers_in : BTreeMap ℕ Next → ℕ → List Giver
+givers_in nexts x = option_map_or (λ (n : Next). n.givers.items) (get nat_cmp nexts x) []
+
+abbrev pub clock_at : BTreeMap ℕ Next → ℕ → Option CellId
+clock_at nexts x = option_map (λ (n : Next). n.clock) (get nat_cmp nexts x)
+
+-- a register's clock, which is known exactly where a process assigns it
+abbrev pub IsClockOf : List Draft → ℕ → Option CellId → List (ℕ × Stmt) → Type 0
+IsClockOf ds x None ps = sharing ps x ≡ []
+IsClockOf ds x (Some id) ps = IsDraftOf ds id 1 × ((sel : Selects) → tree_in sel ds id ≡ clock_in ps sel x) × (sharing ps x ≢ [])
+
+-- what those processes give each register, and the register's clock
+pub record AreNexts (wid : ℕ → ℕ) (ds : List Draft) (nexts : BTreeMap ℕ Next) (ps : List (ℕ × Stmt)) : Type 0 where
+  pub shares : (x : ℕ) → AreGivers wid ds x (givers_in nexts x) (sharing ps x)
+  pub clocks : (x : ℕ) → IsClockOf ds x (clock_at nexts x) ps
+
+-- what a process gives a register that has that last tree in it; nothing where it has none
+abbrev pub given_by : Option CellId → (mask : ℕ) → List Giver
+given_by None mask = []
+given_by (Some id) mask = record { tree = id; bits = mask } ∷ []
 
 -- a register of the design with its next value and clock
 pub record IsRegisterOf (wid : ℕ → ℕ) (signals : List Signal) (ds : List Draft) (r : Register) (ts cs : Selects → Trees) : Type 0 where

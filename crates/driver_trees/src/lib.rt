@@ -8,6 +8,7 @@ mod mask;
 pub mod memory;
 mod present;
 mod process;
+mod shared;
 pub mod sketch;
 mod target;
 

@@ -39,7 +39,8 @@ pub fn runs(alloc: Global, bits: u64) -> Result<Vec<Run>, NoMemory>
     Ok(runs)
 }
 
-fn is_set(bits: u64, at: u8) -> bool
+/// Whether the bit at that place is set.
+pub fn is_set(bits: u64, at: u8) -> bool
     ensures { result ≡ bit_at bits at }
 {
     shifted_right(bits, u64::from(at)) % 2 == 1

@@ -1,5 +1,5 @@
 //! A design's drivers as drafts: which bits of which signal are driven by which tree.
-ghost use Rattle.std.specs.Prelude.{◌≡◌, ℕ, ◌+◌, ◌*◌, ◌<◌, ◌≤◌, Bool, true, false, cond, ◌&&◌, ◌||◌, ◌==◌, List, [], ◌∷◌, ◌++◌, IfOk, OnOk, All, map, length, vec_len, Some, None, is_some, option_map, slice_get};
+ghost use Rattle.std.specs.Prelude.{◌≡◌, ℕ, ◌+◌, ◌*◌, ◌<◌, ◌≤◌, Bool, true, false, cond, ◌&&◌, ◌||◌, ◌==◌, List, [], ◌∷◌, ◌++◌, IfOk, OnOk, All, map, length, vec_len, Some, None, is_some, option_map, unwrap_or, slice_get};
 ghost use Rattle.std.specs.List.{AllByRecursion as Each};
 ghost use Rattle.std.specs.Option.{option_or};
 ghost use Rattle.std.specs.Ordering.{nat_cmp};
@@ -29,7 +29,7 @@ ghost use Rattle.driver_trees.specs.Changes.{IsProcess, IsWordOf, look_of};
 ghost use Rattle.driver_trees.specs.Shares.{Share, put_share, IsPut, ArePuts};
 ghost use Rattle.driver_trees.specs.Statements.{IsStmtRead};
 ghost use Rattle.driver_trees.specs.Collected.{has_bit, run_of, IsRunIn};
-ghost use Rattle.driver_trees.specs.Sketched.{drafted_piece, IsIdle, Driven, ArePieces, IsAssignRead, assign_of, share_pieces, begin_tree, AreNexts, IsNext, IsRegisterOf, next_in, clock_in};
+ghost use Rattle.driver_trees.specs.Sketched.{drafted_piece, IsIdle, Driven, ArePieces, IsAssignRead, assign_of, share_pieces, begin_tree, AreNexts, IsNext, IsRegisterOf, next_in, clock_in, givers_in, clock_at, given_by};
 ghost use Rattle.driver_trees.specs.Sketches.{IsSketchOf, AreOrdered};
 
 use crate::assigned::{Assigned, collect};
@@ -38,6 +38,7 @@ use crate::mask::{Run, runs};
 use crate::memory::{insert, numbered, push};
 use crate::present::Present;
 use crate::process::run;
+use crate::shared::{Giver, next_tree};
 use crate::target::{Put, Spot, puts};
 use cdc_base::{NoMemory, SigKind, Signal};
 use cell_graph::CellId;
@@ -74,8 +75,15 @@ pub struct Sketch {
     pub outputs: Vec<CellId>,
 }
 
-/// The next value and the clock of each register that a process assigns.
-type Nexts = BTreeMap<u32, (CellId, CellId)>;
+/// What the processes that assign a register give it, and their clock.
+#[derive(Drop)]
+struct Next {
+    clock: CellId,
+    givers: Vec<Giver>,
+}
+
+/// The registers that processes assign.
+type Nexts = BTreeMap<u32, Next>;
 
 impl Sketch {
     /// The drivers of the design.
@@ -398,7 +406,7 @@ fn add_all_runs(
     Ok(())
 }
 
-/// The next values and clocks of all registers that processes assign.
+/// What all processes give their registers, and the clocks of these.
 fn all_nexts(
     alloc: Global,
     drafts: &mut Drafts,
@@ -406,7 +414,7 @@ fn all_nexts(
     processes: &[FlatClocked],
 ) -> Result<Nexts, NoMemory>
     ensures nexts { (wid : ℕ → ℕ) → AreDrafts wid drafts.old → IsIdle wid present.old → Each (λ (p : ClockedForm). IsStmtRead wid p.body × (1 ≤ wid p.clock)) processes.now
-        → IfOk result (λ m. Grows wid drafts.old drafts.new × IsIdle wid present.new × AreNexts wid drafts.new m [] (map (λ (p : ClockedForm). (p.clock, stmt_of p.body)) processes.now)) }
+        → IfOk result (λ m. Grows wid drafts.old drafts.new × IsIdle wid present.new × AreNexts wid drafts.new m (map (λ (p : ClockedForm). (p.clock, stmt_of p.body)) processes.now)) }
 {
     let mut nexts = BTreeMap::new(alloc);
     for process in processes {
@@ -423,62 +431,82 @@ fn add_clocked(
     process: &FlatClocked,
     nexts: &mut Nexts,
 ) -> Result<(), NoMemory>
-    ensures adds { (wid : ℕ → ℕ) (left all : List (ℕ × Stmt)) → AreDrafts wid drafts.old → IsIdle wid present.old → IsStmtRead wid process.now.body → 1 ≤ wid process.now.clock
-        → AreNexts wid drafts.old nexts.old ((process.now.clock, stmt_of process.now.body) ∷ left) all
-        → OnOk result (Grows wid drafts.old drafts.new × IsIdle wid present.new × AreNexts wid drafts.new nexts.new left all) }
+    ensures adds { (wid : ℕ → ℕ) (before : List (ℕ × Stmt)) → AreDrafts wid drafts.old → IsIdle wid present.old → IsStmtRead wid process.now.body → 1 ≤ wid process.now.clock → AreNexts wid drafts.old nexts.old before
+        → OnOk result (Grows wid drafts.old drafts.new × IsIdle wid present.new × AreNexts wid drafts.new nexts.new (before ++ (process.now.clock, stmt_of process.now.body) ∷ [])) }
 {
     let assigned = execute(alloc, drafts, present, &process.body, false)?;
     let clock = drafts.read(process.clock, 0, 1)?;
-    add_nexts(present, &assigned, clock, nexts)
+    add_nexts(alloc, present, &assigned, clock, nexts)
 }
 
-/// Ends a clocked process: the last trees are next values. A register that has one already keeps it.
+/// Ends a clocked process: it gives its registers their last trees. A register that has a clock already keeps it.
 fn add_nexts(
+    alloc: Global,
     present: &mut Present,
     assigned: &Assigned,
     clock: CellId,
     nexts: &mut Nexts,
 ) -> Result<(), NoMemory>
     ensures idle { (wid : ℕ → ℕ) → AreWords wid → ((s : ℕ) → width_in present.old s ≡ wid s) → ((x : ℕ) → is_some (present_of present.old x) ≡ true → is_some (get nat_cmp assigned.now x) ≡ true) → OnOk result (IsIdle wid present.new) }
-    ensures nexts { ((x : ℕ) → is_some (present_of present.old x) ≡ true → is_some (get nat_cmp assigned.now x) ≡ true)
-        → OnOk result ((x : ℕ) → get nat_cmp nexts.new x ≡ option_or (get nat_cmp nexts.old x) (option_map (λ id. (id, clock)) (present_of present.old x))) }
+    ensures givers { ((x : ℕ) → is_some (present_of present.old x) ≡ true → is_some (get nat_cmp assigned.now x) ≡ true)
+        → OnOk result ((x : ℕ) → givers_in nexts.new x ≡ givers_in nexts.old x ++ given_by (present_of present.old x) (unwrap_or (get nat_cmp assigned.now x) 0)) }
+    ensures clocks { ((x : ℕ) → is_some (present_of present.old x) ≡ true → is_some (get nat_cmp assigned.now x) ≡ true)
+        → OnOk result ((x : ℕ) → clock_at nexts.new x ≡ option_or (clock_at nexts.old x) (option_map (λ id. clock) (present_of present.old x))) }
 {
-    for (sig, _) in assigned {
-        add_next(present, *sig, clock, nexts)?;
+    for (sig, bits) in assigned {
+        add_next(alloc, present, *sig, *bits, clock, nexts)?;
     }
     Ok(())
 }
 
 fn add_next(
+    alloc: Global,
     present: &mut Present,
     sig: u32,
+    bits: u64,
     clock: CellId,
     nexts: &mut Nexts,
 ) -> Result<(), NoMemory>
-    ensures nexts { OnOk result ((x : ℕ) → get nat_cmp nexts.new x ≡ option_or (get nat_cmp nexts.old x) (cond (x == sig) (option_map (λ id. (id, clock)) (present_of present.old sig)) None)) }
+    ensures givers { OnOk result ((x : ℕ) → givers_in nexts.new x ≡ givers_in nexts.old x ++ cond (x == sig) (given_by (present_of present.old sig) bits) []) }
+    ensures clocks { OnOk result ((x : ℕ) → clock_at nexts.new x ≡ option_or (clock_at nexts.old x) (cond (x == sig) (option_map (λ id. clock) (present_of present.old sig)) None)) }
     ensures trees { (x : ℕ) → present_of present.new x ≡ cond (x == sig) None (present_of present.old x) }
     ensures widths { present.new.widths.items ≡ present.old.widths.items }
 {
     match finish(present, sig) {
-        Some(next) => keep(nexts, sig, (next, clock)),
+        Some(tree) => add_giver(alloc, nexts, sig, clock, Giver { tree, bits }),
         None => Ok(()),
     }
 }
 
-/// Gives the register its next value and clock, unless it has them.
-fn keep(nexts: &mut Nexts, sig: u32, next: (CellId, CellId)) -> Result<(), NoMemory>
-    ensures keeps { OnOk result ((x : ℕ) → get nat_cmp nexts.new x ≡ option_or (get nat_cmp nexts.old x) (cond (x == sig) (Some next) None)) }
+/// Adds what a process gives the register. Its clock is that of the first process.
+fn add_giver(
+    alloc: Global,
+    nexts: &mut Nexts,
+    sig: u32,
+    clock: CellId,
+    giver: Giver,
+) -> Result<(), NoMemory>
+    ensures givers { OnOk result ((x : ℕ) → givers_in nexts.new x ≡ givers_in nexts.old x ++ cond (x == sig) (giver ∷ []) []) }
+    ensures clocks { OnOk result ((x : ℕ) → clock_at nexts.new x ≡ option_or (clock_at nexts.old x) (cond (x == sig) (Some clock) None)) }
 {
-    match known_next(nexts, sig) {
-        None => insert(nexts, sig, next),
-        Some(_first) => Ok(()),
-    }
+    let mut next = take_next(alloc, nexts, sig, clock);
+    push(&mut next.givers, giver)?;
+    insert(nexts, sig, next)
 }
 
-fn known_next(nexts: &Nexts, sig: u32) -> Option<(CellId, CellId)>
-    ensures { result ≡ get nat_cmp nexts.now sig }
+/// Takes the register out of the map. One that isn't there has that clock and no giver yet.
+fn take_next(alloc: Global, nexts: &mut Nexts, sig: u32, clock: CellId) -> Next
+    ensures givers { result.givers.items ≡ givers_in nexts.old sig }
+    ensures clock { Some result.clock ≡ option_or (clock_at nexts.old sig) (Some clock) }
+    ensures others { (x : ℕ) → get nat_cmp nexts.new x ≡ cond (x == sig) None (get nat_cmp nexts.old x) }
 {
-    nexts.get(&sig).copied()
+    match nexts.remove(&sig) {
+        Some(next) => next,
+        None => Next {
+            clock,
+            givers: Vec::new(alloc),
+        },
+    }
 }
 
 /// The registers in ascending order. One that no process assigns keeps its value.
@@ -490,7 +518,7 @@ fn registers(
 ) -> Result<Vec<Register>, NoMemory>
     ensures signals { IfOk result (λ rs. map (λ (r : RegisterDraft). r.sig) rs.items ≡ register_signals 0 signals.now) }
     ensures exact { (wid : ℕ → ℕ) (all : List (ℕ × Stmt)) → AreDrafts wid drafts.old → AreWords wid → ((s : ℕ) → signal_width signals.now s ≡ wid s)
-        → ((s : ℕ) (x : OneSignal) → slice_get signals.now s ≡ Some x → 1 ≤ x.width) → AreNexts wid drafts.old nexts.now [] all
+        → ((s : ℕ) (x : OneSignal) → slice_get signals.now s ≡ Some x → 1 ≤ x.width) → AreNexts wid drafts.old nexts.now all
         → IfOk result (λ rs. Grows wid drafts.old drafts.new × All (λ r. IsRegisterOf wid signals.now drafts.new r (next_in wid all) (clock_in all)) rs.items) }
 {
     let mut registers = Vec::new(alloc);
@@ -509,7 +537,7 @@ fn add_register(
 ) -> Result<(), NoMemory>
     ensures signals { OnOk result (map (λ (r : RegisterDraft). r.sig) registers.new.items ≡ map (λ (r : RegisterDraft). r.sig) registers.old.items ++ cond (register_kind signal.now.kind) (place ∷ []) []) }
     ensures exact { (wid : ℕ → ℕ) (signals : List OneSignal) (all : List (ℕ × Stmt)) → AreDrafts wid drafts.old → AreWords wid → slice_get signals place ≡ Some signal.now → signal.now.width ≡ wid place → 1 ≤ signal.now.width
-        → AreNexts wid drafts.old nexts.now [] all → All (λ r. IsRegisterOf wid signals drafts.old r (next_in wid all) (clock_in all)) registers.old.items
+        → AreNexts wid drafts.old nexts.now all → All (λ r. IsRegisterOf wid signals drafts.old r (next_in wid all) (clock_in all)) registers.old.items
         → OnOk result (Grows wid drafts.old drafts.new × All (λ r. IsRegisterOf wid signals drafts.new r (next_in wid all) (clock_in all)) registers.new.items) }
 {
     if !is_register(signal) {
@@ -527,11 +555,14 @@ fn next_of(
     width: u8,
     nexts: &Nexts,
 ) -> Result<(CellId, CellId), NoMemory>
-    ensures exact { (wid : ℕ → ℕ) (all : List (ℕ × Stmt)) → AreDrafts wid drafts.old → width ≡ wid sig → 1 ≤ width → width ≤ 64 → AreNexts wid drafts.old nexts.now [] all
+    ensures exact { (wid : ℕ → ℕ) (all : List (ℕ × Stmt)) → AreDrafts wid drafts.old → width ≡ wid sig → 1 ≤ width → width ≤ 64 → AreNexts wid drafts.old nexts.now all
         → IfOk result (λ e. Grows wid drafts.old drafts.new × IsNext wid drafts.new e sig (next_in wid all) (clock_in all)) }
 {
-    match known_next(nexts, sig) {
-        Some(known) => Ok(known),
+    match nexts.get(&sig) {
+        Some(known) => {
+            let next = next_tree(drafts, sig, width, known.givers.as_slice())?;
+            Ok((next, known.clock))
+        }
         None => {
             let own = drafts.read(sig, 0, width)?;
             let clock = drafts.constant(1, 0)?;

@@ -1,5 +1,5 @@
 -- Each register is added.
-use Rattle.std.proofs.Common.{◌≡◌, ℕ, zero, suc, ◌+◌, ◌<◌, ◌≤◌, Bool, true, false, cond, List, [], ◌∷◌, ◌++◌, Some, map, drop, length, slice_get, refl, sym, ap, ◌∙◌, arith, append_assoc}
+use Rattle.std.proofs.Common.{◌≡◌, ℕ, zero, suc, ◌+◌, Bool, true, false, cond, List, [], ◌∷◌, ◌++◌, Some, map, drop, slice_get, refl, sym, ap, ◌∙◌, arith, append_assoc}
 use Rattle.std.specs.Prelude.{if◌then◌else◌}
 use Rattle.std.specs.Option.{option_map_or}
 use Rattle.std.proofs.lemmas.List.{drop_more}
@@ -32,6 +32,6 @@ loop-place-preserved c =
       λ wid all drafts words widths sizes nexts.
           let j = i.1 wid all drafts words widths sizes nexts in
           let r = c.in_ok-add_register.ensures.exact wid xs all j.0.drafts words at (sym (ap (λ o. option_map_or (λ (x : Signal). x.width) o 0) at) ∙ widths k) (sizes k signal at)
-          (nexts_grow wid c.args.drafts.now ds j.0 c.args.nexts.now [] all nexts) j.1 in
+          (nexts_grow wid c.args.drafts.now ds j.0 c.args.nexts.now all nexts) j.1 in
           (still-grows wid c.args.drafts.now ds c.add_register.new.drafts j.0 r.0, r.1),
     )

@@ -1,5 +1,5 @@
 -- The parts make the whole sketch.
-use Rattle.std.proofs.Common.{◌≡◌, ℕ, zero, suc, ◌≤◌, Bool, true, List, [], ◌∷◌, All, Some, None, map, slice_get, refl, sym, ap, subst, ◌∙◌}
+use Rattle.std.proofs.Common.{◌≡◌, ℕ, zero, suc, ◌≤◌, true, List, [], ◌∷◌, All, Some, None, map, slice_get, sym, ap, subst, ◌∙◌}
 use Rattle.std.specs.List.{AllByRecursion as Each, list_all}
 use Rattle.std.proofs.lemmas.Bool.{and_parts}
 use Rattle.std.proofs.lemmas.Option.{same_Some}
@@ -47,7 +47,7 @@ returns-clause-exact c = λ sized sound.
     let processes = subst (Each (λ (p : FlatClocked). IsStmtRead wid p.body × (1 ≤ wid p.clock))) (sym c.as_slice.ensures)
     (clocked_read f F.clocked sized.clocked (each_of (λ (p : ℕ × Stmt). IsSoundClocked f p.1) f.clocked sound.clocked) (each_of (λ (p : ℕ × Stmt). 1 ≤ wid p.0) f.clocked sound.clocks)) in
     let n = c.in_ok-nexts.ensures.nexts wid p.0.drafts p.1 processes in
-    let nexts = subst (λ l. AreNexts wid d2 c.in_ok-nexts.nexts [] (map (λ (p : FlatClocked). (p.clock, stmt_of p.body)) l)) c.as_slice.ensures n.2 in
+    let nexts = subst (λ l. AreNexts wid d2 c.in_ok-nexts.nexts (map (λ (p : FlatClocked). (p.clock, stmt_of p.body)) l)) c.as_slice.ensures n.2 in
     let r = c.in_ok-registers.ensures.exact wid f.clocked n.0.drafts sound.sized (λ s. ap (λ ss. width_in ss s) signals)
     (subst (λ ss. (n : ℕ) (x : Signal) → slice_get ss n ≡ Some x → 1 ≤ x.width) (sym signals) (widths F.signals sized.signals)) nexts in
     let o = c.in_ok-outputs.ensures.exact wid r.0.drafts n.1 (subst (Each (λ s. 1 ≤ wid s)) (sym c.as_slice-2.ensures) (each_of (λ s. 1 ≤ wid s) f.outputs sound.outputs)) in
