@@ -47,4 +47,4 @@ pub record AddsProcess (wid : ℕ → ℕ) (edges : Edges) (drives : ℕ → Boo
   pub first : (s : ℕ) → edges_at new s ≡ cond (drives s) (Some (unwrap_or (edges_at old s) edges)) (edges_at old s)
   pub once : (s i : ℕ) → i < 64 → bits_in new.once s i ≡ (bits_in old.once s i || (drives s && may s i))
   pub twice : (s i : ℕ) → i < wid s → i < 64
-    → bits_in new.twice s i ≡ (bits_in old.twice s i || (drives s && (is_apart (edges_at old s) edges || (bits_in old.once s i && may s i))))
+      → bits_in new.twice s i ≡ (bits_in old.twice s i || (drives s && (is_apart (edges_at old s) edges || (bits_in old.once s i && may s i))))

@@ -45,13 +45,7 @@ impl ClockedBits {
     }
 
     /// A process at these edges may assign these bits of a signal.
-    fn add(
-        &mut self,
-        signals: &[Signal],
-        sig: u32,
-        mask: u64,
-        edges: Edges,
-    ) -> Result<(), NoMemory>
+    fn add(&mut self, signals: &[Signal], sig: u32, mask: u64, edges: Edges) -> Result<(), NoMemory>
         ensures { IfOk result (λ _. AddsProcess (width_in signals.now) edges (λ s. s == sig) (λ s i. bit_at mask i) self.old self.new) }
     {
         let again = self.taken_bits(signals, sig, mask, edges);
@@ -126,7 +120,13 @@ fn add_process(
 {
     let mut may = Masks::new(alloc);
     add_driven(signals, process, reset, &mut may)?;
-    add_signals(signals, may.signals(), &may, read_edges(process, reset), bits)
+    add_signals(
+        signals,
+        may.signals(),
+        &may,
+        read_edges(process, reset),
+        bits,
+    )
 }
 
 /// The bits that a process may assign, in its reset or after it.

@@ -12,4 +12,6 @@ pub mod uses;
 pub mod value;
 pub mod whole;
 
-pub use flat::{FCaseItem, FExpr, FStmt, FTarget, Flat, FlatAssign, FlatClocked, FlatComb, FlatReset};
+pub use flat::{
+    FCaseItem, FExpr, FStmt, FTarget, Flat, FlatAssign, FlatClocked, FlatComb, FlatReset,
+};

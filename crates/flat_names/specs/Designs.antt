@@ -9,6 +9,7 @@ use Rattle.cdc_base.specs.declared.fault.Stop.TheVariants.{Refused, Memory}
 use Rattle.cdc_base.specs.Words.{found_in}
 use Rattle.cell_graph.specs.Tree.{bit_at}
 use Rattle.flat_form.specs.declared.flat.Flat.{Flat}
+use Rattle.flat_form.specs.View as view
 use Rattle.flat_form.specs.View.{flat_of}
 use Rattle.flat_unfolding.specs.Outcome.{Text, Outcome, good, bad}
 use Rattle.flat_unfolding.specs.Names as n
@@ -88,6 +89,7 @@ pub record ShowsDesign (pins : List ResetPin) (d : Design) (e : u.Design) : Type
   pub assigns : (flat_of (flat_so_far d)).assigns ≡ e.assigns
   pub combs : (flat_of (flat_so_far d)).combs ≡ e.combs
   pub clocked : (flat_of (flat_so_far d)).clocked ≡ e.clocked
+  pub process_resets : map view.reset_of d.resets.items ≡ e.resets
   pub outputs : d.outputs.items ≡ e.outputs
   pub starts : (s : ℕ) → start_at d.entries.items s ≡ first_start e.starts s
   pub givens : (s : ℕ) → AreGiven e.givens d.entries.items s

@@ -7,7 +7,7 @@ ghost use Rattle.flat_names.specs.Looks.{seen, takes_seen};
 
 use crate::scope::{Bounds, Look, Names};
 use cdc_base::{Name, Signal};
-use flat_form::flat::{FlatAssign, FlatClocked, FlatComb};
+use flat_form::flat::{FlatAssign, FlatClocked, FlatComb, FlatReset};
 use std::alloc::Global;
 
 /// The direction of a signal in its module.
@@ -59,6 +59,8 @@ pub struct Design {
     pub assigns: Vec<FlatAssign>,
     pub combs: Vec<FlatComb>,
     pub clocked: Vec<FlatClocked>,
+    /// One for each of `clocked`.
+    pub resets: Vec<FlatReset>,
     pub outputs: Vec<u32>,
 }
 
@@ -69,6 +71,7 @@ impl Design {
         ensures assigns { result.assigns.items ≡ [] }
         ensures combs { result.combs.items ≡ [] }
         ensures clocked { result.clocked.items ≡ [] }
+        ensures resets { result.resets.items ≡ [] }
         ensures outputs { result.outputs.items ≡ [] }
     {
         Design {
@@ -77,6 +80,7 @@ impl Design {
             assigns: Vec::new(alloc),
             combs: Vec::new(alloc),
             clocked: Vec::new(alloc),
+            resets: Vec::new(alloc),
             outputs: Vec::new(alloc),
         }
     }

@@ -270,7 +270,8 @@ violations=1 crossings=3
 /// Each bit of a register is a Slice of the tree of its process.
 #[test]
 fn registers_with_several_processes(rt: HostRuntime) -> Result<(), Fail> {
-    let net = "module m(input ca, cb, d); reg [3:0] r; reg [1:0] s; always @(posedge ca) r[0] <= d; \
+    let net =
+        "module m(input ca, cb, d); reg [3:0] r; reg [1:0] s; always @(posedge ca) r[0] <= d; \
 always @(posedge ca) if (d) r[3:2] <= r[1:0]; always @(posedge ca) r[1] <= r[0]; \
 always @(posedge cb) s[0] <= r[3]; always @(posedge cb) s[1] <= s[0] & r[1]; endmodule";
     audit_all(

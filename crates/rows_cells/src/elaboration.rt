@@ -168,7 +168,12 @@ fn processes_share_a_register(rt: HostRuntime) -> Result<(), Fail> {
     let net = elaborate(alloc, &flat)?;
     assert_eq!(rt; net.regs.len(), 1);
     let next = next_of(&net, 0);
-    for (d, r, wanted) in [(1, 0b010, 0b001), (0, 0b001, 0b010), (1, 0b111, 0b111), (0, 0b100, 0b100)] {
+    for (d, r, wanted) in [
+        (1, 0b010, 0b001),
+        (0, 0b001, 0b010),
+        (1, 0b111, 0b111),
+        (0, 0b100, 0b100),
+    ] {
         assert_eq!(rt; value(alloc, &net, next, &[0, d, r])?, wanted);
     }
     Ok(())

@@ -238,7 +238,9 @@ fn registers_with_resets(rt: HostRuntime) -> Result<(), Fail> {
             "error E309: two drivers at 1:28: r[0]\n3",
         ),
     ] {
-        let net = format!(in alloc; "module m(input ca, cb, e); reg [1:0] r; {reset} {other} endmodule")?;
+        let net = format!(in alloc;
+            "module m(input ca, cb, e); reg [1:0] r; {reset} {other} endmodule"
+        )?;
         let answer = audited(alloc, net.as_bytes(), con.as_str())?;
         assert_eq!(&rt; answer.as_str(), wanted, "{other}");
     }
