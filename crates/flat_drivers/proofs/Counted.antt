@@ -14,7 +14,7 @@ use Rattle.flat_meaning.specs.Flat.{Stmt, assigns}
 use Rattle.flat_meaning.specs.Deps.{Bits}
 use Rattle.flat_meaning.specs.Design.{Flat, size_in, once, times_assigned, times_processed}
 use Rattle.flat_meaning.proofs.Drivers.{not_assigned}
-use Rattle.flat_unfolding.specs.Drivers.{assigned_by, bodies, is_clocked, all_drivers}
+use Rattle.flat_unfolding.specs.Drivers.{assigned_by, is_clocked, all_drivers}
 use Rattle.flat_drivers.specs.declared.drivers.Drivers.{Drivers}
 use Rattle.flat_drivers.specs.Driving.{Counts, CountsMore, is_among}
 
@@ -119,7 +119,7 @@ by_same P a b y n = go (a == b) refl
 pub at_signal : (s sig : ℕ) (a : Bool) (f : ℕ → Bool) → a ≡ f sig → ((s == sig) && a) ≡ ((s == sig) && f s)
 at_signal s sig a f e = by_same (λ t. (t && a) ≡ (t && f s)) s sig (λ same. e ∙ ap f (sym same)) (λ n. refl)
 
-or-true : (b : Bool) → (b || true) ≡ true
+pub or-true : (b : Bool) → (b || true) ≡ true
 or-true true = refl
 or-true false = refl
 
@@ -148,6 +148,13 @@ two_of t true = by_le (λ z. nat_le 2 (t + 1) ≡ (nat_le 2 t || z)) 1 t
 pub one_of : (t : ℕ) (b : Bool) → nat_le 1 (t + once b) ≡ (nat_le 1 t || b)
 one_of t false = ap (nat_le 1) (sym (add-none t)) ∙ sym (or-false (nat_le 1 t))
 one_of t true = le-leb 1 (t + 1) (omega arith) ∙ sym (or-true (nat_le 1 t))
+
+pub one_before : (b : Bool) (n : ℕ) → nat_le 1 (once b + n) ≡ (b || nat_le 1 n)
+one_before true n = le-leb 1 (1 + n) (omega arith)
+one_before false n = ap (nat_le 1) (let e : 0 + n ≡ n = omega arith in e)
+
+pub two_before : (b : Bool) (n : ℕ) → nat_le 2 (once b + n) ≡ (nat_le 2 n || (b && nat_le 1 n))
+two_before b n = ap (nat_le 2) (let e : once b + n ≡ n + once b = omega arith in e) ∙ two_of n b
 
 pub none_of : (n : ℕ) → not (nat_le 1 n) ≡ (n == 0)
 none_of zero = refl
@@ -315,10 +322,6 @@ all-counted f a b c d none first second third =
 pub some-assigns : (ps : List (ℕ × Stmt)) (s : ℕ) → list_any (λ (p : ℕ × Stmt). assigns p.1 s) ps ≡ nat_le 1 (assigned_by (map (λ (p : ℕ × Stmt). p.1) ps) s)
 some-assigns [] s = refl
 some-assigns (p ∷ ps) s = ap (λ b. assigns p.1 s || b) (some-assigns ps s) ∙ sym (one_before (assigns p.1 s) (assigned_by (map (λ (q : ℕ × Stmt). q.1) ps) s))
-  where
-    one_before : (b : Bool) (n : ℕ) → nat_le 1 (once b + n) ≡ (b || nat_le 1 n)
-    one_before true n = le-leb 1 (1 + n) (omega arith)
-    one_before false n = ap (nat_le 1) (let e : 0 + n ≡ n = omega arith in e)
 
 -- ---- the signals of a process, one after another
 

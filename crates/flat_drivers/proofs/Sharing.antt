@@ -1,5 +1,5 @@
 -- Clocked processes of one register, one after another.
-use Rattle.std.proofs.Common.{◌≡◌, ℕ, zero, suc, ◌+◌, ◌<◌, ◌≤◌, Bool, true, false, cond, not, ◌&&◌, ◌||◌, ◌==◌, nat_le, nat_eq, List, [], ◌∷◌, map, drop, length, get_or, Option, Some, None, refl, sym, ap, ap₂, subst, ◌∙◌, arith, eqb-true, nat_lt, ltb-true, ltb-false, Bor}
+use Rattle.std.proofs.Common.{◌≡◌, ℕ, zero, suc, ◌+◌, ◌<◌, ◌≤◌, Bool, true, false, cond, not, ◌&&◌, ◌||◌, ◌==◌, nat_le, nat_eq, List, [], ◌∷◌, drop, length, get_or, Option, Some, None, refl, sym, ap, ap₂, subst, ◌∙◌, arith, eqb-true, nat_lt, ltb-true, ltb-false, Bor}
 use Rattle.std.specs.Prelude.{unwrap_or, is_some, slice_get, IfSome}
 use Rattle.std.specs.Option.{option_copied}
 use Rattle.std.specs.List.{IsDistinct}
@@ -11,20 +11,17 @@ use Rattle.std.proofs.Math.Bool.{or-false, or_assoc}
 use Rattle.cell_graph.specs.Tree.{bit_at}
 use Rattle.flat_form.specs.declared.flat.FlatClocked.{FlatClocked}
 use Rattle.flat_form.specs.declared.flat.FlatReset.{FlatReset}
-use Rattle.flat_form.specs.declared.masks.Masks.{Masks}
-use Rattle.flat_form.specs.View.{stmt_of, reset_of}
-use Rattle.flat_form.specs.Masks.{bits_in, Adds}
+use Rattle.flat_form.specs.Masks.{bits_in}
 use Rattle.flat_meaning.specs.Deps.{Bits}
 use Rattle.flat_meaning.specs.Flat.{Null, assigns}
-use Rattle.flat_meaning.specs.Assigned.{may_assign}
 use Rattle.flat_meaning.specs.Design.{once}
 use Rattle.flat_meaning.proofs.Drivers.{not_assigned}
-use Rattle.flat_unfolding.specs.Drivers.{Process, processes, drives, may_drive, times_driven, is_same_signal, have_same_edges, is_driven_apart, have_other_edges}
+use Rattle.flat_unfolding.specs.Drivers.{Process, drives, may_drive, times_driven, have_same_edges, is_driven_apart, have_other_edges}
 use Rattle.flat_drivers.specs.declared.clocked.Edges.{Edges}
 use Rattle.flat_drivers.specs.declared.clocked.ClockedBits.{ClockedBits}
-use Rattle.flat_drivers.specs.Driving.{is_among, clocked_in}
+use Rattle.flat_drivers.specs.Driving.{is_among}
 use Rattle.flat_drivers.specs.Clocked.{process_of, processes_in, is_shared_bit, edges_of, edges_at, is_apart, IsUnused, AddsProcess}
-use Rattle.flat_drivers.proofs.Counted.{one_of, two_of, not_among}
+use Rattle.flat_drivers.proofs.Counted.{or-true, one_before, two_before, not_among}
 
 -- ---- the signals of a process, one after another
 
@@ -153,19 +150,6 @@ apart-at : (p : Process) (ps : List Process) (s : ℕ) → is_driven_apart p ps 
 apart-at p [] s = refl
 apart-at p (q ∷ qs) s = ap (λ b. (drives q s && not (have_same_edges p q)) || b) (apart-at p qs s)
 
--- one more is counted
-one_before : (b : Bool) (n : ℕ) → nat_le 1 (once b + n) ≡ (b || nat_le 1 n)
-one_before b n = ap (nat_le 1) (let e : once b + n ≡ n + once b = omega arith in e) ∙ one_of n b ∙ swap (nat_le 1 n) b
-  where
-    swap : (x y : Bool) → (x || y) ≡ (y || x)
-    swap true true = refl
-    swap true false = refl
-    swap false true = refl
-    swap false false = refl
-
-two_before : (b : Bool) (n : ℕ) → nat_le 2 (once b + n) ≡ (nat_le 2 n || (b && nat_le 1 n))
-two_before b n = ap (nat_le 2) (let e : once b + n ≡ n + once b = omega arith in e) ∙ two_of n b
-
 -- what was counted once and twice before (o, t), what the process may assign (m), and what those after it count (one, two)
 counts : (t o m one two x : Bool) → (((t || (o && m)) || two) || (((o || m) && one) || x)) ≡ ((t || (two || (m && one))) || ((o && (m || one)) || x))
 counts true o m one two x = refl
@@ -182,11 +166,7 @@ counts false false false one false x = refl
 -- a process at other edges
 others : (t y two z a x : Bool) → (((t || (a || y)) || two) || (z || x)) ≡ (((t || y) || two) || (z || (a || x)))
 others t y two z false x = refl
-others t y two z true x = ap (λ b. (b || two) || (z || x)) (yes_ t) ∙ sym (yes_ ((t || y) || two)) ∙ ap (λ b. ((t || y) || two) || b) (sym (yes_ z))
-  where
-    yes_ : (b : Bool) → (b || true) ≡ true
-    yes_ true = refl
-    yes_ false = refl
+others t y two z true x = ap (λ b. (b || two) || (z || x)) (or-true t) ∙ sym (or-true ((t || y) || two)) ∙ ap (λ b. ((t || y) || two) || b) (sym (or-true z))
 
 -- nothing of the signal is driven
 unchanged : (t o one two x : Bool) → (((t || false) || two) || (((o || false) && one) || x)) ≡ ((t || (two || false)) || ((o && one) || x))

@@ -1,9 +1,8 @@
 //! Several clocked processes may drive one register: their edges are the same, and each bit is assigned by one of them.
-ghost use Rattle.std.specs.Prelude.{◌≡◌, ℕ, ◌<◌, ◌==◌, ◌&&◌, ◌||◌, false, cond, None, Some, nat_eq, unwrap_or, IfOk};
+ghost use Rattle.std.specs.Prelude.{◌≡◌, ℕ, ◌<◌, ◌==◌, ◌&&◌, ◌||◌, cond, Some, nat_eq, unwrap_or, IfOk};
 ghost use Rattle.std.specs.List.{IsDistinct};
 ghost use Rattle.std.specs.Option.{option_copied};
 ghost use Rattle.cell_graph.specs.Tree.{bit_at};
-ghost use Rattle.flat_meaning.specs.Assigned.{is_within};
 ghost use Rattle.flat_meaning.specs.Design.{width_in};
 ghost use Rattle.flat_form.specs.Masks.{bits_in, Adds, Lists};
 ghost use Rattle.flat_unfolding.specs.Drivers.{drives, may_drive};
@@ -77,7 +76,8 @@ impl ClockedBits {
 
     /// The edges of the first process stay.
     fn keep_edges(&mut self, sig: u32, edges: Edges) -> Result<(), NoMemory>
-        ensures kept { IfOk result (λ _. (s : ℕ) → edges_at self.new s ≡ cond (s == sig) (Some (unwrap_or (edges_at self.old sig) edges)) (edges_at self.old s)) }
+        ensures kept { IfOk result (λ _. (s : ℕ)
+            → edges_at self.new s ≡ cond (s == sig) (Some (unwrap_or (edges_at self.old sig) edges)) (edges_at self.old s)) }
         ensures bits { IfOk result (λ _. (self.new.once ≡ self.old.once) × (self.new.twice ≡ self.old.twice)) }
     {
         if self.edges.contains_key(&sig) {

@@ -6,25 +6,23 @@ ghost use Rattle.cell_graph.specs.Tree.{bit_at};
 ghost use Rattle.refusals.specs.Numbers.{is_listed, HasNumberIn, unfolding_numbers};
 ghost use Rattle.flat_meaning.specs.Flat.{assigns as is_assigned};
 ghost use Rattle.flat_meaning.specs.Assigned.{is_within, may_assign};
-ghost use Rattle.flat_meaning.specs.Deps.{union};
 ghost use Rattle.flat_meaning.specs.Design.{Flat, width_in, once, times_in, all_times_in, times_assigned, times_processed};
-ghost use Rattle.flat_form.specs.View.{expr_of, target_of, targets_of, stmt_of, reset_of};
+ghost use Rattle.flat_form.specs.View.{target_of, targets_of, stmt_of, reset_of};
 ghost use Rattle.flat_form.specs.Masks.{bits_in, Adds};
-ghost use Rattle.flat_meaning.specs.Law.{expr_reads};
-ghost use Rattle.flat_form.specs.Uses.{target_reads};
 ghost use Rattle.flat_unfolding.specs.Reads.{first_from};
-ghost use Rattle.flat_unfolding.specs.Drivers.{assigned_by, is_clocked, all_drivers, is_read, is_from_outside, refuse_bit, refuse_first, driven_once};
+ghost use Rattle.flat_unfolding.specs.Drivers.{assigned_by, is_clocked, all_drivers, is_from_outside, refuse_bit, refuse_first, driven_once};
 ghost use Rattle.flat_drivers.specs.Clocked.{processes_in, is_shared_bit};
-ghost use Rattle.flat_drivers.specs.Driving.{Counts, CountsMore, Tries, Meets, IsFinished, is_among, design_of, assigned_in, wires_in, clocked_in, bodies_in, assigns_read, bodies_read, clocks_read};
+ghost use Rattle.flat_drivers.specs.Driving.{Counts, CountsMore, Tries, Meets, IsFinished, is_among, design_of, assigned_in, wires_in, bodies_in};
 
 use crate::clocked::shared_bits;
+use crate::reads::reads_of;
 use crate::registers::registers_of;
 use cdc_base::signal::bit_name;
 use cdc_base::{Fault, NoMemory, SigKind, Signal, Stop};
 use flat_form::bits::{bits, low_bits, lowest};
 use flat_form::flat::{FStmt, FTarget, FlatAssign, FlatClocked, FlatComb, FlatReset};
 use flat_form::masks::Masks;
-use flat_form::uses::{add_may_assign, add_reads, add_statement_reads, add_target_reads, all_bits};
+use flat_form::uses::{add_may_assign, all_bits};
 use std::alloc::Global;
 
 /// The rules of drivers.
@@ -90,7 +88,8 @@ fn add_some(masks: &mut Masks, sig: u32, mask: u64) -> Result<(), NoMemory>
     masks.add(sig, mask)
 }
 
-/// Refuses a bit with two drivers, and after that a bit that is read and has none. Registers need not be marked yet.
+/// Refuses a bit with two drivers, and after that a bit that is read and has none. Registers need not be marked yet. The
+/// resets stand in the order of the clocked processes.
 pub fn try_drivers(
     alloc: Global,
     signals: &[Signal],
@@ -340,75 +339,6 @@ fn add_registers(
     for sig in assigned {
         drivers.add_process(signals, *sig)?;
         drivers.add(*sig, all_bits(signals, *sig))?;
-    }
-    Ok(())
-}
-
-/// The bits that an expression, an event or a connection reads.
-fn reads_of(
-    alloc: Global,
-    signals: &[Signal],
-    assigns: &[FlatAssign],
-    combs: &[FlatComb],
-    clocked: &[FlatClocked],
-) -> Result<Masks, NoMemory>
-    ensures { IfOk result (λ m. (s i : ℕ) → i < 64 → bits_in m s i ≡ is_read (design_of signals.now assigns.now combs.now clocked.now) s i) }
-{
-    let mut reads = Masks::new(alloc);
-    add_all_assign_reads(signals, assigns, &mut reads)?;
-    add_wires_reads(signals, combs, &mut reads)?;
-    add_clocked_reads(signals, clocked, &mut reads)?;
-    Ok(reads)
-}
-
-fn add_all_assign_reads(
-    signals: &[Signal],
-    assigns: &[FlatAssign],
-    reads: &mut Masks,
-) -> Result<(), NoMemory>
-    ensures { IfOk result (λ _. Adds reads.old reads.new (assigns_read (width_in signals.now) (assigned_in assigns.now))) }
-{
-    for assign in assigns {
-        add_assign_reads(signals, assign, reads)?;
-    }
-    Ok(())
-}
-
-fn add_assign_reads(
-    signals: &[Signal],
-    assign: &FlatAssign,
-    reads: &mut Masks,
-) -> Result<(), NoMemory>
-    ensures { IfOk result (λ _. Adds reads.old reads.new (union (expr_reads (width_in signals.now) (expr_of assign.now.value)) (target_reads (width_in signals.now) (target_of assign.now.target)))) }
-{
-    add_reads(signals, &assign.value, reads)?;
-    add_target_reads(signals, &assign.target, reads)
-}
-
-fn add_wires_reads(
-    signals: &[Signal],
-    combs: &[FlatComb],
-    reads: &mut Masks,
-) -> Result<(), NoMemory>
-    ensures { IfOk result (λ _. Adds reads.old reads.new (bodies_read (width_in signals.now) (wires_in combs.now))) }
-{
-    for process in combs {
-        add_statement_reads(signals, &process.body, reads)?;
-    }
-    Ok(())
-}
-
-/// A clocked process reads what its body does, and its clock.
-fn add_clocked_reads(
-    signals: &[Signal],
-    clocked: &[FlatClocked],
-    reads: &mut Masks,
-) -> Result<(), NoMemory>
-    ensures { IfOk result (λ _. Adds reads.old reads.new (union (bodies_read (width_in signals.now) (bodies_in clocked.now)) (clocks_read (clocked_in clocked.now)))) }
-{
-    for process in clocked {
-        add_statement_reads(signals, &process.body, reads)?;
-        reads.add(process.clock, 1)?;
     }
     Ok(())
 }

@@ -4,4 +4,5 @@
 
 mod clocked;
 pub mod drivers;
+mod reads;
 pub mod registers;

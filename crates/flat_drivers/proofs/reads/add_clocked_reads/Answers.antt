@@ -4,7 +4,7 @@ use Rattle.flat_form.specs.View.{stmt_of}
 use Rattle.flat_form.specs.Masks.{bits_in}
 use Rattle.flat_form.specs.Uses.{stmt_reads}
 use Rattle.flat_drivers.proofs.Reading.{clocked_read, clocked-step, adds-clock, reads-end}
-use Rattle.flat_drivers.proofs.drivers.add_clocked_reads.Goals as goal
+use Rattle.flat_drivers.proofs.reads.add_clocked_reads.Goals as goal
 
 pub loop-process-preserved : goal.loop-process-preserved
 loop-process-preserved c =

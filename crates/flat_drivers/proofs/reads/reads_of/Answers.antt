@@ -1,6 +1,6 @@
 use Rattle.flat_drivers.specs.Driving.{design_of}
 use Rattle.flat_drivers.proofs.Reading.{all-read}
-use Rattle.flat_drivers.proofs.drivers.reads_of.Goals as goal
+use Rattle.flat_drivers.proofs.reads.reads_of.Goals as goal
 
 pub returns : goal.returns
 returns c =

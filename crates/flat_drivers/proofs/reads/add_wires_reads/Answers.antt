@@ -7,7 +7,7 @@ use Rattle.flat_form.specs.Uses.{stmt_reads}
 use Rattle.flat_form.proofs.ExprUses.{list-step}
 use Rattle.flat_drivers.proofs.Reading.{reads-end}
 use Rattle.flat_drivers.specs.Driving.{wires_in, bodies_read}
-use Rattle.flat_drivers.proofs.drivers.add_wires_reads.Goals as goal
+use Rattle.flat_drivers.proofs.reads.add_wires_reads.Goals as goal
 
 pub loop-process-preserved : goal.loop-process-preserved
 loop-process-preserved c =

@@ -4,7 +4,7 @@ use Rattle.flat_form.specs.View.{expr_of, target_of}
 use Rattle.flat_meaning.specs.Law.{expr_reads}
 use Rattle.flat_form.specs.Uses.{target_reads}
 use Rattle.flat_form.proofs.MaskSets.{adds-two}
-use Rattle.flat_drivers.proofs.drivers.add_assign_reads.Goals as goal
+use Rattle.flat_drivers.proofs.reads.add_assign_reads.Goals as goal
 
 pub returns : goal.returns
 returns c =

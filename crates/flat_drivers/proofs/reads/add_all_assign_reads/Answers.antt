@@ -9,7 +9,7 @@ use Rattle.flat_form.specs.Uses.{target_reads}
 use Rattle.flat_form.proofs.ExprUses.{list-step}
 use Rattle.flat_drivers.proofs.Reading.{reads-end}
 use Rattle.flat_drivers.specs.Driving.{assigned_in, assigns_read}
-use Rattle.flat_drivers.proofs.drivers.add_all_assign_reads.Goals as goal
+use Rattle.flat_drivers.proofs.reads.add_all_assign_reads.Goals as goal
 
 pub loop-assign-preserved : goal.loop-assign-preserved
 loop-assign-preserved c =
