@@ -10,9 +10,12 @@ use Rattle.flat_meaning.specs.Values.{Words}
 use Rattle.flat_meaning.specs.Flat.{Stmt, assigns}
 use Rattle.flat_meaning.specs.Meaning.{run_clocked}
 use Rattle.flat_meaning.specs.Trees.{Selects, cut}
+use Rattle.flat_meaning.specs.Assigned.{may_assign}
 use Rattle.flat_meaning.specs.Law.{AreWords, Shows, every, next_tree}
 use Rattle.flat_meaning.specs.Design.{Flat, next_in, size_in}
 use Rattle.flat_meaning.specs.Sound.{inside, IsSoundClocked}
+use Rattle.flat_meaning.proofs.Depth.{by_bool}
+use Rattle.flat_meaning.proofs.Drivers.{not_assigned}
 use Rattle.flat_meaning.proofs.Law.{clocked_law}
 
 module _ (f : Flat) (sized : AreWords (size_in f)) where
@@ -54,11 +57,15 @@ module _ (f : Flat) (sized : AreWords (size_in f)) where
         ∙ ap (λ (r : Reading). bit r (next_tree (size_in f) own body x) i) reading_same
         ∙ (clocked_law (reading_of u) u (size_in f) (inside f) own sized (shows u) body ok.fits (λ s j a. has_bit u s j) x h).1 i l
 
+    -- a process that may assign a bit of a signal assigns the signal
+    assigned : (body : Stmt) (x i : ℕ) → may_assign (size_in f) body x i ≡ true → assigns body x ≡ true
+    assigned body x i m = by_bool (assigns body x) (λ e. e) (λ e. absurd (let never : true ≡ false → ⊥ = λ k. cc in never (sym m ∙ not_assigned (size_in f) x body i e)))
+
     pub next_same : (ps : List (ℕ × Stmt)) → Each (λ p. IsSoundClocked f p.1) ps → (s i : ℕ) → i < size_in f s → next_in (size_in f) ps v s i ≡ next_in (size_in f) ps u s i
     next_same [] h s i l = same s i l
-    next_same (p ∷ ps) h s i l = go (assigns p.1 s) refl (next_same ps h.1 s i l)
+    next_same (p ∷ ps) h s i l = go (may_assign (size_in f) p.1 s i) refl (next_same ps h.1 s i l)
       where
-        go : (t : Bool) → assigns p.1 s ≡ t → next_in (size_in f) ps v s i ≡ next_in (size_in f) ps u s i
+        go : (t : Bool) → may_assign (size_in f) p.1 s i ≡ t → next_in (size_in f) ps v s i ≡ next_in (size_in f) ps u s i
             → cond t (run_clocked (size_in f) p.1 v s i) (next_in (size_in f) ps v s i) ≡ cond t (run_clocked (size_in f) p.1 u s i) (next_in (size_in f) ps u s i)
-        go true e rest = clocked_same p.1 h.0 s e i l
+        go true e rest = clocked_same p.1 h.0 s (assigned p.1 s i e) i l
         go false e rest = rest
