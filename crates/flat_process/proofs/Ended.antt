@@ -1,5 +1,5 @@
 -- How items end, and designs that got one more part.
-use Rattle.std.proofs.Common.{◌≡◌, ℕ, Bool, true, false, cond, ◌&&◌, nat_lt, List, [], ◌∷◌, ◌++◌, map, Some, Result, Ok, Err, refl, sym, ap, ap₂, subst, ◌∙◌, rules, Vec, Global}
+use Rattle.std.proofs.Common.{◌≡◌, ℕ, Bool, true, false, cond, ◌&&◌, nat_lt, List, [], ◌∷◌, ◌++◌, map, Option, Some, Result, Ok, Err, refl, sym, ap, ap₂, subst, ◌∙◌, rules, Vec, Global}
 use Rattle.std.specs.List.{list_all}
 use Rattle.std.proofs.lemmas.List.{map-append}
 use Rattle.std.proofs.lemmas.List.Folds.{list_all-append}
@@ -12,6 +12,8 @@ use Rattle.flat_meaning.specs.Flat.{Target, Expr, Stmt}
 use Rattle.flat_form.specs.declared.flat.FlatAssign.{FlatAssign}
 use Rattle.flat_form.specs.declared.flat.FlatComb.{FlatComb}
 use Rattle.flat_form.specs.declared.flat.FlatClocked.{FlatClocked}
+use Rattle.flat_form.specs.declared.flat.FlatReset.{FlatReset}
+use Rattle.flat_form.specs.View as view
 use Rattle.flat_form.specs.View.{target_of, expr_of, stmt_of}
 use Rattle.flat_unfolding.specs.Outcome as o
 use Rattle.flat_unfolding.specs.Outcome.{Text, Broken, Outcome, good, bad, by_number, first_of_all, fault_of, judged}
@@ -97,6 +99,7 @@ module _ (pins : List ResetPin) (d : Design) (e : u.Design) (h : ShowsDesign pin
         ∙ ap₂ (λ ys (z : Target × Expr). ys ++ z ∷ []) h.assigns (ap₂ (λ y z. (y, z)) (a.target refl) (a.value refl));
     combs = h.combs;
     clocked = h.clocked;
+    process_resets = h.process_resets;
     outputs = h.outputs;
     starts = h.starts;
     givens = h.givens;
@@ -118,6 +121,7 @@ module _ (pins : List ResetPin) (d : Design) (e : u.Design) (h : ShowsDesign pin
     assigns = h.assigns;
     combs = ap (map (λ (y : FlatComb). stmt_of y.body)) i ∙ map-append (λ (y : FlatComb). stmt_of y.body) d.combs.items (x ∷ []) ∙ ap₂ (λ ys z. ys ++ z ∷ []) h.combs body;
     clocked = h.clocked;
+    process_resets = h.process_resets;
     outputs = h.outputs;
     starts = h.starts;
     givens = h.givens;
@@ -128,10 +132,11 @@ module _ (pins : List ResetPin) (d : Design) (e : u.Design) (h : ShowsDesign pin
     };
   }
 
-  -- a clocked process
-  pub shows-clocked : (v : Vec FlatClocked Global) (x : FlatClocked) (c : ℕ) (s : Stmt) → v.items ≡ d.clocked.items ++ x ∷ [] → x.clock ≡ c → stmt_of x.body ≡ s → stmt_keeps_sizes x.body ≡ true
-      → ShowsDesign pins (record d { clocked = v }) (record e { clocked = e.clocked ++ (c, s) ∷ [] })
-  shows-clocked v x c s i clock body sized = record {
+  -- a clocked process and its reset
+  pub shows-clocked : (v : Vec FlatClocked Global) (w : Vec FlatReset Global) (x : FlatClocked) (y : FlatReset) (c : ℕ) (s : Stmt) (r : Option ℕ × Stmt) → v.items ≡ d.clocked.items ++ x ∷ []
+      → w.items ≡ d.resets.items ++ y ∷ [] → x.clock ≡ c → stmt_of x.body ≡ s → stmt_keeps_sizes x.body ≡ true → view.reset_of y ≡ r
+      → ShowsDesign pins (record d { clocked = v; resets = w }) (record e { clocked = e.clocked ++ (c, s) ∷ []; resets = e.resets ++ r ∷ [] })
+  shows-clocked v w x y c s r i j clock body sized reset = record {
     entries = h.entries;
     may_repeat = h.may_repeat;
     signals = h.signals;
@@ -140,6 +145,7 @@ module _ (pins : List ResetPin) (d : Design) (e : u.Design) (h : ShowsDesign pin
     combs = h.combs;
     clocked = ap (map (λ (y : FlatClocked). (y.clock, stmt_of y.body))) i ∙ map-append (λ (y : FlatClocked). (y.clock, stmt_of y.body)) d.clocked.items (x ∷ [])
         ∙ ap₂ (λ ys (z : ℕ × Stmt). ys ++ z ∷ []) h.clocked (ap₂ (λ y z. (y, z)) clock body);
+    process_resets = ap (map view.reset_of) j ∙ map-append view.reset_of d.resets.items (y ∷ []) ∙ ap₂ (λ ys (z : Option ℕ × Stmt). ys ++ z ∷ []) h.process_resets reset;
     outputs = h.outputs;
     starts = h.starts;
     givens = h.givens;

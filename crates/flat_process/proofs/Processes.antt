@@ -1,6 +1,6 @@
 -- Processes: their events, bodies and resets, from what the code has to the definition's.
 use Rattle.std.proofs.Common.{◌≡◌, ℕ, ◌<◌, ◌≤◌, Bool, true, false, cond, not, ◌&&◌, ◌||◌, ◌==◌, List, [], ◌∷◌, ◌++◌, length, get_or, Option, Some, None, refl, sym, ap, subst, ◌∙◌, arith, rules, append_assoc, append-nil, Box, Vec, Global}
-use Rattle.std.specs.Prelude.{flat_map, option_map, is_some, is_none, unwrap_or, slice_get}
+use Rattle.std.specs.Prelude.{flat_map, option_map, option_and_then, is_some, is_none, unwrap_or, slice_get}
 use Rattle.std.specs.Option.{option_map_or}
 use Rattle.std.specs.List.{list_all}
 use Rattle.verilog_ast.specs.declared.Edge.{Edge}
@@ -11,6 +11,7 @@ use Rattle.verilog_ast.specs.declared.Stmt.TheVariants as vs
 use Rattle.verilog_reading.specs.ExprTree.{tree_of}
 use Rattle.verilog_reading.specs.StmtTree.{StmtTree, null, set, when, either, switch, switch_else, block, StmtTrees, no_rows, and_rows, stmt_tree_of}
 use Rattle.flat_meaning.specs.Flat.{Stmt}
+use Rattle.flat_form.specs.View.{reset_of}
 use Rattle.flat_form.specs.declared.flat.FStmt.{FStmt}
 use Rattle.flat_form.specs.declared.flat.FStmt.TheVariants as form
 use Rattle.flat_unfolding.specs.Outcome.{Text, Broken, breaks, breaks_if}
@@ -19,7 +20,7 @@ use Rattle.flat_unfolding.specs.Expressions.{read}
 use Rattle.flat_unfolding.specs.Statements.{Kind, clocked, neither, done, done_all}
 use Rattle.flat_unfolding.specs.Resets as q
 use Rattle.flat_unfolding.specs.Resets.{peeled, peeled_rows, reset_signals, branch_given, form_in, reset_form, reset_rules, is_edge_of, is_active_edge}
-use Rattle.flat_unfolding.specs.Processes.{has_form, first_edge, second_edge, edge_rules, meant_clock, clock_of, event_rules, body_without, reset_gives}
+use Rattle.flat_unfolding.specs.Processes.{has_form, first_edge, second_edge, edge_rules, meant_clock, clock_of, event_rules, body_without, reset_branch, reset_gives}
 use Rattle.flat_unfolding.specs.Formed.{IsFormed, IsStmtFormed, AreRowsFormed}
 use Rattle.flat_unfolding.specs.Design as u
 use Rattle.flat_unfolding.proofs.Steps.{none_of_both, some_is}
@@ -37,7 +38,7 @@ use Rattle.flat_process.specs.declared.reset.Given.{Given}
 use Rattle.flat_process.specs.declared.always.Clocked.{Clocked}
 use Rattle.flat_process.specs.declared.always.ResetForm.{ResetForm}
 use Rattle.flat_process.specs.Resets.{AreGiven, AreGivenIf}
-use Rattle.flat_process.specs.Processes.{is_wide_clock, IsBody, IsClocked, IsForm, IsFormIf}
+use Rattle.flat_process.specs.Processes.{is_wide_clock, IsBody, second_edge_signal, reset_with, IsClocked, IsForm, IsFormIf}
 
 -- ---- bodies
 
@@ -89,8 +90,11 @@ mutual
 -- ---- reset form
 
 module _ (l : Look) where
-  -- the other branch breaks no rule where the whole breaks none
-  form-clean : (t : StmtTree) (f : q.ResetForm) → form_in l t ≡ Some f → (done l clocked t).broken ≡ [] → (done l clocked f.rest).broken ≡ []
+  -- neither branch breaks a rule where the whole breaks none
+  abbrev AreClean : q.ResetForm → Type 0
+  AreClean f = ((done l clocked f.branch).broken ≡ []) × ((done l clocked f.rest).broken ≡ [])
+
+  form-clean : (t : StmtTree) (f : q.ResetForm) → form_in l t ≡ Some f → (done l clocked t).broken ≡ [] → AreClean f
   form-clean null f e c = absurd (search (rules, e))
   form-clean (set b t v) f e c = absurd (search (rules, e))
   form-clean (switch v rows) f e c = absurd (search (rules, e))
@@ -98,26 +102,28 @@ module _ (l : Look) where
   form-clean (block rows) f e c = absurd (search (rules, e))
   form-clean (when k s) f e c = go (reset_signals l k) e
     where
-      go : (o : Option (List ℕ)) → option_map (λ ss. record { signals = ss; given = branch_given l s; rest = null }) o ≡ Some f → (done l clocked f.rest).broken ≡ []
+      go : (o : Option (List ℕ)) → option_map (λ ss. record { signals = ss; branch = s; given = branch_given l s; rest = null }) o ≡ Some f → AreClean f
       go None i = absurd (search (rules, i))
-      go (Some ss) i = subst (λ (g : q.ResetForm). (done l clocked g.rest).broken ≡ []) (some_is _ f i) refl
+      go (Some ss) i = subst AreClean (some_is _ f i) ((none_of_both (read l k).broken (done l clocked s).broken c).1, refl)
   form-clean (either k s z) f e c = go (reset_signals l k) e
     where
-      go : (o : Option (List ℕ)) → option_map (λ ss. record { signals = ss; given = branch_given l s; rest = z }) o ≡ Some f → (done l clocked f.rest).broken ≡ []
+      go : (o : Option (List ℕ)) → option_map (λ ss. record { signals = ss; branch = s; given = branch_given l s; rest = z }) o ≡ Some f → AreClean f
       go None i = absurd (search (rules, i))
-      go (Some ss) i = subst (λ (g : q.ResetForm). (done l clocked g.rest).broken ≡ []) (some_is _ f i)
-          (none_of_both ((read l k).broken ++ (done l clocked s).broken) (done l clocked z).broken c).1
+      go (Some ss) i =
+          let parts = none_of_both ((read l k).broken ++ (done l clocked s).broken) (done l clocked z).broken c in
+          subst AreClean (some_is _ f i) ((none_of_both (read l k).broken (done l clocked s).broken parts.0).1, parts.1)
 
-  rest-clean : (t : StmtTree) (f : q.ResetForm) → reset_form l t ≡ Some f → (done l clocked t).broken ≡ [] → (done l clocked f.rest).broken ≡ []
-  rest-clean t f e c = form-clean (peeled t) f e (peeled-clean l clocked t c)
+  both-clean : (t : StmtTree) (f : q.ResetForm) → reset_form l t ≡ Some f → (done l clocked t).broken ≡ [] → AreClean f
+  both-clean t f e c = form-clean (peeled t) f e (peeled-clean l clocked t c)
 
   -- a body without reset form stays whole
-  pub whole-body : (c : ℕ) (t : StmtTree) (p : Clocked) → p.clock ≡ c → p.given.items ≡ [] → IsDone (done l clocked t) p.body → IsFormIf l (reset_form l t) None
-      → IsClocked (length l.entries) c (body_without l t (reset_form l t)) (reset_gives l (reset_form l t)) (done l clocked t).broken p
-  whole-body c t p e g d h = go (reset_form l t) h
+  pub whole-body : (c : ℕ) (edge : Option ℕ) (t : StmtTree) (p : Clocked) → p.clock ≡ c → p.reset ≡ (record { edge = edge; branch = form.Null }) → p.given.items ≡ []
+      → IsDone (done l clocked t) p.body → IsFormIf l (reset_form l t) None
+      → IsClocked (length l.entries) c (body_without l t (reset_form l t)) (reset_with l edge t) (reset_gives l (reset_form l t)) (done l clocked t).broken p
+  whole-body c edge t p e r g d h = go (reset_form l t) h
     where
-      go : (o : Option q.ResetForm) → IsFormIf l o None → IsClocked (length l.entries) c (body_without l t o) (reset_gives l o) (done l clocked t).broken p
-      go None h = record { clock = e; body = done-body l clocked t p.body d; given = subst (AreGiven (length l.entries) []) (sym g) tt }
+      go : (o : Option q.ResetForm) → IsFormIf l o None → IsClocked (length l.entries) c (body_without l t o) (edge, reset_branch l o) (reset_gives l o) (done l clocked t).broken p
+      go None h = record { clock = e; body = done-body l clocked t p.body d; reset = λ k. ap reset_of r ∙ ap (λ (x : Stmt). (edge, x)) ((done-null l clocked).stmt refl); given = subst (AreGiven (length l.entries) []) (sym g) tt }
       go (Some f) h = absurd h
 
   -- what a first branch gives, nothing where it hasn't its form
@@ -132,15 +138,17 @@ module _ (l : Look) where
   items-or (Some z) x y e h = ap (λ (v : Vec Given Global). v.items) e
 
   -- one with reset form leaves out the reset's branch
-  pub rest-body : (c : ℕ) (t : StmtTree) (r : ResetForm) (p : Clocked) → p.clock ≡ c → p.body ≡ r.rest → p.given.items ≡ unwrap_or (option_map (λ (v : Vec Given Global). v.items) r.given) []
-      → IsFormIf l (reset_form l t) (Some r) → IsClocked (length l.entries) c (body_without l t (reset_form l t)) (reset_gives l (reset_form l t)) (done l clocked t).broken p
-  rest-body c t r p e b g h = go (reset_form l t) refl h
+  pub rest-body : (c : ℕ) (edge : Option ℕ) (t : StmtTree) (r : ResetForm) (p : Clocked) → p.clock ≡ c → p.body ≡ r.rest → p.reset ≡ (record { edge = edge; branch = r.branch })
+      → p.given.items ≡ unwrap_or (option_map (λ (v : Vec Given Global). v.items) r.given) [] → IsFormIf l (reset_form l t) (Some r)
+      → IsClocked (length l.entries) c (body_without l t (reset_form l t)) (reset_with l edge t) (reset_gives l (reset_form l t)) (done l clocked t).broken p
+  rest-body c edge t r p e b s g h = go (reset_form l t) refl h
     where
-      go : (o : Option q.ResetForm) → reset_form l t ≡ o → IsFormIf l o (Some r) → IsClocked (length l.entries) c (body_without l t o) (reset_gives l o) (done l clocked t).broken p
+      go : (o : Option q.ResetForm) → reset_form l t ≡ o → IsFormIf l o (Some r) → IsClocked (length l.entries) c (body_without l t o) (edge, reset_branch l o) (reset_gives l o) (done l clocked t).broken p
       go None i h = absurd h
       go (Some f) i h = record {
         clock = e;
-        body = subst (λ x. IsBody (done l clocked f.rest).stmt (done l clocked t).broken x) (sym b) (record { stmt = λ k. h.rest.stmt (rest-clean t f i k); sizes = λ k. h.rest.sizes (rest-clean t f i k) });
+        body = subst (λ x. IsBody (done l clocked f.rest).stmt (done l clocked t).broken x) (sym b) (record { stmt = λ k. h.rest.stmt (both-clean t f i k).1; sizes = λ k. h.rest.sizes (both-clean t f i k).1 });
+        reset = λ k. ap reset_of s ∙ ap (λ (x : Stmt). (edge, x)) (h.branch.stmt (both-clean t f i k).0);
         given = subst (AreGiven (length l.entries) (unwrap_or f.given [])) (sym g) (given-or f.given (option_map (λ (v : Vec Given Global). v.items) r.given) h.given);
       }
 
@@ -151,7 +159,7 @@ rest_of (Some z) = stmt_tree_of z.value
 
 -- the form of a branch whose condition has these signals
 abbrev form_with : Look → (first rest : StmtTree) → List ℕ → q.ResetForm
-form_with l first rest ss = record { signals = ss; given = branch_given l first; rest = rest }
+form_with l first rest ss = record { signals = ss; branch = first; given = branch_given l first; rest = rest }
 
 module _ (l : Look) (x : s.Stmt) (k : Expr) (y : Box s.Stmt Global) where
   -- the parts of a branch are as readings of texts give them
@@ -165,12 +173,12 @@ module _ (l : Look) (x : s.Stmt) (k : Expr) (y : Box s.Stmt Global) where
   no-reset (Some z) e h = subst (λ t. IsFormIf l (form_in l t) None) (sym (ap stmt_tree_of e ∙ tree-either k y z)) (subst (λ ss. IsFormIf l (option_map (form_with l (stmt_tree_of y.value) (stmt_tree_of z.value)) ss) None) h tt)
 
   -- one whose condition tests a reset has it
-  pub has-reset : (o : Option (Box s.Stmt Global)) (r : ResetForm) → x ≡ vs.If k y o → Some r.signals.items ≡ reset_signals l (tree_of k)
+  pub has-reset : (o : Option (Box s.Stmt Global)) (r : ResetForm) → x ≡ vs.If k y o → Some r.signals.items ≡ reset_signals l (tree_of k) → IsDone (done l clocked (stmt_tree_of y.value)) r.branch
       → AreGivenIf (length l.entries) (branch_given l (stmt_tree_of y.value)) (option_map (λ (v : Vec Given Global). v.items) r.given) → IsDone (done l clocked (rest_of o)) r.rest → IsFormIf l (form_in l (stmt_tree_of x)) (Some r)
-  has-reset None r e h g d = subst (λ t. IsFormIf l (form_in l t) (Some r)) (sym (ap stmt_tree_of e ∙ tree-when k y))
-      (subst (λ ss. IsFormIf l (option_map (form_with l (stmt_tree_of y.value) null) ss) (Some r)) h (record { signals = refl; given = g; rest = d }))
-  has-reset (Some z) r e h g d = subst (λ t. IsFormIf l (form_in l t) (Some r)) (sym (ap stmt_tree_of e ∙ tree-either k y z))
-      (subst (λ ss. IsFormIf l (option_map (form_with l (stmt_tree_of y.value) (stmt_tree_of z.value)) ss) (Some r)) h (record { signals = refl; given = g; rest = d }))
+  has-reset None r e h b g d = subst (λ t. IsFormIf l (form_in l t) (Some r)) (sym (ap stmt_tree_of e ∙ tree-when k y))
+      (subst (λ ss. IsFormIf l (option_map (form_with l (stmt_tree_of y.value) null) ss) (Some r)) h (record { signals = refl; branch = b; given = g; rest = d }))
+  has-reset (Some z) r e h b g d = subst (λ t. IsFormIf l (form_in l t) (Some r)) (sym (ap stmt_tree_of e ∙ tree-either k y z))
+      (subst (λ ss. IsFormIf l (option_map (form_with l (stmt_tree_of y.value) (stmt_tree_of z.value)) ss) (Some r)) h (record { signals = refl; branch = b; given = g; rest = d }))
 
 module _ (l : Look) where
   -- what the code reads as the other branch, where there is one and where there is none
@@ -269,24 +277,33 @@ module _ (l : Look) where
 -- ---- clocked processes
 
 -- a clocked process where more rules may be broken
-pub clocked-amid : (n c m : ℕ) (x : Stmt) (us : List u.Given) (front bs back : List Broken) (p : Clocked) → m ≡ c → IsClocked n m x us bs p → IsClocked n c x us (front ++ bs ++ back) p
-clocked-amid n c m x us front bs back p e h = record { clock = h.clock ∙ e; body = body-amid x front bs back p.body h.body; given = h.given }
+pub clocked-amid : (n c m : ℕ) (x : Stmt) (r : Option ℕ × Stmt) (us : List u.Given) (front bs back : List Broken) (p : Clocked) → m ≡ c → IsClocked n m x r us bs p → IsClocked n c x r us (front ++ bs ++ back) p
+clocked-amid n c m x r us front bs back p e h = record {
+  clock = h.clock ∙ e;
+  body = body-amid x front bs back p.body h.body;
+  reset = λ k. h.reset (none_of_both front bs (none_of_both (front ++ bs) back k).0).1;
+  given = h.given;
+}
 
 module _ (l : Look) (edges : List Edge) (t : StmtTree) where
   -- what a process breaks, by whether its event has its form
   abbrev rules_at : Bool → List Broken
   rules_at b = event_rules l edges ++ (done l (cond b clocked neither) t).broken ++ reset_rules l (first_edge edges) (cond b (second_edge edges) None) (cond b (reset_form l t) None)
 
+  -- what its reset tells of its drivers
+  abbrev reset_if : Bool → Option ℕ × Stmt
+  reset_if b = (option_and_then (λ (e : Edge). meant_clock l (meaning l e.name)) (cond b (second_edge edges) None), reset_branch l (cond b (reset_form l t) None))
+
   -- a process with what it notes
   abbrev IsProcess : ℕ → Noted → Clocked → Noted → Bool → Type 0
-  IsProcess c f p h b = IsClocked (length l.entries) c (body_without l t (cond b (reset_form l t) None)) (reset_gives l (cond b (reset_form l t) None)) (rules_at b) p × (h ≡ all_noted f (rules_at b))
+  IsProcess c f p h b = IsClocked (length l.entries) c (body_without l t (cond b (reset_form l t) None)) (reset_if b) (reset_gives l (cond b (reset_form l t) None)) (rules_at b) p × (h ≡ all_noted f (rules_at b))
 
   -- an event with its form, and one without it
   pub formed-process : (c m : ℕ) (f g h : Noted) (p : Clocked) → m ≡ c → has_form edges ≡ true → g ≡ all_noted f (event_rules l edges)
-      → IsClocked (length l.entries) m (body_without l t (reset_form l t)) (reset_gives l (reset_form l t)) (done l clocked t).broken p
+      → IsClocked (length l.entries) m (body_without l t (reset_form l t)) (reset_with l (second_edge_signal l edges) t) (reset_gives l (reset_form l t)) (done l clocked t).broken p
       → h ≡ all_noted g ((done l clocked t).broken ++ reset_rules l (first_edge edges) (second_edge edges) (reset_form l t)) → IsProcess c f p h (has_form edges)
   formed-process c m f g h p same e i k j = subst (IsProcess c f p h) (sym e) (
-    clocked-amid (length l.entries) c m (body_without l t (reset_form l t)) (reset_gives l (reset_form l t)) (event_rules l edges) (done l clocked t).broken
+    clocked-amid (length l.entries) c m (body_without l t (reset_form l t)) (reset_with l (second_edge_signal l edges) t) (reset_gives l (reset_form l t)) (event_rules l edges) (done l clocked t).broken
         (reset_rules l (first_edge edges) (second_edge edges) (reset_form l t)) p same k,
     then-noted f g h (event_rules l edges) ((done l clocked t).broken ++ reset_rules l (first_edge edges) (second_edge edges) (reset_form l t)) i j
         ∙ ap (all_noted f) (sym (append_assoc (event_rules l edges) (done l clocked t).broken (reset_rules l (first_edge edges) (second_edge edges) (reset_form l t)))),
@@ -298,6 +315,7 @@ module _ (l : Look) (edges : List Edge) (t : StmtTree) where
     record {
       clock = k;
       body = record { stmt = λ b. absurd (tells b); sizes = λ b. absurd (tells b) };
+      reset = λ b. absurd (tells b);
       given = subst (AreGiven (length l.entries) []) (sym none) tt;
     },
     then-noted f g h (event_rules l edges) (done l neither t).broken i j ∙ ap (all_noted f) (sym (append-nil (event_rules l edges ++ (done l neither t).broken))),

@@ -203,6 +203,7 @@ module _ (pins : List ResetPin) (d : Design) (e : u.Design) (zs : List u.Start) 
     assigns = h.assigns;
     combs = h.combs;
     clocked = h.clocked;
+    process_resets = h.process_resets;
     outputs = h.outputs;
     starts = λ k. ap (λ ys. start_at ys k) i ∙ start-behind s v d.entries.items k (subst (λ m. s < m) (sym as-many) inside)
         ∙ ap (λ o. cond (s == k) (Some v) o) (h.starts k) ∙ go k (s == k) refl ∙ sym (first-push zs (record { sig = s; value = v }) k);

@@ -8,6 +8,7 @@ ghost use Rattle.verilog_reading.specs.StmtTree.{StmtTree, stmt_tree_of};
 ghost use Rattle.flat_meaning.specs.Flat.{Stmt as FlatStmt};
 ghost use Rattle.flat_unfolding.specs.Outcome.{Broken, breaks_if, judged, by_number};
 ghost use Rattle.flat_unfolding.specs.Names as n;
+ghost use Rattle.flat_unfolding.specs.Names.{meaning};
 ghost use Rattle.flat_unfolding.specs.Statements.{clocked as clocked_kind, of_wires, done};
 ghost use Rattle.flat_unfolding.specs.Reads.{latch_rule};
 ghost use Rattle.flat_unfolding.specs.Resets as q;
@@ -15,7 +16,7 @@ ghost use Rattle.flat_unfolding.specs.Resets.{reset_form as reset_form_of, reset
 ghost use Rattle.flat_unfolding.specs.Design as u;
 ghost use Rattle.flat_unfolding.specs.Design.{Stage, look_of};
 ghost use Rattle.flat_unfolding.specs.Processes as w;
-ghost use Rattle.flat_unfolding.specs.Processes.{always_item, edge_rules, event_rules, clocked_rules, clocked_body, body_without, reset_gives, form_of, second_edge};
+ghost use Rattle.flat_unfolding.specs.Processes.{always_item, edge_rules, event_rules, clocked_rules, clocked_body, body_without, reset_of, reset_gives, form_of, second_edge, meant_clock};
 ghost use Rattle.flat_unfolding.specs.Formed.{IsStmtFormed};
 ghost use Rattle.flat_names.specs.Noting.{all_noted};
 ghost use Rattle.flat_names.specs.Looks.{Shows, IsFit};
@@ -23,11 +24,11 @@ ghost use Rattle.flat_names.specs.Designs.{IsPin, ShowsDesign, ShowsStage, Ends,
 ghost use Rattle.flat_statements.specs.Statements.{IsDone};
 ghost use Rattle.flat_process.specs.Assigns.{fresh};
 ghost use Rattle.flat_process.specs.Resets.{ArePins};
-ghost use Rattle.flat_process.specs.Processes.{is_wide_clock, IsBody, IsClocked, IsForm, IsFormIf};
+ghost use Rattle.flat_process.specs.Processes.{is_wide_clock, IsBody, second_edge_signal, reset_with, IsClocked, IsForm, IsFormIf};
 
 use crate::reset::{Given, keep_given, peeled, reset_branch, reset_signals};
 use cdc_base::{Name, NoMemory, Place, Stop};
-use flat_form::flat::{FStmt, FlatClocked, FlatComb};
+use flat_form::flat::{FStmt, FlatClocked, FlatComb, FlatReset};
 use flat_form::memory::push;
 use flat_names::design::{Design, Reset};
 use flat_names::fault::{Faults, Order, Rule};
@@ -105,11 +106,12 @@ fn keep_wires_process(
     Ok(())
 }
 
-/// A clocked process with what its reset gives.
+/// A clocked process with what its reset tells of its drivers, and gives.
 #[derive(Drop)]
 struct Clocked {
     clock: u32,
     body: FStmt,
+    reset: FlatReset,
     given: Vec<Given>,
 }
 
@@ -140,13 +142,14 @@ fn keep_clocked_process(
     process: Clocked,
     design: &mut Design,
 ) -> Result<(), Stop>
-    ensures kept { (pins : List ResetPin) (e : u.Design) (clock : ℕ) (x : FlatStmt) (us : List u.Given) (bs : List Broken) → ShowsDesign pins design.old e → faults ≡ all_noted fresh bs
-        → IsClocked (length e.entries) clock x us bs process
-        → Ends (ShowsDesign pins design.new) (judged by_number place bs (record e { clocked = e.clocked ++ (clock, x) ∷ []; givens = e.givens ++ us })) result }
+    ensures kept { (pins : List ResetPin) (e : u.Design) (clock : ℕ) (x : FlatStmt) (reset : Option ℕ × FlatStmt) (us : List u.Given) (bs : List Broken) → ShowsDesign pins design.old e
+        → faults ≡ all_noted fresh bs → IsClocked (length e.entries) clock x reset us bs process
+        → Ends (ShowsDesign pins design.new) (judged by_number place bs (record e { clocked = e.clocked ++ (clock, x) ∷ []; resets = e.resets ++ reset ∷ []; givens = e.givens ++ us })) result }
     ensures numbered { IfErr result (HasNumberIn unfolding_numbers) }
 {
     faults.raise(place)?;
     keep_given(design, process.given.as_slice());
+    push(&mut design.resets, process.reset)?;
     let process = FlatClocked {
         clock: process.clock,
         body: process.body,
@@ -162,8 +165,9 @@ fn clocked_process(
     faults: &mut Faults,
 ) -> Result<Clocked, NoMemory>
     ensures { (pins : List ResetPin) (l : n.Look) → Shows look.now l → IsFit l → ArePins pins look.now l → IsStmtFormed (stmt_tree_of body.now)
-        → IfOk result (λ p. IsClocked (length l.entries) (unwrap_or (w.clock_of l edges.now) 0) (clocked_body l edges.now (stmt_tree_of body.now)) (reset_gives l (form_of l edges.now (stmt_tree_of body.now)))
-        (clocked_rules l edges.now (stmt_tree_of body.now)) p × (faults.new ≡ all_noted faults.old (clocked_rules l edges.now (stmt_tree_of body.now)))) }
+        → IfOk result (λ p. IsClocked (length l.entries) (unwrap_or (w.clock_of l edges.now) 0) (clocked_body l edges.now (stmt_tree_of body.now)) (reset_of l edges.now (stmt_tree_of body.now))
+        (reset_gives l (form_of l edges.now (stmt_tree_of body.now))) (clocked_rules l edges.now (stmt_tree_of body.now)) p
+        × (faults.new ≡ all_noted faults.old (clocked_rules l edges.now (stmt_tree_of body.now)))) }
 {
     note_event(look, edges, faults)?;
     let clock = clock_of(look, edges).unwrap_or(0);
@@ -174,6 +178,10 @@ fn clocked_process(
         Ok(Clocked {
             clock,
             body,
+            reset: FlatReset {
+                edge: None,
+                branch: FStmt::Null,
+            },
             given: Vec::new(look.alloc),
         })
     }
@@ -241,7 +249,24 @@ fn note_edge(look: &Look, first: &str, name: &Name, faults: &mut Faults) -> Resu
 fn clock_of(look: &Look, edges: &[Edge]) -> Option<u32>
     ensures { (l : n.Look) → Shows look.now l → result ≡ w.clock_of l edges.now }
 {
-    match look.meaning(&edges.first()?.name) {
+    edge_signal(look, edges.first()?)
+}
+
+/// The signal of the second edge, if there is one.
+fn second_signal(look: &Look, edges: &[Edge]) -> Option<u32>
+    ensures { (l : n.Look) → Shows look.now l → result ≡ second_edge_signal l edges.now }
+{
+    match edges {
+        [_, second, ..] => edge_signal(look, second),
+        _ => None,
+    }
+}
+
+/// The signal that an edge names.
+fn edge_signal(look: &Look, edge: &Edge) -> Option<u32>
+    ensures { (l : n.Look) → Shows look.now l → result ≡ meant_clock l (meaning l edge.now.name) }
+{
+    match look.meaning(&edge.name) {
         Some(Meaning::Signal(sig)) => Some(sig),
         _ => None,
     }
@@ -265,21 +290,23 @@ fn process_with_form(
     faults: &mut Faults,
 ) -> Result<Clocked, NoMemory>
     ensures { (pins : List ResetPin) (l : n.Look) → Shows look.now l → IsFit l → ArePins pins look.now l → IsStmtFormed (stmt_tree_of body.now)
-        → IfOk result (λ p. IsClocked (length l.entries) clock (body_without l (stmt_tree_of body.now) (reset_form_of l (stmt_tree_of body.now))) (reset_gives l (reset_form_of l (stmt_tree_of body.now)))
-        (done l clocked_kind (stmt_tree_of body.now)).broken p
+        → IfOk result (λ p. IsClocked (length l.entries) clock (body_without l (stmt_tree_of body.now) (reset_form_of l (stmt_tree_of body.now))) (reset_with l (second_edge_signal l edges.now) (stmt_tree_of body.now))
+        (reset_gives l (reset_form_of l (stmt_tree_of body.now))) (done l clocked_kind (stmt_tree_of body.now)).broken p
         × (faults.new ≡ all_noted faults.old ((done l clocked_kind (stmt_tree_of body.now)).broken ++ reset_rules l (w.first_edge edges.now) (second_edge edges.now) (reset_form_of l (stmt_tree_of body.now))))) }
 {
     let whole = statement(look, body, Mode::Clocked, faults)?;
     let form = reset_form(look, body)?;
     note_reset(look, edges, &form, faults)?;
-    Ok(with_reset(look.alloc, clock, whole, form))
+    let edge = second_signal(look, edges);
+    Ok(with_reset(look.alloc, clock, edge, whole, form))
 }
 
-/// A body in reset form: the signals of its condition, what its first branch gives where that has its form, and its
+/// A body in reset form: the signals of its condition, its first branch, what that gives where it has its form, and the
 /// other branch.
 #[derive(Drop)]
 struct ResetForm {
     signals: Vec<u32>,
+    branch: FStmt,
     given: Option<Vec<Given>>,
     rest: FStmt,
 }
@@ -294,6 +321,7 @@ fn reset_form(look: &Look, body: &Stmt) -> Result<Option<ResetForm>, NoMemory>
     let Some(signals) = reset_signals(look, cond)? else {
         return Ok(None);
     };
+    let branch = branch_body(look, yes)?;
     let given = reset_branch(look, yes)?;
     let rest = match other {
         Some(other) => branch_body(look, other)?,
@@ -301,12 +329,13 @@ fn reset_form(look: &Look, body: &Stmt) -> Result<Option<ResetForm>, NoMemory>
     };
     Ok(Some(ResetForm {
         signals,
+        branch,
         given,
         rest,
     }))
 }
 
-/// The branch beside that of the reset. What it breaks is noted with the whole body.
+/// A branch of a body in reset form. What it breaks is noted with the whole body.
 fn branch_body(look: &Look, branch: &Stmt) -> Result<FStmt, NoMemory>
     ensures { (l : n.Look) → Shows look.now l → IsFit l → IsStmtFormed (stmt_tree_of branch.now) → IfOk result (λ r. IsDone (done l clocked_kind (stmt_tree_of branch.now)) r) }
 {
@@ -405,19 +434,33 @@ fn is_active_edge(kind: EdgeKind, reset: Reset) -> bool
 }
 
 /// The process of a body, which leaves out the reset's branch where it has reset form.
-fn with_reset(alloc: Global, clock: u32, whole: FStmt, form: Option<ResetForm>) -> Clocked
+fn with_reset(
+    alloc: Global,
+    clock: u32,
+    edge: Option<u32>,
+    whole: FStmt,
+    form: Option<ResetForm>,
+) -> Clocked
     ensures { (l : n.Look) (body : StmtTree) → IsDone (done l clocked_kind body) whole → IsFormIf l (reset_form_of l body) form
-        → IsClocked (length l.entries) clock (body_without l body (reset_form_of l body)) (reset_gives l (reset_form_of l body)) (done l clocked_kind body).broken result }
+        → IsClocked (length l.entries) clock (body_without l body (reset_form_of l body)) (reset_with l edge body) (reset_gives l (reset_form_of l body)) (done l clocked_kind body).broken result }
 {
     match form {
         Some(form) => Clocked {
             clock,
             body: form.rest,
+            reset: FlatReset {
+                edge,
+                branch: form.branch,
+            },
             given: form.given.unwrap_or(Vec::new(alloc)),
         },
         None => Clocked {
             clock,
             body: whole,
+            reset: FlatReset {
+                edge,
+                branch: FStmt::Null,
+            },
             given: Vec::new(alloc),
         },
     }

@@ -1,6 +1,7 @@
-use Rattle.std.proofs.Common.{sym, ap, ◌∙◌}
+use Rattle.std.proofs.Common.{None, sym, ap, ◌∙◌}
 use Rattle.std.specs.Prelude.{unwrap_or}
 use Rattle.verilog_reading.specs.StmtTree.{stmt_tree_of}
+use Rattle.flat_form.specs.declared.flat.FStmt.TheVariants as form
 use Rattle.flat_unfolding.specs.Processes.{clock_of}
 use Rattle.flat_names.proofs.Options.{ok-map}
 use Rattle.flat_process.proofs.Processes.{formed-process, formless-process}
@@ -20,5 +21,5 @@ returns-in_ok-body c = λ pins l h fit pinned formed.
     let edges = c.args.edges.now in
     let same = c.unwrap_or-clock.ensures ∙ ap (λ o. unwrap_or o 0) (c.clock_of.ensures l h) in
     formless-process l edges (stmt_tree_of c.args.body.now) (unwrap_or (clock_of l edges) 0) c.args.faults.now c.note_event.new.faults c.statement.new.faults
-    (record { clock = c.unwrap_or-clock.result; body = c.in_ok-body.body; given = c.new.result }) (sym c.has_form.ensures ∙ c.if-has_form.false) (c.in_ok-note_event.ensures l h fit) same c.new.ensures.items
+    (record { clock = c.unwrap_or-clock.result; body = c.in_ok-body.body; reset = record { edge = None; branch = form.Null }; given = c.new.result }) (sym c.has_form.ensures ∙ c.if-has_form.false) (c.in_ok-note_event.ensures l h fit) same c.new.ensures.items
     (c.in_ok-body.ensures l h fit formed).1

@@ -1,8 +1,10 @@
+use Rattle.std.proofs.Common.{length, subst}
 use Rattle.verilog_reading.specs.StmtTree.{stmt_tree_of}
 use Rattle.flat_unfolding.specs.Statements.{clocked, done}
 use Rattle.flat_unfolding.specs.Resets.{reset_form, reset_rules}
-use Rattle.flat_unfolding.specs.Processes.{first_edge, second_edge}
+use Rattle.flat_unfolding.specs.Processes.{first_edge, second_edge, body_without, reset_gives}
 use Rattle.flat_names.proofs.Notes.{then-noted}
+use Rattle.flat_process.specs.Processes.{reset_with, IsClocked}
 use Rattle.flat_process.proofs.always.process_with_form.Goals as goal
 
 pub returns : goal.returns
@@ -11,7 +13,8 @@ returns c = λ pins l h fit pinned formed.
     let edges = c.args.edges.now in
     let whole = c.in_ok-whole.ensures l h fit formed in
     let form = c.in_ok-form.ensures pins l h fit pinned formed in (
-      c.with_reset.ensures l t whole.0 form,
+      subst (λ o. IsClocked (length l.entries) c.args.clock (body_without l t (reset_form l t)) (reset_with l o t) (reset_gives l (reset_form l t)) (done l clocked t).broken c.with_reset.result)
+          (c.second_signal-edge.ensures l h) (c.with_reset.ensures l t whole.0 form),
       then-noted c.args.faults.now c.statement.new.faults c.note_reset.new.faults (done l clocked t).broken (reset_rules l (first_edge edges) (second_edge edges) (reset_form l t)) whole.1
           (c.in_ok-note_reset.ensures pins l (reset_form l t) h pinned form),
     )

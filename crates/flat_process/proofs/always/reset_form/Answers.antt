@@ -28,10 +28,11 @@ returns c = λ pins l h fit pinned formed.
     let x = c.peeled.result.now in
     let i = c.in-If in
     let a = c.deref.result.now in
-    let r : ResetForm = record { signals = c.in-Some.signals; given = c.in_ok-given.given; rest = c.match-other.rest } in
+    let r : ResetForm = record { signals = c.in-Some.signals; branch = c.in_ok-branch.branch; given = c.in_ok-given.given; rest = c.match-other.rest } in
     let parts = branch-formed l x i.cond i.yes i.other i.is (subst IsStmtFormed (sym c.peeled.ensures) (peeled-formed (stmt_tree_of c.args.body.now) formed)) in
     let signals : Some r.signals.items ≡ reset_signals l (tree_of i.cond) = ap (option_map (λ (v : Vec ℕ Global). v.items)) (sym c.in-Some.is) ∙ c.in_ok-signals.ensures pins l h fit pinned parts.0 in
-    let given = c.in_ok-given.ensures l h fit (subst (λ (z : Stmt). IsStmtFormed (stmt_tree_of z)) (sym c.deref.ensures) parts.1) in
+    let branch = c.in_ok-branch.ensures l h fit (subst (λ (z : Stmt). IsStmtFormed (stmt_tree_of z)) (sym c.deref.ensures) parts.1) in
+    let given = c.in_ok-given.ensures l h fit (subst (λ (z : Stmt). IsStmtFormed (stmt_tree_of z)) (sym c.deref-2.ensures) parts.1) in
     let rest : IsDone (done l clocked (rest_of i.other)) c.match-other.rest = elim c.match-other.branch [
       | in-Some-other+in_ok-rest-in-Some-other w ↦
           let z = w.in-Some-other in
@@ -41,4 +42,4 @@ returns c = λ pins l h fit pinned formed.
       | in-None w ↦ no-rest l i.other c.match-other.rest w.in-None.is w.rest-is
     ] in
     subst (λ t. IsFormIf l (form_in l t) (Some r)) c.peeled.ensures
-    (has-reset l x i.cond i.yes i.other r i.is signals (subst (λ (z : Stmt). AreGivenIf (length l.entries) (branch_given l (stmt_tree_of z)) (option_map (λ (v : Vec Given Global). v.items) r.given)) c.deref.ensures given) rest)
+    (has-reset l x i.cond i.yes i.other r i.is signals (subst (λ (z : Stmt). IsDone (done l clocked (stmt_tree_of z)) r.branch) c.deref.ensures branch) (subst (λ (z : Stmt). AreGivenIf (length l.entries) (branch_given l (stmt_tree_of z)) (option_map (λ (v : Vec Given Global). v.items) r.given)) c.deref-2.ensures given) rest)
