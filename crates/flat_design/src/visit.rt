@@ -195,6 +195,7 @@ fn empty_design(alloc: Global) -> Design
         assigns: Vec::new(alloc),
         combs: Vec::new(alloc),
         clocked: Vec::new(alloc),
+        resets: Vec::new(alloc),
         outputs: Vec::new(alloc),
     }
 }
