@@ -6,7 +6,7 @@ use Rattle.std.proofs.lemmas.Bool.{false≢true}
 use Rattle.cdc_base.specs.declared.fault.Fault.{Fault}
 use Rattle.cdc_base.specs.declared.list.NoMemory.{NoMemory}
 use Rattle.report.specs.Faults.{line_of}
-use Rattle.refusals.specs.Numbers.{is_listed, netlist_numbers, all_constraint_numbers}
+use Rattle.refusals.specs.Numbers.{is_listed, netlist_numbers}
 use Rattle.command_line.specs.Cli.{IsAccepted, file_words, page_of}
 use Rattle.audit_top.specs.declared.answer.Answer.{Answer}
 use Rattle.audit_top.specs.declared.answer.Ending.{Ending}
@@ -14,7 +14,7 @@ use Rattle.audit_top.specs.declared.answer.Ending.TheVariants.{Refused, Memory}
 use Rattle.audit_top.specs.declared.status.Status.{Status}
 use Rattle.audit_top.specs.declared.status.Status.TheVariants as status
 use Rattle.audit_top.specs.Refused.{HasCause, IsAuditRefused}
-use Rattle.audit_top.specs.Runs.{wants_json, Seen, Text, IsAnswer, IsAuditedBy, IsCausedBy, IsLong, IsOverLimit, IsRefusedBy, IsRefusedForLength, IsText, IsOfFile, IsOfStatus, TellsOfLength, numbers_of, all_record_numbers}
+use Rattle.audit_top.specs.Runs.{wants_json, Seen, Text, IsAnswer, IsAuditedBy, IsCausedBy, IsLong, IsOverLimit, IsRefusedBy, IsRefusedForLength, IsText, IsOfFile, IsOfStatus, TellsOfLength, numbers_of, all_file_numbers, all_record_numbers}
 use Rattle.audit_top.specs.Endings.{IsAnswerTo, IsEnding, IsEndOfAudit, IsLengthEnding, IsOfFiles, IsReadOfBoth, IsUnreadOfBoth}
 use Rattle.audit_top.specs.Audits.{IsAudited, IsAuditOf}
 use Rattle.audit_top.proofs.Lines.{is_other, other_line}
@@ -73,7 +73,7 @@ pub line_tells : (before now : Seen) (s : Status) (f g : Fault) → IsOfStatus s
 line_tells before now s f g (inl is) refused lines number =
     file_tells netlist_numbers before now f g refl (subst (λ (x : Status). IsRefusedBy before now x f) is refused) lines number
 line_tells before now s f g (inr (inl is)) refused lines number =
-    file_tells all_constraint_numbers before now f g refl (subst (λ (x : Status). IsRefusedBy before now x f) is refused) lines number
+    file_tells all_file_numbers before now f g refl (subst (λ (x : Status). IsRefusedBy before now x f) is refused) lines number
 line_tells before now s f g (inr (inr is)) refused lines number =
     file_tells all_record_numbers before now f g refl (subst (λ (x : Status). IsRefusedBy before now x f) is refused) lines number
 
@@ -102,7 +102,7 @@ texts_audited (Err e) h = tt
 
 -- the answer to both files' bytes, which are told
 audited_told : (json : Bool) (net con net_read con_read : Text) (now : Seen) (r : Result Answer Ending) → now.held net ≡ Some net_read → now.held con ≡ Some con_read
-    → IfOk r (λ a. IsAuditOf json net_read con_read a.status a.text) → IfOk r (λ a. IsAuditedBy now json net con a.status a.text)
+    → IfOk r (λ a. IsAuditOf json con net_read con_read a.status a.text) → IfOk r (λ a. IsAuditedBy now json net con a.status a.text)
 audited_told json net con net_read con_read now (Ok own) net_is con_is exact = λ _. (net_read, net_is, (con_read, con_is, exact))
 audited_told json net con net_read con_read now (Err e) net_is con_is exact = tt
 
@@ -125,15 +125,15 @@ module _ (refused : List ℕ → List ℕ → Fault → Status → Type 0) (now 
   told_cause net_read con_read net_is con_is s f h = inr (net_read, net_is, (con_read, con_is, h))
 
 unread_refused : (now : Seen) (net con : Text) (e : Ending) → IsUnreadOfBoth net con e
-    → HasCause (λ s f. IsOfStatus s → IsCausedBy IsAuditRefused now net con s f) e
+    → HasCause (λ s f. IsOfStatus s → IsCausedBy (IsAuditRefused con) now net con s f) e
 unread_refused now net con Memory h = tt
-unread_refused now net con (Refused s f) h = unread_cause IsAuditRefused now net con s f h
+unread_refused now net con (Refused s f) h = unread_cause (IsAuditRefused con) now net con s f h
 
 refused_told : (net con net_read con_read : Text) (now : Seen) (r : Result Answer Ending) → now.held net ≡ Some net_read → now.held con ≡ Some con_read
-    → IfErr r (HasCause (λ s f. IsAuditRefused net_read con_read f s)) → IfErr r (HasCause (λ s f. IsOfStatus s → IsCausedBy IsAuditRefused now net con s f))
+    → IfErr r (HasCause (λ s f. IsAuditRefused con net_read con_read f s)) → IfErr r (HasCause (λ s f. IsOfStatus s → IsCausedBy (IsAuditRefused con) now net con s f))
 refused_told net con net_read con_read now (Ok own) net_is con_is h = tt
 refused_told net con net_read con_read now (Err Memory) net_is con_is h = tt
-refused_told net con net_read con_read now (Err (Refused s f)) net_is con_is h = λ _. told_cause IsAuditRefused now net con net_read con_read net_is con_is s f h
+refused_told net con net_read con_read now (Err (Refused s f)) net_is con_is h = λ _. told_cause (IsAuditRefused con) now net con net_read con_read net_is con_is s f h
 
 -- a file was not read whole
 pub unread_audit : {T : Type 0} (json : Bool) (net con : Text) (before now : Seen) (e : Ending) → IsReadOfBoth {T = T} net con before now (Err e)
@@ -149,7 +149,7 @@ unread_audit json net con before now e reads h = record {
 pub answered_texts : {T : Type 0} (json : Bool) (net con : Text) (before now : Seen) (texts : T) (r : Result Answer Ending) (net_read con_read : Text)
     → IsReadOfBoth {T = T} net con before now (Ok texts) → MatchResult r (λ a. IsAudited a.status) IsOfFiles
     → (now.held net ≡ Some net_read) × (now.held con ≡ Some con_read)
-    → IfOk r (λ a. IsAuditOf json net_read con_read a.status a.text) → IfErr r (HasCause (λ s f. IsAuditRefused net_read con_read f s))
+    → IfOk r (λ a. IsAuditOf json con net_read con_read a.status a.text) → IfErr r (HasCause (λ s f. IsAuditRefused con net_read con_read f s))
     → IsEndOfAudit json net con before now r
 answered_texts json net con before now texts r net_read con_read reads h told exact refused = record {
   reads = record {
@@ -267,8 +267,8 @@ module _ (words : List Text) (before now : Seen) (json : Bool) (net con : Text) 
     audit_refused = λ n c _ files of_file. (
       f,
       refl,
-      subst (λ (x : Text). IsCausedBy IsAuditRefused now x c s f) (is_net n c [] files)
-          (subst (λ (x : Text). IsCausedBy IsAuditRefused now net x s f) (is_con n c [] files) (end.refused of_file)),
+      subst (λ (x : Text). IsCausedBy (IsAuditRefused c) now x c s f) (is_net n c [] files)
+          (subst (λ (x : Text). IsCausedBy (IsAuditRefused x) now net x s f) (is_con n c [] files) (end.refused of_file)),
     );
     replay_refused = λ n c r _ files _. cc;
   }

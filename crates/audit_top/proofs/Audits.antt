@@ -6,7 +6,6 @@ use Rattle.cdc_base.specs.declared.bit.Bit.{Bit}
 use Rattle.cdc_base.specs.declared.fault.Stop.{Stop}
 use Rattle.cell_graph.specs.declared.net.Net.{Net}
 use Rattle.clock_constraints.specs.declared.Constraints.{Constraints}
-use Rattle.clock_constraints.specs.Files.{IsMeaning as IsMeaningOfConstraints}
 use Rattle.clock_constraints.specs.Fit.{AreFit}
 use Rattle.domains.specs.declared.Domains.{Domains}
 use Rattle.cdc_model.specs.declared.scheme.Cover.{Cover}
@@ -35,6 +34,7 @@ use Rattle.report.specs.Waived.{set_aside}
 use Rattle.audit_top.specs.declared.status.Status.{Status}
 use Rattle.audit_top.specs.declared.status.Status.TheVariants.{Done, Violations, Waived}
 use Rattle.audit_top.specs.Audits.{IsAuditOf, IsSoundBy, IsStatusOf, IsTogetherBy, IsVerdictOn, text_of}
+use Rattle.audit_top.specs.ConstraintFiles.{HasConstraints}
 use Rattle.audit_top.specs.Described.{IsNetOfModules, ReadsAs}
 use Rattle.audit_top.specs.Replays.{IsDesign}
 use Rattle.audit_top.specs.Statuses.{audited_status}
@@ -93,13 +93,13 @@ module _ (f : Flat) (sel : Selects) (c : Constraints) (net : Net) (domains : Dom
       (subst (AreEntries net (design_of net domains) (net_trees net w.grays) w.syncs w.verdict.findings) found w.is_listed.findings)))
 
 -- an audit of the design that the texts describe
-pub audited_texts : (json : Bool) (text con : List ℕ) (modules : List ModuleTree) (c : Constraints) (net : Net) (domains : Domains) (e : VerdictEntry)
+pub audited_texts : (json : Bool) (word text con : List ℕ) (modules : List ModuleTree) (c : Constraints) (net : Net) (domains : Domains) (e : VerdictEntry)
     (aside : List (Option ℕ)) (s : Status) (answer : List ℕ)
-    → ReadsAs text modules → IsMeaningOfConstraints con c → AreFit c → (AreFit c → IsDesign c net domains)
+    → ReadsAs text modules → HasConstraints word modules con c → AreFit c → (AreFit c → IsDesign c net domains)
     → (IsSourceFormed modules → IsNetOfModules modules c net) → (CanAudit net domains → IsVerdictOn net domains e)
     → set_aside net domains e.findings c.waivers ≡ Ok aside → s ≡ audited_status (length e.findings) aside
-    → answer ≡ text_of json net domains e c.waivers aside → IsAuditOf json text con s answer
-audited_texts json text con modules c net domains e aside s answer reads means fits made unfolded judged waived is told =
+    → answer ≡ text_of json net domains e c.waivers aside → IsAuditOf json word text con s answer
+audited_texts json word text con modules c net domains e aside s answer reads means fits made unfolded judged waived is told =
     let design = made fits in
     let of_modules = unfolded (modules_formed text modules reads) in
     let (sel, is_net) = net_of_design modules c net domains design of_modules in

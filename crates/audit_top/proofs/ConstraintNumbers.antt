@@ -1,6 +1,6 @@
 -- The numbers of the rules that a constraint file may break.
 use Rattle.std.proofs.Common.{◌≡◌, ℕ, Bool, true, List, [], ◌∷◌, Option, Some, None, Result, Ok, Err, refl, ap, subst, inl, inr, codes}
-use Rattle.std.specs.Prelude.{IfErr, option_map, option_and_then, map}
+use Rattle.std.specs.Prelude.{IfErr, IfSome, option_map, option_and_then, map}
 use Rattle.cdc_base.specs.declared.fault.Fault.{Fault}
 use Rattle.cdc_base.specs.declared.fault.Stop.{Stop}
 use Rattle.cdc_base.specs.declared.fault.Stop.TheVariants.{Refused, Memory}
@@ -17,35 +17,41 @@ use Rattle.clock_constraints.specs.Values.{settle_or_one, settle_number, unknown
 use Rattle.clock_constraints.specs.Entries.{clock_pin, input_entry, reset_pin, static_name, waiver, entries, entries_of, tables}
 use Rattle.clock_constraints.specs.Names.{input_pin, input_pins, clock_place, repeated, first_again}
 use Rattle.clock_constraints.specs.Files.{document, constraints, port_names, IsBroken, IsStopOf}
-use Rattle.refusals.specs.Numbers.{is_listed, constraint_numbers, HasNumberIn}
+use Rattle.refusals.specs.Numbers.{is_listed, HasNumberIn}
+use Rattle.audit_top.specs.ConstraintFiles.{file_numbers}
 
-abbrev Listed : ℕ → Type 0
-Listed number = is_listed constraint_numbers number ≡ true
+abbrev pub Listed : ℕ → Type 0
+Listed number = is_listed file_numbers number ≡ true
 
 -- a value, or a refusal with one of the numbers
-HasListed : {A : Type 0} → Result A Fault → Type 0
+pub HasListed : {A : Type 0} → Result A Fault → Type 0
 HasListed r = IfErr r (λ (f : Fault). Listed f.number)
 
-value : {A : Type 0} (x : A) → HasListed (Ok x)
+pub value : {A : Type 0} (x : A) → HasListed (Ok x)
 unfolding HasListed
 value x = tt
 
-refusal : (A : Type 0) (f : Fault) → Listed f.number → HasListed {A = A} (Err f)
+pub refusal : (A : Type 0) (f : Fault) → Listed f.number → HasListed {A = A} (Err f)
 unfolding HasListed
 refusal A f h = h
 
-bind : {A B : Type 0} (r : Result A Fault) (next : A → Result B Fault) → HasListed r → ((x : A) → HasListed (next x))
+pub bind : {A B : Type 0} (r : Result A Fault) (next : A → Result B Fault) → HasListed r → ((x : A) → HasListed (next x))
     → HasListed (r >>= next)
 unfolding HasListed
 bind (Ok x) next h k = k x
 bind (Err f) next h k = h
+
+pub where_none : {A : Type 0} (rule : Option Fault) (r : Result A Fault) → IfSome rule (λ f. Listed f.number) → HasListed r
+    → HasListed (unless rule r)
+where_none None r listed h = h
+where_none (Some f) r listed h = refusal _ f listed
 
 no_rule : {A : Type 0} (number : ℕ) (name : Option Text) (r : Result A Fault) → Listed number → HasListed r
     → HasListed (unless (option_map (broken number) name) r)
 no_rule number None r listed h = h
 no_rule number (Some name) r listed h = refusal _ (broken number name) listed
 
-need : {A : Type 0} (number : ℕ) (name : Text) (o : Option A) → Listed number → HasListed (required number name o)
+pub need : {A : Type 0} (number : ℕ) (name : Text) (o : Option A) → Listed number → HasListed (required number name o)
 need number name None listed = refusal _ (broken number name) listed
 need number name (Some x) listed = value x
 
@@ -140,16 +146,16 @@ whole t =
     (λ inputs. no_rule 410 (first_again [] (map (λ w. w.finding) d.waivers)) _ refl (value {A = Constraints}
     (record { top = d.top; clocks = d.clocks; inputs = inputs; resets = d.resets; statics = d.statics; waivers = d.waivers }))))
 
-refused_number : (A : Type 0) (f : Fault) → HasListed {A = A} (Err f) → Listed f.number
+pub refused_number : (A : Type 0) (f : Fault) → HasListed {A = A} (Err f) → Listed f.number
 unfolding HasListed
 refused_number A f h = h
 
 broken_rule : (bytes : List ℕ) (f : Fault) → IsBroken bytes f → Listed f.number
-broken_rule bytes f (inl (is, none)) = ap (λ (x : Fault). is_listed constraint_numbers x.number) is
+broken_rule bytes f (inl (is, none)) = ap (λ (x : Fault). is_listed file_numbers x.number) is
 broken_rule bytes f (inr (t, is, fault)) = refused_number Constraints f (subst (λ (r : Result Constraints Fault). HasListed r) fault (whole t))
 
 -- a constraint file without a meaning breaks one of its rules
-pub constraint_stop : (bytes : List ℕ) (r : Result Constraints Stop) → IfErr r (IsStopOf bytes) → IfErr r (HasNumberIn constraint_numbers)
+pub constraint_stop : (bytes : List ℕ) (r : Result Constraints Stop) → IfErr r (IsStopOf bytes) → IfErr r (HasNumberIn file_numbers)
 constraint_stop bytes (Ok c) h = tt
 constraint_stop bytes (Err Memory) h = tt
 constraint_stop bytes (Err (Refused f)) h = broken_rule bytes f h

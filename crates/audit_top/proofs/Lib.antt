@@ -1,5 +1,7 @@
 pub mod Added
 pub mod ConstraintNumbers
+pub mod SdcNumbers
+pub mod SameConstraints
 pub mod Paged
 mod Lines
 pub mod TokenNumbers

@@ -8,7 +8,6 @@ use Rattle.cdc_base.specs.declared.limits.TheConstants.{MAX_CROSSINGS}
 use Rattle.cell_graph.specs.declared.net.Net.{Net}
 use Rattle.cell_graph.specs.Cells.{HasCause as HasNumber}
 use Rattle.clock_constraints.specs.declared.Constraints.{Constraints as ConstraintsOf}
-use Rattle.clock_constraints.specs.Files.{IsMeaning, IsStopOf}
 use Rattle.clock_constraints.specs.Refusals.{Gives}
 use Rattle.cofactor.specs.contracts.nodes.PlainCofactors.TheImpl as plain
 use Rattle.domains.specs.declared.Domains.{Domains}
@@ -36,6 +35,7 @@ use Rattle.audit_top.specs.declared.status.Status.{Status}
 use Rattle.audit_top.specs.declared.status.Status.TheVariants.{Netlist, Constraints, Record}
 use Rattle.audit_top.specs.Replays.{IsReplayOf, ended_with}
 use Rattle.audit_top.specs.Refused.{HasCause, IsOfDesignFile, IsNetlistRefused, tokens, reading, IsDesignRefused, rule, cells, domains, AreTextsRefused, netlist, constraints, design, IsVerdictRefused, crossings, waivers, IsAuditRefused, texts, verdict}
+use Rattle.audit_top.specs.ConstraintFiles.{BreaksRule, HasConstraints}
 use Rattle.audit_top.specs.Described.{IsNetOfModules, ReadsAs}
 use Rattle.audit_top.specs.Replays.{IsDesign}
 use Rattle.audit_top.proofs.Described.{IsFlatOfModules, modules_formed, text_ended}
@@ -103,31 +103,31 @@ pub passed_on : {T : Type 0} {U : Type 0} (cause : Status → Fault → Type 0) 
     → IfErr r (HasCause cause) → IfErr out (HasCause cause)
 passed_on cause r out e is same h = subst (λ (x : Result _ Ending). IfErr x (HasCause cause)) (sym same) (subst (λ (x : Result _ Ending). IfErr x (HasCause cause)) is h)
 
-module _ (text con : List ℕ) where
-  pub netlist_refused : {T : Type 0} (r : Result T Ending) → IfErr r (HasCause (λ s f. IsNetlistRefused text f s)) → IfErr r (HasCause (λ s f. AreTextsRefused text con f s))
-  netlist_refused r h = also (λ s f. IsNetlistRefused text f s) (λ s f. AreTextsRefused text con f s) r (λ s f x. netlist x) h
+module _ (word text con : List ℕ) where
+  pub netlist_refused : {T : Type 0} (r : Result T Ending) → IfErr r (HasCause (λ s f. IsNetlistRefused text f s)) → IfErr r (HasCause (λ s f. AreTextsRefused word text con f s))
+  netlist_refused r h = also (λ s f. IsNetlistRefused text f s) (λ s f. AreTextsRefused word text con f s) r (λ s f x. netlist x) h
 
   pub constraints_refused : (modules : List ModuleTree) → ReadsAs text modules → (given : Result ConstraintsOf Stop) (r : Result ConstraintsOf Ending)
-      → r ≡ ended_with Constraints given → IfErr given (IsStopOf con) → IfErr r (HasCause (λ s f. AreTextsRefused text con f s))
-  constraints_refused modules reads given r is h = caused (λ s f. AreTextsRefused text con f s) Constraints given r is (told given h)
+      → r ≡ ended_with Constraints given → IfErr given (Refuses (BreaksRule word modules con)) → IfErr r (HasCause (λ s f. AreTextsRefused word text con f s))
+  constraints_refused modules reads given r is h = caused (λ s f. AreTextsRefused word text con f s) Constraints given r is (told given h)
     where
-      told : (g : Result ConstraintsOf Stop) → IfErr g (IsStopOf con) → IfErr g (Refuses (λ f. AreTextsRefused text con f Constraints))
+      told : (g : Result ConstraintsOf Stop) → IfErr g (Refuses (BreaksRule word modules con)) → IfErr g (Refuses (λ f. AreTextsRefused word text con f Constraints))
       told (Ok c) h = tt
       told (Err (stop.Refused f)) h = constraints modules reads refl h
       told (Err stop.Memory) h = tt
 
-  pub design_refused : {T : Type 0} (modules : List ModuleTree) → ReadsAs text modules → (c : ConstraintsOf) → IsMeaning con c → (r : Result T Ending)
-      → (IsSourceFormed modules → IfErr r (HasCause (λ s f. IsDesignRefused modules c f s))) → IfErr r (HasCause (λ s f. AreTextsRefused text con f s))
-  design_refused modules reads c means r h = also (λ s f. IsDesignRefused modules c f s) (λ s f. AreTextsRefused text con f s) r
+  pub design_refused : {T : Type 0} (modules : List ModuleTree) → ReadsAs text modules → (c : ConstraintsOf) → HasConstraints word modules con c → (r : Result T Ending)
+      → (IsSourceFormed modules → IfErr r (HasCause (λ s f. IsDesignRefused modules c f s))) → IfErr r (HasCause (λ s f. AreTextsRefused word text con f s))
+  design_refused modules reads c means r h = also (λ s f. IsDesignRefused modules c f s) (λ s f. AreTextsRefused word text con f s) r
       (λ s f x. design modules reads c means x) (h (modules_formed text modules reads))
 
-  pub of_design_file : {T : Type 0} (r : Result T Ending) → IfErr r (HasCause (λ s f. AreTextsRefused text con f s))
-      → IfErr r (HasCause (λ s f. IsOfDesignFile s → AreTextsRefused text con f s))
-  of_design_file r h = also (λ s f. AreTextsRefused text con f s) (λ s f. IsOfDesignFile s → AreTextsRefused text con f s) r (λ s f x _. x) h
+  pub of_design_file : {T : Type 0} (r : Result T Ending) → IfErr r (HasCause (λ s f. AreTextsRefused word text con f s))
+      → IfErr r (HasCause (λ s f. IsOfDesignFile s → AreTextsRefused word text con f s))
+  of_design_file r h = also (λ s f. AreTextsRefused word text con f s) (λ s f. IsOfDesignFile s → AreTextsRefused word text con f s) r (λ s f x _. x) h
 
   -- a record that is refused is no file of the design
   pub record_cause : (net : Net) (d : Domains) (run : List ℕ) (r : Result (List ℕ) Ending) → IsReplayOf net d run r
-      → IfErr r (HasCause (λ s f. IsOfDesignFile s → AreTextsRefused text con f s))
+      → IfErr r (HasCause (λ s f. IsOfDesignFile s → AreTextsRefused word text con f s))
   record_cause net d run (Ok own) h = tt
   record_cause net d run (Err Memory) h = tt
   record_cause net d run (Err (Refused s f)) (is, h) = λ of_file. absurd (no_record s is of_file)
@@ -136,11 +136,11 @@ module _ (text con : List ℕ) where
       no_record x e (inl is) = cc
       no_record x e (inr is) = cc
 
-  pub texts_refused : {T : Type 0} (r : Result T Ending) → IfErr r (HasCause (λ s f. AreTextsRefused text con f s)) → IfErr r (HasCause (λ s f. IsAuditRefused text con f s))
-  texts_refused r h = also (λ s f. AreTextsRefused text con f s) (λ s f. IsAuditRefused text con f s) r (λ s f x. texts x) h
+  pub texts_refused : {T : Type 0} (r : Result T Ending) → IfErr r (HasCause (λ s f. AreTextsRefused word text con f s)) → IfErr r (HasCause (λ s f. IsAuditRefused word text con f s))
+  texts_refused r h = also (λ s f. AreTextsRefused word text con f s) (λ s f. IsAuditRefused word text con f s) r (λ s f x. texts x) h
 
-  pub verdict_refused : {T : Type 0} (modules : List ModuleTree) → ReadsAs text modules → (c : ConstraintsOf) → IsMeaning con c → (net : Net)
+  pub verdict_refused : {T : Type 0} (modules : List ModuleTree) → ReadsAs text modules → (c : ConstraintsOf) → HasConstraints word modules con c → (net : Net)
       → (IsSourceFormed modules → IsNetOfModules modules c net) → (d : Domains) → IsDesign c net d → (r : Result T Ending)
-      → IfErr r (HasCause (λ s f. IsVerdictRefused c net d f s)) → IfErr r (HasCause (λ s f. IsAuditRefused text con f s))
-  verdict_refused modules reads c means net of_modules d made r h = also (λ s f. IsVerdictRefused c net d f s) (λ s f. IsAuditRefused text con f s) r
+      → IfErr r (HasCause (λ s f. IsVerdictRefused c net d f s)) → IfErr r (HasCause (λ s f. IsAuditRefused word text con f s))
+  verdict_refused modules reads c means net of_modules d made r h = also (λ s f. IsVerdictRefused c net d f s) (λ s f. IsAuditRefused word text con f s) r
       (λ s f x. verdict modules reads c means net (of_modules (modules_formed text modules reads)) d made x) h

@@ -28,10 +28,10 @@ texts_done (Err e) h = tt
 -- the bytes of all three files, which are told
 module _ (now : Seen) (net con run net_read con_read run_read : Text) (net_is : now.held net ≡ Some net_read) (con_is : now.held con ≡ Some con_read)
     (run_is : now.held run ≡ Some run_read) where
-  all_told : (answer : Result Text Ending) → IsReplayUnder net_read con_read run_read answer → IsReplayTold now net con run answer
+  all_told : (answer : Result Text Ending) → IsReplayUnder con net_read con_read run_read answer → IsReplayTold now net con run answer
   all_told answer h = (net_read, net_is, (con_read, con_is, (run_read, run_is, h)))
 
-  texts_exact : (r : Result Answer Ending) → IsReplayOfTexts net_read con_read run_read r → IsReplayEnd now net con run r
+  texts_exact : (r : Result Answer Ending) → IsReplayOfTexts con net_read con_read run_read r → IsReplayEnd now net con run r
   texts_exact (Ok own) h = all_told (Ok own.text) h
   texts_exact (Err Memory) h = tt
   texts_exact (Err (Refused s f)) h = λ is. inr (all_told (Err (Refused s f)) (h is))
@@ -52,19 +52,19 @@ no_record s (inr h) (inl is) = cc
 no_record s (inr h) (inr is) = cc
 
 unread_refused : (now : Seen) (net con run : Text) (e : Ending) → IsUnreadOfThree net con run e
-    → HasCause (λ s f. IsOfDesignFile s → IsCausedBy AreTextsRefused now net con s f) e
+    → HasCause (λ s f. IsOfDesignFile s → IsCausedBy (AreTextsRefused con) now net con s f) e
 unread_refused now net con run Memory h = tt
 unread_refused now net con run (Refused s f) (inl (inl (is, fault))) = λ of_file. absurd (no_record s (inl is) of_file)
 unread_refused now net con run (Refused s f) (inl (inr is)) = λ of_file. absurd (no_record s (inr is) of_file)
-unread_refused now net con run (Refused s f) (inr h) = λ of_file. unread_cause AreTextsRefused now net con s f h (file_of_design s of_file)
+unread_refused now net con run (Refused s f) (inr h) = λ of_file. unread_cause (AreTextsRefused con) now net con s f h (file_of_design s of_file)
 
 refused_told : (net con net_read con_read : Text) (now : Seen) (r : Result Answer Ending) → now.held net ≡ Some net_read → now.held con ≡ Some con_read
-    → IfErr r (HasCause (λ s f. IsOfDesignFile s → AreTextsRefused net_read con_read f s))
-    → IfErr r (HasCause (λ s f. IsOfDesignFile s → IsCausedBy AreTextsRefused now net con s f))
+    → IfErr r (HasCause (λ s f. IsOfDesignFile s → AreTextsRefused con net_read con_read f s))
+    → IfErr r (HasCause (λ s f. IsOfDesignFile s → IsCausedBy (AreTextsRefused con) now net con s f))
 refused_told net con net_read con_read now (Ok own) net_is con_is h = tt
 refused_told net con net_read con_read now (Err Memory) net_is con_is h = tt
 refused_told net con net_read con_read now (Err (Refused s f)) net_is con_is h =
-    λ of_file. told_cause AreTextsRefused now net con net_read con_read net_is con_is s f (h of_file)
+    λ of_file. told_cause (AreTextsRefused con) now net con net_read con_read net_is con_is s f (h of_file)
 
 -- a file was not read whole
 pub unread_texts : {T : Type 0} (net con run : Text) (before now : Seen) (e : Ending) → IsReadOfThree {T = T} net con run before now (Err e)
@@ -79,8 +79,8 @@ unread_texts net con run before now e reads h unread = record {
 -- all three files were read, and their texts have an answer or a refusal
 pub replayed_texts : {T : Type 0} (net con run : Text) (before now : Seen) (texts : T) (r : Result Answer Ending) (net_read con_read run_read : Text)
     → IsReadOfThree {T = T} net con run before now (Ok texts) → MatchResult r (λ a. a.status ≡ status.Done) IsOfFiles
-    → (now.held net ≡ Some net_read) × (now.held con ≡ Some con_read) × (now.held run ≡ Some run_read) → IsReplayOfTexts net_read con_read run_read r
-    → IfErr r (HasCause (λ s f. IsOfDesignFile s → AreTextsRefused net_read con_read f s)) → IsEndOfReplay net con run before now r
+    → (now.held net ≡ Some net_read) × (now.held con ≡ Some con_read) × (now.held run ≡ Some run_read) → IsReplayOfTexts con net_read con_read run_read r
+    → IfErr r (HasCause (λ s f. IsOfDesignFile s → AreTextsRefused con net_read con_read f s)) → IsEndOfReplay net con run before now r
 replayed_texts net con run before now texts r net_read con_read run_read reads h told exact refused = record {
   reads = record {
     asks = reads.asks;
@@ -178,8 +178,8 @@ module _ (words : List Text) (before now : Seen) (net con run : Text) (accepted 
     replay_refused = λ n c r _ files of_file. (
       f,
       refl,
-      subst (λ (x : Text). IsCausedBy AreTextsRefused now x c s f) (is_net n c (r ∷ []) files)
-          (subst (λ (x : Text). IsCausedBy AreTextsRefused now net x s f) (is_con n c (r ∷ []) files) (end.refused of_file)),
+      subst (λ (x : Text). IsCausedBy (AreTextsRefused c) now x c s f) (is_net n c (r ∷ []) files)
+          (subst (λ (x : Text). IsCausedBy (AreTextsRefused x) now net x s f) (is_con n c (r ∷ []) files) (end.refused of_file)),
     );
   }
 

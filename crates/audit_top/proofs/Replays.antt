@@ -12,7 +12,6 @@ use Rattle.cell_graph.specs.declared.net.Net.{Net}
 use Rattle.cell_graph.specs.declared.net.Reg.{Reg}
 use Rattle.cell_graph.specs.Shared.{IsShared}
 use Rattle.clock_constraints.specs.declared.Constraints.{Constraints}
-use Rattle.clock_constraints.specs.Files.{IsMeaning as IsMeaningOfConstraints}
 use Rattle.clock_constraints.specs.Fit.{AreFit}
 use Rattle.clock_constraints.specs.Refusals.{Gives}
 use Rattle.cofactor.specs.contracts.nodes.PlainCofactors.TheImpl as plain
@@ -41,6 +40,7 @@ use Rattle.audit_top.specs.declared.answer.Ending.{Ending}
 use Rattle.audit_top.specs.declared.answer.Ending.TheVariants.{Refused, Memory}
 use Rattle.audit_top.specs.declared.status.Status.{Status}
 use Rattle.audit_top.specs.declared.status.Status.TheVariants.{Netlist, Constraints as OfConstraints, Record}
+use Rattle.audit_top.specs.ConstraintFiles.{HasConstraints}
 use Rattle.audit_top.specs.Described.{IsNetOfModules, ReadsAs}
 use Rattle.audit_top.specs.Endings.{IsOfDesign}
 use Rattle.audit_top.proofs.Described.{modules_formed}
@@ -181,16 +181,16 @@ no_error : (own : Answer) → IsErr {T = Answer} {E = Ending} (Ok own) → ⊥
 no_error own none = cc
 
 -- where the design is refused no record is
-pub before_record : (net con run : List ℕ) (r : Result Answer Ending) → IsErr r → IfErr r IsOfDesign → IsReplayOfTexts net con run r
-before_record net con run (Ok own) none of_design = absurd (no_error own none)
-before_record net con run (Err Memory) none of_design = tt
-before_record net con run (Err (Refused s f)) none of_design = λ h. absurd (of_no_record s of_design h)
+pub before_record : (word net con run : List ℕ) (r : Result Answer Ending) → IsErr r → IfErr r IsOfDesign → IsReplayOfTexts word net con run r
+before_record word net con run (Ok own) none of_design = absurd (no_error own none)
+before_record word net con run (Err Memory) none of_design = tt
+before_record word net con run (Err (Refused s f)) none of_design = λ h. absurd (of_no_record s of_design h)
 
 -- a replay over the design of both files
-pub replayed_under : (text con run : List ℕ) (modules : List ModuleTree) (c : Constraints) (net : Net) (domains : Domains) (answer : Result (List ℕ) Ending)
-    → ReadsAs text modules → IsMeaningOfConstraints con c → AreFit c → (IsSourceFormed modules → IsNetOfModules modules c net)
-    → (AreFit c → IsDesign c net domains) → (CanReplay net domains → IsReplayOf net domains run answer) → IsReplayUnder text con run answer
-replayed_under text con run modules c net domains answer reads means fits unfolded made exact =
+pub replayed_under : (word text con run : List ℕ) (modules : List ModuleTree) (c : Constraints) (net : Net) (domains : Domains) (answer : Result (List ℕ) Ending)
+    → ReadsAs text modules → HasConstraints word modules con c → AreFit c → (IsSourceFormed modules → IsNetOfModules modules c net)
+    → (AreFit c → IsDesign c net domains) → (CanReplay net domains → IsReplayOf net domains run answer) → IsReplayUnder word text con run answer
+replayed_under word text con run modules c net domains answer reads means fits unfolded made exact =
     let design = made fits in
     record {
       constraints = c;
@@ -205,6 +205,6 @@ replayed_under text con run modules c net domains answer reads means fits unfold
     }
 
 -- where the record is
-pub record_refused : (net con run : List ℕ) (e : Ending) → IsReplayUnder net con run (Err e) → IsReplayOfTexts net con run (Err e)
-record_refused net con run Memory under = tt
-record_refused net con run (Refused s f) under = λ _. under
+pub record_refused : (word net con run : List ℕ) (e : Ending) → IsReplayUnder word net con run (Err e) → IsReplayOfTexts word net con run (Err e)
+record_refused word net con run Memory under = tt
+record_refused word net con run (Refused s f) under = λ _. under

@@ -3,7 +3,6 @@ use Rattle.std.specs.Prelude.{◌≡◌, ◌≢◌, ℕ, Bool, true, List, [], l
 use Rattle.cdc_base.specs.declared.bit.Bit.{Bit}
 use Rattle.clock_constraints.specs.declared.Constraints.{Constraints}
 use Rattle.clock_constraints.specs.declared.Waiver.{Waiver}
-use Rattle.clock_constraints.specs.Files.{IsMeaning as IsMeaningOfConstraints}
 use Rattle.cell_graph.specs.declared.net.Net.{Net}
 use Rattle.domains.specs.declared.Domains.{Domains}
 use Rattle.cdc_model.specs.declared.scheme.GrayReg.{GrayReg}
@@ -26,6 +25,7 @@ use Rattle.report.specs.Waived.{set_aside}
 use Rattle.verilog_reading.specs.SourceTree.{ModuleTree}
 use Rattle.audit_top.specs.declared.status.Status.{Status}
 use Rattle.audit_top.specs.declared.status.Status.TheVariants.{Done, Violations, Waived}
+use Rattle.audit_top.specs.ConstraintFiles.{HasConstraints}
 use Rattle.audit_top.specs.Described.{IsNetOfModules, ReadsAs}
 use Rattle.audit_top.specs.Replays.{IsDesign}
 use Rattle.audit_top.specs.Statuses.{audited_status}
@@ -72,12 +72,13 @@ abbrev pub text_of : Bool → Net → Domains → VerdictEntry → List Waiver �
 text_of json net domains verdict waivers aside =
     if json then verdict_json net domains verdict waivers aside [] else verdict_text net domains verdict waivers aside
 
--- The audit of the design which a netlist's bytes describe, under the constraints that a constraint file's bytes mean.
-pub record IsAuditOf (json : Bool) (text con : List ℕ) (status : Status) (answer : List ℕ) : Type 0 where
-  pub constraints : Constraints
-  pub means : IsMeaningOfConstraints con constraints
+-- The audit of the design which a netlist's bytes describe, under the constraints of a file with this word and these bytes. Nothing but `means` speaks of
+-- the word and the bytes, so two files with equal constraints, in TOML or in SDC, have the same answers.
+pub record IsAuditOf (json : Bool) (word text con : List ℕ) (status : Status) (answer : List ℕ) : Type 0 where
   pub modules : List ModuleTree
   pub reads : ReadsAs text modules
+  pub constraints : Constraints
+  pub means : HasConstraints word modules con constraints
   -- the net of the flat design that the modules unfold to
   pub net : Net
   pub of_modules : IsNetOfModules modules constraints net

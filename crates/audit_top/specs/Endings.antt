@@ -82,7 +82,7 @@ pub record IsEndOfAudit (json : Bool) (net con : Text) (before now : Seen) (resu
   pub reads : IsReadOfBoth net con before now result
   pub audited : IfOk result (λ answer. IsAudited answer.status)
   pub exact : IfOk result (λ answer. IsAuditedBy now json net con answer.status answer.text)
-  pub refused : IfErr result (HasCause (λ status fault. IsOfStatus status → IsCausedBy IsAuditRefused now net con status fault))
+  pub refused : IfErr result (HasCause (λ status fault. IsOfStatus status → IsCausedBy (IsAuditRefused con) now net con status fault))
 
 -- a read that ended refuses the record as too long alone
 abbrev pub IsOfLength : Text → Ending → Type 0
@@ -109,7 +109,7 @@ pub record IsEndOfReplay (net con run : Text) (before now : Seen) (result : Resu
   pub reads : IsReadOfThree net con run before now result
   pub replayed : IfOk result (λ answer. answer.status ≡ Done)
   pub exact : IsReplayEnd now net con run result
-  pub refused : IfErr result (HasCause (λ status fault. IsOfDesignFile status → IsCausedBy AreTextsRefused now net con status fault))
+  pub refused : IfErr result (HasCause (λ status fault. IsOfDesignFile status → IsCausedBy (AreTextsRefused con) now net con status fault))
 
 -- the answer to a word for a page
 abbrev pub IsPage : Page → Answer → Type 0

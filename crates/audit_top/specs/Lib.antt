@@ -2,6 +2,8 @@ pub mod Pages
 pub mod Runs
 pub mod Statuses
 pub mod Endings
+pub mod ConstraintFiles
+pub mod SameConstraints
 pub mod Replays
 pub mod Described
 pub mod Audits

@@ -14,7 +14,7 @@ help_lines =
     ∷ codes "  version, --version, -V  name and version"
     ∷ []
     ∷ codes "  NET  a netlist in Verilog"
-    ∷ codes "  CON  clock constraints in TOML"
+    ∷ codes "  CON  clock constraints in TOML, or in SDC where the word ends in .sdc"
     ∷ codes "  RUN  a run record in JSON"
     ∷ codes "  N    a number from 1 to 500"
     ∷ []

@@ -4,7 +4,6 @@ use Rattle.cdc_base.specs.declared.fault.Fault.{Fault}
 use Rattle.cdc_base.specs.declared.limits.TheConstants.{MAX_CROSSINGS}
 use Rattle.cell_graph.specs.declared.net.Net.{Net}
 use Rattle.clock_constraints.specs.declared.Constraints.{Constraints as ConstraintsOf}
-use Rattle.clock_constraints.specs.Files.{IsBroken as IsBrokenFile, IsMeaning}
 use Rattle.cofactor.specs.contracts.nodes.PlainCofactors.TheImpl as plain
 use Rattle.domains.specs.declared.Domains.{Domains}
 use Rattle.domains.specs.Assignment.{IsBroken}
@@ -27,6 +26,7 @@ use Rattle.audit_top.specs.declared.answer.Ending.{Ending}
 use Rattle.audit_top.specs.declared.answer.Ending.TheVariants.{Refused, Memory}
 use Rattle.audit_top.specs.declared.status.Status.{Status}
 use Rattle.audit_top.specs.declared.status.Status.TheVariants.{Netlist, Constraints}
+use Rattle.audit_top.specs.ConstraintFiles.{BreaksRule, HasConstraints}
 use Rattle.audit_top.specs.Described.{IsNetOfModules, ReadsAs, UnfoldsTo}
 use Rattle.audit_top.specs.Replays.{IsDesign}
 
@@ -51,12 +51,13 @@ pub data IsDesignRefused (modules : List ModuleTree) (c : ConstraintsOf) (fault 
   cells : (flat : Flat) → UnfoldsTo modules c (flat_of flat) → IsFlattened flat → IsRefusedFor flat fault → IsDesignRefused modules c fault Netlist
   domains : (net : Net) → IsNetOfModules modules c net → IsNet net → IsBroken plain.ghosts.reads net c fault → IsDesignRefused modules c fault Constraints
 
--- the bytes of both files: the netlist's; those of the constraint file, by the first rule that they break; or the design
-pub data AreTextsRefused (text con : List ℕ) (fault : Fault) (status : Status) : Type 0 where
-  netlist : IsNetlistRefused text fault status → AreTextsRefused text con fault status
-  constraints : (modules : List ModuleTree) → ReadsAs text modules → status ≡ Constraints → IsBrokenFile con fault → AreTextsRefused text con fault status
-  design : (modules : List ModuleTree) → ReadsAs text modules → (c : ConstraintsOf) → IsMeaning con c → IsDesignRefused modules c fault status
-      → AreTextsRefused text con fault status
+-- the bytes of both files: the netlist's; those of the constraint file with this word, by the first rule that they break; or the design
+pub data AreTextsRefused (word text con : List ℕ) (fault : Fault) (status : Status) : Type 0 where
+  netlist : IsNetlistRefused text fault status → AreTextsRefused word text con fault status
+  constraints : (modules : List ModuleTree) → ReadsAs text modules → status ≡ Constraints → BreaksRule word modules con fault
+      → AreTextsRefused word text con fault status
+  design : (modules : List ModuleTree) → ReadsAs text modules → (c : ConstraintsOf) → HasConstraints word modules con c → IsDesignRefused modules c fault status
+      → AreTextsRefused word text con fault status
 
 -- a net and its domains in an audit: too many crossings; or the first waiver that meets no finding of the verdict
 pub data IsVerdictRefused (c : ConstraintsOf) (net : Net) (domains : Domains) (fault : Fault) : Status → Type 0 where
@@ -65,7 +66,8 @@ pub data IsVerdictRefused (c : ConstraintsOf) (net : Net) (domains : Domains) (f
       → IsVerdictRefused c net domains fault Constraints
 
 -- an audit of both files' bytes
-pub data IsAuditRefused (text con : List ℕ) (fault : Fault) (status : Status) : Type 0 where
-  texts : AreTextsRefused text con fault status → IsAuditRefused text con fault status
-  verdict : (modules : List ModuleTree) → ReadsAs text modules → (c : ConstraintsOf) → IsMeaning con c → (net : Net) → IsNetOfModules modules c net
-      → (domains : Domains) → IsDesign c net domains → IsVerdictRefused c net domains fault status → IsAuditRefused text con fault status
+pub data IsAuditRefused (word text con : List ℕ) (fault : Fault) (status : Status) : Type 0 where
+  texts : AreTextsRefused word text con fault status → IsAuditRefused word text con fault status
+  verdict : (modules : List ModuleTree) → ReadsAs text modules → (c : ConstraintsOf) → HasConstraints word modules con c → (net : Net)
+      → IsNetOfModules modules c net → (domains : Domains) → IsDesign c net domains → IsVerdictRefused c net domains fault status
+      → IsAuditRefused word text con fault status

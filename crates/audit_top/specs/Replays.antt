@@ -4,7 +4,6 @@ use Rattle.cdc_base.specs.declared.fault.Stop.{Stop}
 use Rattle.cdc_base.specs.declared.fault.Stop.TheVariants as stop
 use Rattle.cell_graph.specs.declared.net.Net.{Net}
 use Rattle.clock_constraints.specs.declared.Constraints.{Constraints}
-use Rattle.clock_constraints.specs.Files.{IsMeaning as IsMeaningOfConstraints}
 use Rattle.cofactor.specs.contracts.nodes.PlainCofactors.TheImpl as plain
 use Rattle.domains.specs.declared.Domains.{Domains}
 use Rattle.domains.specs.Assignment.{AreDomains}
@@ -23,6 +22,7 @@ use Rattle.audit_top.specs.declared.answer.Ending.{Ending}
 use Rattle.audit_top.specs.declared.answer.Ending.TheVariants.{Refused, Memory}
 use Rattle.audit_top.specs.declared.status.Status.{Status}
 use Rattle.audit_top.specs.declared.status.Status.TheVariants.{Record}
+use Rattle.audit_top.specs.ConstraintFiles.{HasConstraints}
 use Rattle.audit_top.specs.Described.{IsNetOfModules, ReadsAs}
 
 -- a layer's refusal, with its status
@@ -61,12 +61,12 @@ pub record IsDesign (c : Constraints) (net : Net) (domains : Domains) : Type 0 w
   pub can : CanReplay net domains
   pub can_audit : CanAudit net domains
 
--- the answer is that to a record's bytes over the design which a netlist's bytes describe under the constraints that a constraint file's bytes mean
-pub record IsReplayUnder (net_bytes con run : List ℕ) (answer : Result (List ℕ) Ending) : Type 0 where
-  pub constraints : Constraints
-  pub means : IsMeaningOfConstraints con constraints
+-- the answer is that to a record's bytes over the design which a netlist's bytes describe under the constraints of a file with this word and these bytes
+pub record IsReplayUnder (word net_bytes con run : List ℕ) (answer : Result (List ℕ) Ending) : Type 0 where
   pub modules : List ModuleTree
   pub reads : ReadsAs net_bytes modules
+  pub constraints : Constraints
+  pub means : HasConstraints word modules con constraints
   pub net : Net
   pub of_modules : IsNetOfModules modules constraints net
   pub domains : Domains
@@ -74,7 +74,7 @@ pub record IsReplayUnder (net_bytes con run : List ℕ) (answer : Result (List �
   pub replayed : IsReplayOf net domains run answer
 
 -- the answer to the texts, where no other file than the record is refused
-abbrev pub IsReplayOfTexts : List ℕ → List ℕ → List ℕ → Result Answer Ending → Type 0
-IsReplayOfTexts net con run (Ok answer) = IsReplayUnder net con run (Ok answer.text)
-IsReplayOfTexts net con run (Err (Refused status fault)) = status ≡ Record → IsReplayUnder net con run (Err (Refused status fault))
-IsReplayOfTexts net con run (Err Memory) = Unit {0}
+abbrev pub IsReplayOfTexts : List ℕ → List ℕ → List ℕ → List ℕ → Result Answer Ending → Type 0
+IsReplayOfTexts word net con run (Ok answer) = IsReplayUnder word net con run (Ok answer.text)
+IsReplayOfTexts word net con run (Err (Refused status fault)) = status ≡ Record → IsReplayUnder word net con run (Err (Refused status fault))
+IsReplayOfTexts word net con run (Err Memory) = Unit {0}

@@ -16,6 +16,7 @@ use Rattle.audit_top.specs.declared.status.Status.{Status}
 use Rattle.audit_top.specs.declared.status.Status.TheVariants.{Done, Violations, Usage, Netlist, Constraints, Record, ReadFault, WriteFault, Memory, Waived}
 use Rattle.audit_top.specs.Pages.{page_text}
 use Rattle.audit_top.specs.Audits.{IsAudited, IsAuditOf}
+use Rattle.audit_top.specs.ConstraintFiles.{sdc_numbers}
 use Rattle.audit_top.specs.Refused.{AreTextsRefused, IsAuditRefused, IsOfDesignFile}
 use Rattle.audit_top.specs.Replays.{IsReplayUnder}
 
@@ -71,10 +72,14 @@ IsTooLong before now fault = IsLastAsked fault.name now × (fault ≡ fault_at 6
 abbrev pub all_record_numbers : List ℕ
 all_record_numbers = record_numbers ++ step_numbers
 
+-- what a constraint file may be refused for, once it was read, in TOML or in SDC
+abbrev pub all_file_numbers : List ℕ
+all_file_numbers = all_constraint_numbers ++ sdc_numbers
+
 -- the rules that a file of this status may break, once it was read
 abbrev pub numbers_of : Status → List ℕ
 numbers_of Netlist = netlist_numbers
-numbers_of Constraints = all_constraint_numbers
+numbers_of Constraints = all_file_numbers
 numbers_of Record = all_record_numbers
 numbers_of _ = []
 
@@ -86,7 +91,7 @@ IsOfFile numbers before now fault = IsTooLong before now fault ⊎ (is_listed nu
 abbrev pub IsRefusedBy : Seen → Seen → Status → Fault → Type 0
 IsRefusedBy before now ReadFault fault = IsUnread before now fault
 IsRefusedBy before now Netlist fault = IsOfFile netlist_numbers before now fault
-IsRefusedBy before now Constraints fault = IsOfFile all_constraint_numbers before now fault
+IsRefusedBy before now Constraints fault = IsOfFile all_file_numbers before now fault
 IsRefusedBy before now Record fault = IsOfFile all_record_numbers before now fault
 IsRefusedBy before now _ fault = ⊥
 
@@ -131,12 +136,12 @@ wants_json words = json_in (subcommand_of cli words)
 -- An audit of both files, as they are told: the status and the text are those of their bytes. Each file may be refused.
 abbrev pub IsAuditedBy : Seen → Bool → Text → Text → Status → Text → Type 0
 IsAuditedBy now json net con status text =
-    IsAudited status → Told now net (λ net_bytes. Told now con (λ con_bytes. IsAuditOf json net_bytes con_bytes status text))
+    IsAudited status → Told now net (λ net_bytes. Told now con (λ con_bytes. IsAuditOf json con net_bytes con_bytes status text))
 
 -- what is answered to the bytes of all three files, as they are told
 abbrev pub IsReplayTold : Seen → Text → Text → Text → Result Text Ending → Type 0
 IsReplayTold now net con run answer =
-    Told now net (λ net_bytes. Told now con (λ con_bytes. Told now run (λ run_bytes. IsReplayUnder net_bytes con_bytes run_bytes answer)))
+    Told now net (λ net_bytes. Told now con (λ con_bytes. Told now run (λ run_bytes. IsReplayUnder con net_bytes con_bytes run_bytes answer)))
 
 -- A replay of the record under the constraints, each file as it is told: it prints the run that the record fixes, or refuses the record, which may be
 -- too long, for the rule that it breaks. It has no findings, and the other files may be refused.
@@ -179,9 +184,9 @@ pub record IsAnswer (words : List Text) (before now : Seen) (status : Status) (t
   pub replayed : (net con run : Text) → IsAccepted words → file_words words ≡ net ∷ con ∷ run ∷ [] → IsReplayedBy now net con run status text
   pub audited : (net con : Text) → IsAccepted words → file_words words ≡ net ∷ con ∷ [] → IsAuditedBy now (wants_json words) net con status text
   pub audit_refused : (net con : Text) → IsAccepted words → file_words words ≡ net ∷ con ∷ [] → IsOfStatus status
-      → TellsCause IsAuditRefused now net con status text
+      → TellsCause (IsAuditRefused con) now net con status text
   pub replay_refused : (net con run : Text) → IsAccepted words → file_words words ≡ net ∷ con ∷ run ∷ [] → IsOfDesignFile status
-      → TellsCause AreTextsRefused now net con status text
+      → TellsCause (AreTextsRefused con) now net con status text
 
 -- what the output told before the run and tells after it, for a text that went to it
 abbrev pub IsWritten : Status → Status → Text → Option Text → Option Text → Type 0

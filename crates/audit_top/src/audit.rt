@@ -18,6 +18,7 @@ ghost use Rattle.clock_constraints.specs.declared.Constraints.{Constraints as Co
 ghost use Rattle.audit_top.specs.Endings.{IsOfDesign, IsOfFiles, IsEndOfAudit};
 
 use crate::answer::{Answer, Ending, or_refused};
+use crate::constraints::read_constraints;
 use crate::input::read_both;
 use crate::status::Status;
 use cdc_base::{Files, List, NoMemory};
@@ -146,16 +147,23 @@ fn verdict_text(
     }
 }
 
-/// What the audit of these texts answers. The first refusal counts: of the netlist's text, of the constraint file, of
-/// the unfolding, of the cells, of the clocks, of the crossings, of the waivers.
-fn audit_texts(alloc: Global, json: bool, net: &[u8], con: &[u8]) -> Result<Answer, Ending>
+/// What the audit of these texts answers, where the constraint file has this word. The first refusal counts: of the
+/// netlist's text, of the constraint file, of the unfolding, of the cells, of the clocks, of the crossings, of the waivers.
+fn audit_texts(
+    alloc: Global,
+    json: bool,
+    word: &str,
+    net: &[u8],
+    con: &[u8],
+) -> Result<Answer, Ending>
     requires { length net.now ≤ max_bytes }
-    ensures exact { IfOk result (λ answer. IsAuditOf json net.now con.now answer.status answer.text) }
-    ensures refused { IfErr result (HasCause (λ status fault. IsAuditRefused net.now con.now fault status)) }
+    ensures exact { IfOk result (λ answer. IsAuditOf json word.now net.now con.now answer.status answer.text) }
+    ensures refused { IfErr result (HasCause (λ status fault. IsAuditRefused word.now net.now con.now fault status)) }
     ensures ended { MatchResult result (λ answer. IsAudited answer.status) IsOfFiles }
 {
     let source = read_source(alloc, net)?;
-    let constraints = or_refused(Status::Constraints, clock_constraints::read(alloc, con))?;
+    let constraints = read_constraints(alloc, word, &source, con);
+    let constraints = or_refused(Status::Constraints, constraints)?;
     let (net, domains) = constrained(alloc, &source, &constraints)?;
     let waivers = constraints.waivers.as_slice();
     let verdict = verdict_on(alloc, &net, &domains)?;
@@ -188,6 +196,12 @@ pub fn audit<F: Files>(
         let now : Seen = record { held = F.held files.new; asked = F.asked files.new; taken = F.taken files.new; faults = F.faults files.new } in
         IsEndOfAudit json net.now con.now before now result }
 {
-    let (net, con) = read_both(alloc, files, net, con)?;
-    audit_texts(alloc, json, net.as_slice(), con.as_slice())
+    let (net_text, con_text) = read_both(alloc, files, net, con)?;
+    audit_texts(
+        alloc,
+        json,
+        con,
+        net_text.as_slice(),
+        con_text.as_slice(),
+    )
 }

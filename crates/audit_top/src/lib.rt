@@ -3,8 +3,10 @@
 
 pub mod answer;
 pub mod audit;
+pub mod constraints;
 pub mod generated;
 pub mod input;
+pub mod laws;
 pub mod output;
 pub mod page;
 pub mod replay;

@@ -19,7 +19,7 @@ const HELP: [&str; 25] = [
     "  version, --version, -V  name and version",
     "",
     "  NET  a netlist in Verilog",
-    "  CON  clock constraints in TOML",
+    "  CON  clock constraints in TOML, or in SDC where the word ends in .sdc",
     "  RUN  a run record in JSON",
     "  N    a number from 1 to 500",
     "",

@@ -8,6 +8,7 @@ ghost use Rattle.audit_top.specs.Replays.{CanReplay, IsReplayOf, IsReplayOfTexts
 
 use crate::answer::{Answer, Ending, or_refused};
 use crate::audit::{constrained, read_source};
+use crate::constraints::read_constraints;
 use crate::input::read_three;
 use crate::status::Status;
 use cdc_base::{Files, List};
@@ -33,16 +34,23 @@ pub fn replayed_text(
     )
 }
 
-/// What the replay of these texts answers. The first refusal counts: of the netlist's text, of the constraint file, of
-/// the unfolding, of the cells, of the clocks, of the record, of its steps.
-fn replay_texts(alloc: Global, net: &[u8], con: &[u8], run: &[u8]) -> Result<Answer, Ending>
+/// What the replay of these texts answers, where the constraint file has this word. The first refusal counts: of the
+/// netlist's text, of the constraint file, of the unfolding, of the cells, of the clocks, of the record, of its steps.
+fn replay_texts(
+    alloc: Global,
+    word: &str,
+    net: &[u8],
+    con: &[u8],
+    run: &[u8],
+) -> Result<Answer, Ending>
     requires { length net.now ≤ max_bytes }
-    ensures exact { IsReplayOfTexts net.now con.now run.now result }
-    ensures refused { IfErr result (HasCause (λ status fault. IsOfDesignFile status → AreTextsRefused net.now con.now fault status)) }
+    ensures exact { IsReplayOfTexts word.now net.now con.now run.now result }
+    ensures refused { IfErr result (HasCause (λ status fault. IsOfDesignFile status → AreTextsRefused word.now net.now con.now fault status)) }
     ensures ended { MatchResult result (λ answer. answer.status ≡ Done) IsOfFiles }
 {
     let source = read_source(alloc, net)?;
-    let constraints = or_refused(Status::Constraints, clock_constraints::read(alloc, con))?;
+    let constraints = read_constraints(alloc, word, &source, con);
+    let constraints = or_refused(Status::Constraints, constraints)?;
     let (net, domains) = constrained(alloc, &source, &constraints)?;
     let text = replayed_text(alloc, &net, &domains, run)?;
     Ok(Answer {
@@ -63,6 +71,12 @@ pub fn replay<F: Files>(
         let now : Seen = record { held = F.held files.new; asked = F.asked files.new; taken = F.taken files.new; faults = F.faults files.new } in
         IsEndOfReplay net.now con.now run.now before now result }
 {
-    let (net, con, run) = read_three(alloc, files, net, con, run)?;
-    replay_texts(alloc, net.as_slice(), con.as_slice(), run.as_slice())
+    let (net_text, con_text, run_text) = read_three(alloc, files, net, con, run)?;
+    replay_texts(
+        alloc,
+        con,
+        net_text.as_slice(),
+        con_text.as_slice(),
+        run_text.as_slice(),
+    )
 }

@@ -26,11 +26,14 @@ pub struct Outside<'a> {
     pub puts: &'a [u32],
 }
 
-/// The output of these words, and the status behind it. The files are `net.v`, `con.toml` and `run.json`.
+/// The output of these words, and the status behind it. The files are `net.v`, `con.toml` and `run.json`; the constraints
+/// lie under `con.sdc` and `con.SDC` too.
 pub fn answered(alloc: Global, words: &str, outside: &Outside) -> Result<String, Fail> {
     let mut files = List::new(alloc);
     files.push(file(alloc, "net.v", outside.net)?)?;
-    files.push(file(alloc, "con.toml", outside.con.as_bytes())?)?;
+    for name in ["con.toml", "con.sdc", "con.SDC"] {
+        files.push(file(alloc, name, outside.con.as_bytes())?)?;
+    }
     files.push(file(alloc, "run.json", outside.run.as_bytes())?)?;
     let mut files = MemFiles::new(alloc, files, numbers(alloc, outside.reads)?);
     let mut out = MemSink::new(alloc, numbers(alloc, outside.puts)?);
@@ -43,8 +46,8 @@ pub fn answered(alloc: Global, words: &str, outside: &Outside) -> Result<String,
     Ok(format!(in alloc; "{text}{code}")?)
 }
 
-/// The answer to an audit over files and an output that don't fail.
-pub fn audited(alloc: Global, net: &[u8], con: &str) -> Result<String, Fail> {
+/// The answer to an audit whose constraints are read under this word, over files and an output that don't fail.
+pub fn audited_under(alloc: Global, net: &[u8], word: &str, con: &str) -> Result<String, Fail> {
     let outside = Outside {
         net,
         con,
@@ -52,7 +55,13 @@ pub fn audited(alloc: Global, net: &[u8], con: &str) -> Result<String, Fail> {
         reads: &[],
         puts: &[],
     };
-    answered(alloc, "audit net.v con.toml", &outside)
+    let words = format!(in alloc; "audit net.v {word}")?;
+    answered(alloc, words.as_str(), &outside)
+}
+
+/// The answer to an audit under constraints in TOML.
+pub fn audited(alloc: Global, net: &[u8], con: &str) -> Result<String, Fail> {
+    audited_under(alloc, net, "con.toml", con)
 }
 
 /// The answer to a replay of this record over files and an output that don't fail.

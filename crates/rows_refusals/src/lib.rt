@@ -6,4 +6,6 @@ mod limits;
 #[cfg(test)]
 mod refused_texts;
 #[cfg(test)]
+mod sdc_texts;
+#[cfg(test)]
 mod waivers;

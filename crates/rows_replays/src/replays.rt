@@ -344,3 +344,47 @@ fn reads_that_fail(rt: HostRuntime) -> Result<(), Fail> {
     }
     Ok(())
 }
+
+/// A replay under constraints in SDC: with both groups, with one, with a command that is refused, and read as TOML.
+#[test]
+fn replays_in_sdc(rt: HostRuntime) -> Result<(), Fail> {
+    let alloc = rt.alloc();
+    let clocks = "create_clock -period 10 ca
+create_clock -period 7.5 cb
+set_input_delay -clock ca 2 d
+";
+    let groups = "set_clock_groups -asynchronous -group ca -group cb\n";
+    let run = "{\"steps\":[{\"edges\":[\"ca\"],\"inputs\":{\"d\":1}},{\"edges\":[\"ca\",\"cb\"],\"races\":[{\"bit\":\"s1\",\"flip\":[\"a\"]}]}]}";
+    let raced = "start
+  d = 1'h0
+  a = 1'h0
+  s1 = 1'h0
+  s2 = 1'h0
+step 1: ca
+  d = 1'h0 -> 1'h1
+step 2: ca cb
+  race s1: flip a
+  a = 1'h0 -> 1'h1
+  s1 = 1'h0 -> 1'h1
+end steps=2
+0";
+    for (word, more, wanted) in [
+        ("con.sdc", groups, raced),
+        ("con.sdc", "", "error E504: bit is not loose: step 2 s1 a\n5"),
+        ("con.sdc", "set_x", "error E412: SDC command left out: set_x\n4"),
+        ("con.toml", groups, "error E401: not TOML\n4"),
+    ] {
+        let con = format!(in alloc; "{clocks}{more}")?;
+        let outside = Outside {
+            net: TWO_FLOPS.as_bytes(),
+            con: con.as_str(),
+            run,
+            reads: &[],
+            puts: &[],
+        };
+        let words = format!(in alloc; "replay net.v {word} run.json")?;
+        let answer = answered(alloc, words.as_str(), &outside)?;
+        assert_eq!(&rt; answer.as_str(), wanted, "{word} {more}");
+    }
+    Ok(())
+}

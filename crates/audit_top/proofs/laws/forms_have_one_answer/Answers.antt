@@ -1,0 +1,14 @@
+use Rattle.audit_top.proofs.SameConstraints.{same_audit, same_audit_refusal, same_refusal, same_replay}
+use Rattle.audit_top.proofs.laws.forms_have_one_answer.Goals as goal
+
+pub returns-clause-audited : goal.returns-clause-audited
+returns-clause-audited c = same_audit
+
+pub returns-clause-replayed : goal.returns-clause-replayed
+returns-clause-replayed c = same_replay
+
+pub returns-clause-audit_refused : goal.returns-clause-audit_refused
+returns-clause-audit_refused c = same_audit_refusal
+
+pub returns-clause-replay_refused : goal.returns-clause-replay_refused
+returns-clause-replay_refused c = same_refusal
