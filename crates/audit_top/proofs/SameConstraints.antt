@@ -56,7 +56,7 @@ module _ (net word con other_word other_con : List ℕ) (same : HaveSameConstrai
   also_has modules reads c means =
       let these : modules ≡ same.modules = modules_once net modules same.modules reads same.reads in
       let those : c ≡ same.constraints = says_once (is_sdc word) same.modules con c same.constraints
-          (subst (λ (ms : List ModuleTree). HasConstraints word ms con c) these means) same.first in
+      (subst (λ (ms : List ModuleTree). HasConstraints word ms con c) these means) same.first in
       subst (λ (ms : List ModuleTree). HasConstraints other_word ms other_con c) (sym these)
       (subst (λ (d : Constraints). HasConstraints other_word same.modules other_con d) (sym those) same.second)
 

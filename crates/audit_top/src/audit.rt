@@ -197,11 +197,5 @@ pub fn audit<F: Files>(
         IsEndOfAudit json net.now con.now before now result }
 {
     let (net_text, con_text) = read_both(alloc, files, net, con)?;
-    audit_texts(
-        alloc,
-        json,
-        con,
-        net_text.as_slice(),
-        con_text.as_slice(),
-    )
+    audit_texts(alloc, json, con, net_text.as_slice(), con_text.as_slice())
 }

@@ -354,7 +354,8 @@ create_clock -period 7.5 cb
 set_input_delay -clock ca 2 d
 ";
     let groups = "set_clock_groups -asynchronous -group ca -group cb\n";
-    let run = "{\"steps\":[{\"edges\":[\"ca\"],\"inputs\":{\"d\":1}},{\"edges\":[\"ca\",\"cb\"],\"races\":[{\"bit\":\"s1\",\"flip\":[\"a\"]}]}]}";
+    let run =
+        "{\"steps\":[{\"edges\":[\"ca\"],\"inputs\":{\"d\":1}},{\"edges\":[\"ca\",\"cb\"],\"races\":[{\"bit\":\"s1\",\"flip\":[\"a\"]}]}]}";
     let raced = "start
   d = 1'h0
   a = 1'h0
@@ -370,8 +371,16 @@ end steps=2
 0";
     for (word, more, wanted) in [
         ("con.sdc", groups, raced),
-        ("con.sdc", "", "error E504: bit is not loose: step 2 s1 a\n5"),
-        ("con.sdc", "set_x", "error E412: SDC command left out: set_x\n4"),
+        (
+            "con.sdc",
+            "",
+            "error E504: bit is not loose: step 2 s1 a\n5",
+        ),
+        (
+            "con.sdc",
+            "set_x",
+            "error E412: SDC command left out: set_x\n4",
+        ),
         ("con.toml", groups, "error E401: not TOML\n4"),
     ] {
         let con = format!(in alloc; "{clocks}{more}")?;

@@ -16,7 +16,7 @@ use Rattle.audit_top.proofs.audit.audit_texts.Goals as goal
 
 pub returns-in_err-constraints-clause-ended : goal.returns-in_err-constraints-clause-ended
 returns-in_err-constraints-clause-ended c =
-    let refused : IfErr c.or_refused.result IsOfFiles = c.or_refused.ensures.ended file_numbers refl c.read_constraints.ensures.numbered in
+    let refused : IfErr c.or_refused.result IsOfFiles = c.or_refused.ensures.ended file_numbers refl c.read_constraints-constraints.ensures.numbered in
     search (rules, refused, c.in_err-constraints.was, c.from_residual-in_err-constraints.ensures.0, c.from_residual-in_err-constraints.ensures.1)
 
 pub returns-in_err-aside-clause-ended : goal.returns-in_err-aside-clause-ended
@@ -26,8 +26,8 @@ returns-in_err-aside-clause-ended c =
 
 pub returns-clause-exact : goal.returns-clause-exact
 returns-clause-exact c =
-    let means = given_holds (HasConstraints c.args.word.now (source_of c.in_ok-source.source) c.args.con.now) _ (Ok c.in_ok-constraints.constraints) c.in_ok-constraints.ensures.given c.read_constraints.ensures.ok in
-    let fits = given_holds AreFit _ (Ok c.in_ok-constraints.constraints) c.in_ok-constraints.ensures.given c.read_constraints.ensures.fit in
+    let means = given_holds (HasConstraints c.args.word.now (source_of c.in_ok-source.source) c.args.con.now) _ (Ok c.in_ok-constraints.constraints) c.in_ok-constraints.ensures.given c.read_constraints-constraints.ensures.ok in
+    let fits = given_holds AreFit _ (Ok c.in_ok-constraints.constraints) c.in_ok-constraints.ensures.given c.read_constraints-constraints.ensures.fit in
     audited_texts _ _ _ _ _ c.in_ok-constraints.constraints c.in_ok-net.net c.in_ok-net.domains c.in_ok-verdict.verdict c.in_ok-aside.aside _ _ c.in_ok-source.ensures.reads means fits
     c.in_ok-net.ensures.design c.in_ok-net.ensures.unfolded c.in_ok-verdict.ensures.exact
     (ap (set_aside c.in_ok-net.net c.in_ok-net.domains c.in_ok-verdict.verdict.findings) (sym c.as_slice-waivers.ensures)
@@ -50,7 +50,7 @@ returns-in_err-constraints-clause-refused c =
     let text = c.args.net.now in
     let con = c.args.con.now in
     let refused : IfErr c.or_refused.result (HasCause (λ status fault. IsAuditRefused word text con fault status))
-    = texts_refused word text con _ (constraints_refused word text con _ c.in_ok-source.ensures.reads _ _ c.or_refused.ensures.exact c.read_constraints.ensures.refused) in
+    = texts_refused word text con _ (constraints_refused word text con _ c.in_ok-source.ensures.reads _ _ c.or_refused.ensures.exact c.read_constraints-constraints.ensures.refused) in
     search (rules, refused, c.in_err-constraints.was, c.from_residual-in_err-constraints.ensures.0, c.from_residual-in_err-constraints.ensures.1)
 
 pub returns-in_err-net-clause-refused : goal.returns-in_err-net-clause-refused
@@ -59,7 +59,7 @@ returns-in_err-net-clause-refused c =
     let text = c.args.net.now in
     let con = c.args.con.now in
     let constraints = c.in_ok-constraints.constraints in
-    let means = given_holds (HasConstraints c.args.word.now (source_of c.in_ok-source.source) con) _ (Ok constraints) c.in_ok-constraints.ensures.given c.read_constraints.ensures.ok in
+    let means = given_holds (HasConstraints c.args.word.now (source_of c.in_ok-source.source) con) _ (Ok constraints) c.in_ok-constraints.ensures.given c.read_constraints-constraints.ensures.ok in
     let refused : IfErr c.constrained.result (HasCause (λ status fault. IsAuditRefused word text con fault status))
     = texts_refused word text con _ (design_refused word text con _ c.in_ok-source.ensures.reads constraints means _ c.constrained.ensures.refused) in
     search (rules, refused, c.in_err-net.was, c.from_residual-in_err-net.ensures.0, c.from_residual-in_err-net.ensures.1)
@@ -70,8 +70,8 @@ returns-in_err-verdict-clause-refused c =
     let text = c.args.net.now in
     let con = c.args.con.now in
     let constraints = c.in_ok-constraints.constraints in
-    let means = given_holds (HasConstraints c.args.word.now (source_of c.in_ok-source.source) con) _ (Ok constraints) c.in_ok-constraints.ensures.given c.read_constraints.ensures.ok in
-    let fits = given_holds AreFit _ (Ok constraints) c.in_ok-constraints.ensures.given c.read_constraints.ensures.fit in
+    let means = given_holds (HasConstraints c.args.word.now (source_of c.in_ok-source.source) con) _ (Ok constraints) c.in_ok-constraints.ensures.given c.read_constraints-constraints.ensures.ok in
+    let fits = given_holds AreFit _ (Ok constraints) c.in_ok-constraints.ensures.given c.read_constraints-constraints.ensures.fit in
     let made = c.in_ok-net.ensures.design fits in
     let refused : IfErr c.verdict_on.result (HasCause (λ status fault. IsAuditRefused word text con fault status))
     = verdict_refused word text con _ c.in_ok-source.ensures.reads constraints means c.in_ok-net.net c.in_ok-net.ensures.unfolded c.in_ok-net.domains made _
@@ -87,8 +87,8 @@ returns-in_err-aside-clause-refused c =
     let domains = c.in_ok-net.domains in
     let constraints = c.in_ok-constraints.constraints in
     let found = c.in_ok-verdict.verdict in
-    let means = given_holds (HasConstraints c.args.word.now (source_of c.in_ok-source.source) con) _ (Ok constraints) c.in_ok-constraints.ensures.given c.read_constraints.ensures.ok in
-    let fits = given_holds AreFit _ (Ok constraints) c.in_ok-constraints.ensures.given c.read_constraints.ensures.fit in
+    let means = given_holds (HasConstraints c.args.word.now (source_of c.in_ok-source.source) con) _ (Ok constraints) c.in_ok-constraints.ensures.given c.read_constraints-constraints.ensures.ok in
+    let fits = given_holds AreFit _ (Ok constraints) c.in_ok-constraints.ensures.given c.read_constraints-constraints.ensures.fit in
     let made = c.in_ok-net.ensures.design fits in
     let on = c.in_ok-verdict.ensures.exact made.can_audit in
     let told = rw c.as_slice-waivers.ensures at c.set_aside-aside.ensures.exact in
