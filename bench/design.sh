@@ -1,13 +1,15 @@
 #!/usr/bin/env bash
-# Prints large designs, and their constraints.
+# Prints large designs, their constraints, and hostile texts.
 #   design.sh channels N     N handshake channels of 8 bits each, those of `selftest N`
 #   design.sh blocks N       N blocks, each with a pipeline of 32 bits, a decoder, a Gray-coded counter and a channel
-#   design.sh chip N         N tiles: such a block with a checksum of what it received; 880 are near the limits of signals and of cells
+#   design.sh chip N         N tiles: such a block with a checksum of what it received
+#   design.sh gates N        N gates and flops of one bit in one module, as synthesis writes them; each crossing has two flops
 #   design.sh doublings      a wire that is the exclusive or of the one before with itself, 64 times over, in trees of 2^64 leaves
-#   design.sh spaces         8 MiB of spaces
 #   design.sh handshake      a handshake that carries two bits, 10 register bits in all
-#   design.sh record N       a record of N steps of it, in each of which both clocks tick
+#   design.sh record N       a record of N steps of it, or of channels, in each of which both clocks tick
 #   design.sh constraints    two clocks, and the inputs `send` and `d`
+#   design.sh hostile KIND   a netlist that asks for trouble, of 256 MiB or a million of something: see below
+#   design.sh waivers N      the constraints with N waivers by patterns, and `many_inputs N` with N inputs
 set -eu
 
 channels() {
@@ -142,13 +144,79 @@ record() {
     }'
 }
 
-case $1 in
-    channels | blocks | chip | record) "$1" "$2" ;;
-    doublings | handshake) "$1" ;;
-    spaces) head -c 8388608 /dev/zero | tr '\0' ' ' ;;
-    constraints)
-        printf 'top = "m"\n'
-        printf '[[clock]]\nname = "%s"\ngroup = "%s"\n' ca A cb B
-        printf '[[input]]\nname = "%s"\nclock = "ca"\n' send d
-        ;;
-esac
+# Groups of nine gates and a flop, the first half of them on `ca` and the second on `cb`: each gate reads the one before it and a flop
+# of the 50 groups before. Each hundredth group of the second half brings a flop of the first over, by two flops in place of two gates.
+gates() {
+    awk -v n="$1" 'function flop(group, first) {
+        seed = seed * 16807 % 2147483647
+        group -= 1 + seed % 50
+        if (group < first) return first ? "toggle" : "send"
+        return sprintf("_%08d_", 10 * group + 9)
+    }
+    function register(clock, name, value) { printf "reg %s;\nalways @(posedge %s) %s <= %s;\n", name, clock, name, value }
+    BEGIN {
+        seed = 1
+        split("& | ^ &", signs, " ")
+        print "module m(input ca, cb, send, input [7:0] d);"
+        register("cb", "toggle", "~toggle")
+        half = int(n / 20)
+        for (group = 0; group < 2 * half; group++) {
+            first = group < half ? 0 : half
+            clock = first ? "cb" : "ca"
+            over = first && group % 100 == 0
+            last = flop(group, first)
+            for (k = 0; k < 9; k++) {
+                name = sprintf("_%08d_", 10 * group + k)
+                if (over && k == 7) { sum = last; register(clock, name, sprintf("_%08d_", 10 * (group - half) + 9)) }
+                else if (over && k == 8) { register(clock, name, last); name = name " & " sum }
+                else printf "wire %s;\nassign %s = %s %s %s;\n", name, name, last, signs[k % 4 + 1], flop(group, first)
+                last = name
+            }
+            register(clock, sprintf("_%08d_", 10 * group + 9), last)
+        }
+        print "endmodule"
+    }'
+}
+
+bytes() {
+    head -c "$1" /dev/zero | tr '\0' "$2"
+}
+
+# identifier, parentheses, comment and spaces have 256 MiB; ports 20 million names; labels a `case` of a million; drivers 10 million
+# assignments to one wire; wires a chain of a million, each read before it is driven; deep 10,000 instances, each in the one before
+hostile() {
+    case $1 in
+        identifier) printf 'module m(input ca); wire ' && bytes 268435400 a ;;
+        parentheses) printf 'module m(input ca, output q); assign q = ' && bytes 268435400 '(' ;;
+        comment) printf '/*' && bytes 268435400 x ;;
+        spaces) bytes 268435456 ' ' ;;
+        ports) awk 'BEGIN { printf "module m(p"; for (i = 1; i < 2e7; i++) printf ",p%d", i; print "); endmodule" }' ;;
+        labels) awk 'BEGIN { print "module m(input ca, cb, send, input [19:0] d, output reg q); always @(posedge ca) case (d)"
+            for (i = 0; i < 1e6; i++) printf "20\047d%d: q <= 1;\n", i; print "endcase endmodule" }' ;;
+        drivers) awk 'BEGIN { print "module m(input ca, d); wire w;"; for (i = 0; i < 1e7; i++) print "assign w=d;"; print "endmodule" }' ;;
+        wires) awk 'BEGIN { print "module m(input ca, cb, send, input [7:0] d, output q);"; for (i = 0; i < 1e6; i++) printf "wire w%d;\n", i
+            for (i = 0; i < 1e6 - 1; i++) printf "assign w%d = ~w%d;\n", i, i + 1; print "assign w999999 = send; assign q = w0; endmodule" }' ;;
+        deep) awk 'BEGIN { for (i = 0; i < 10000; i++) printf "module m%d(input a, output b); m%d u(a, b); endmodule\n", i, i + 1
+            print "module m10000(input a, output b); assign b = a; endmodule"
+            print "module m(input ca, cb, send, input [7:0] d, output q); m0 u(send, q); endmodule" }' ;;
+        inputs) awk 'BEGIN { printf "module m(input ca"; for (i = 0; i < 1e6; i++) printf ",i%d", i; print "); endmodule" }' ;;
+    esac
+}
+
+many_inputs() {
+    awk -v n="$1" 'BEGIN { printf "top = \"m\"\n[[clock]]\nname = \"ca\"\ngroup = \"A\"\n"
+        for (i = 0; i < n; i++) printf "[[input]]\nname = \"i%d\"\nclock = \"ca\"\n", i }'
+}
+
+waivers() {
+    constraints
+    awk -v n="$1" 'BEGIN { for (i = 0; i < n; i++) printf "[[waive]]\nfinding = \"V1 a%d* -> *: no scheme\"\nreason = \"r\"\n", i }'
+}
+
+constraints() {
+    printf 'top = "m"\n'
+    printf '[[clock]]\nname = "%s"\ngroup = "%s"\n' ca A cb B
+    printf '[[input]]\nname = "%s"\nclock = "ca"\n' send d
+}
+
+"$@"

@@ -1,27 +1,28 @@
 #!/usr/bin/env bash
-# Time and peak memory of the built program, a line a run: what was run, seconds, MiB, and the last line that it printed.
-# Where iverilog is installed, its own reading of the same netlist stands beside it.
+# Processor time and peak memory of the program, a line a run: what was run, seconds, MiB, and the last line that it printed.
+# Where iverilog is installed, its own reading of the same netlist (-g2005 -t null) stands beside it, for two minutes at most.
+#   run.sh [PROGRAM]             the designs
+#   run.sh [PROGRAM] hostile     the texts that ask for trouble
 set -eu
 cd "$(dirname "${BASH_SOURCE[0]}")"
-program=${1:-../cdcaudit}
+program=${1:-../bin/cdcaudit-x86_64-linux}
 room=$(mktemp -d)
 trap 'rm -rf "$room"' EXIT
-"$program" selftest 1 >"$room/first" # builds the program where it has to be built
 
 timed() {
     local name=$1
     shift
     python3 - "$name" "$room/output" "$@" <<'P'
-import os, subprocess, sys, time
+import os, subprocess, sys
 name, output, words = sys.argv[1], sys.argv[2], sys.argv[3:]
 with open(output, "wb") as sink:
-    began = time.monotonic()
     child = subprocess.Popen(words, stdout=sink, stderr=subprocess.STDOUT)
     _, status, used = os.wait4(child.pid, 0)
-    took = time.monotonic() - began
+took = used.ru_utime + used.ru_stime
 with open(output, "rb") as said:
+    said.seek(max(0, os.path.getsize(output) - 200))
     lines = said.read().decode(errors="replace").splitlines()
-print("%-34s %8.2f s %7.0f MiB  %s" % (name, took, used.ru_maxrss / 1024, lines[-1] if lines else ""), flush=True)
+print("%-34s %8.2f s %7.0f MiB  %s" % (name, took, used.ru_maxrss / 1024, lines[-1][:70] if lines else ""), flush=True)
 if "updates" in os.environ:
     print("%-34s %8.2f million a second" % ("  register-bit updates", int(os.environ["updates"]) / took / 1e6), flush=True)
 P
@@ -29,34 +30,50 @@ P
 
 compiler() {
     if command -v iverilog >/dev/null; then
-        timed "  iverilog on it" iverilog -g2005 -t null "$room/$1.v"
+        timed "  iverilog on it" timeout 120 iverilog -g2005 -t null "$room/net.v"
     fi
 }
 
 audit() {
-    local name=$1
-    shift
-    ./design.sh "$@" >"$room/$name.v"
-    timed "audit of $*" "$program" audit "$room/$name.v" "$room/con.toml"
-    compiler "$name"
+    ./design.sh "$@" >"$room/net.v"
+    timed "audit of $*" "$program" audit "$room/net.v" "$room/con.toml"
+    compiler
 }
 
-# A replay of that many steps of a design with 10 register bits, all of which tick in each step.
+# Replays of that many steps, in each of which all register bits tick: 10 of a handshake, 12,000 of 500 channels.
 replay() {
-    ./design.sh handshake >"$room/handshake.v"
+    ./design.sh "$3" ${4+"$4"} >"$room/net.v"
     ./design.sh record "$1" >"$room/run.json"
-    updates=$((10 * $1)) timed "replay of $1 steps" "$program" replay "$room/handshake.v" "$room/con.toml" "$room/run.json"
+    updates=$(($2 * $1)) timed "replay of $1 steps of $3" "$program" replay "$room/net.v" "$room/con.toml" "$room/run.json"
 }
 
 ./design.sh constraints >"$room/con.toml"
-timed "selftest 500" "$program" selftest 500
-for count in 100 500 2000; do
-    audit "channels$count" channels "$count"
+if [ "${2:-}" = hostile ]; then
+    for kind in identifier parentheses comment spaces ports labels drivers wires deep; do
+        ./design.sh hostile "$kind" >"$room/net.v"
+        timed "$kind" "$program" audit "$room/net.v" "$room/con.toml"
+    done
+    ./design.sh hostile inputs >"$room/net.v"
+    ./design.sh many_inputs 1000000 >"$room/inputs.toml"
+    timed "a million inputs" "$program" audit "$room/net.v" "$room/inputs.toml"
+    ./design.sh channels 100 >"$room/net.v"
+    ./design.sh waivers 1000000 >"$room/waivers.toml"
+    timed "a million waivers" "$program" audit "$room/net.v" "$room/waivers.toml"
+    { head -c 268435400 /dev/zero | tr '\0' a && echo ' = 1'; } >"$room/key.toml"
+    timed "one key of 256 MiB" "$program" audit "$room/net.v" "$room/key.toml"
+    exit
+fi
+timed "selftest 10000" "$program" selftest 10000
+for count in 100 500 2000 10000; do
+    audit channels "$count"
 done
-for count in 150 600 1000; do
-    audit "blocks$count" blocks "$count"
+for count in 1000 4000 16000; do
+    audit blocks "$count"
 done
-audit chip880 chip 880
-audit doublings doublings
-replay 100000
-audit spaces spaces
+for count in 880 3520 14080; do
+    audit chip "$count"
+done
+audit gates 1000000
+audit doublings
+replay 100000 10 handshake
+replay 10000 12000 channels 500

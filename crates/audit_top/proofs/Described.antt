@@ -34,7 +34,7 @@ use Rattle.elaborate.specs.Refusals.{IsAccepted, IsFlattened}
 use Rattle.elaborate.specs.Words.{as_word}
 use Rattle.flat_model.specs.Laws.{IsNetOf}
 use Rattle.settling_sim.proofs.Stepped.{at-place}
-use Rattle.audit_top.specs.Described.{IsNetOfModules, ReadsAs, UnfoldsTo}
+use Rattle.audit_top.specs.Described.{IsNetOfModules, ReadsAs, UnfoldsTo, named_in}
 use Rattle.audit_top.specs.Replays.{IsDesign}
 
 -- the tokens of a text end with their one end
@@ -62,16 +62,16 @@ module _ (modules : List ModuleTree) (c : Constraints) where
     pub flattened : IsFlattened flat
     pub sized : AreSized flat.signals
 
-  pub flat_of_modules : IsSourceFormed modules → (given : Result f.Flat Stop) → IsUnfolding (unfolded modules c.top c.resets) given
+  pub flat_of_modules : IsSourceFormed modules → (given : Result f.Flat Stop) → IsUnfolding (unfolded modules c.top c.resets (named_in c)) given
       → IfOk given KeepsSizes → IfOk given IsFlatOfModules
   flat_of_modules formed (Ok flat) unfolds keeps = record {
     unfolds = unfolds;
     flattened = record {
-      sized = well_sized_law modules formed c.top c.resets flat unfolds keeps;
-      sound = sound_law modules formed c.top c.resets (flat_of flat) unfolds;
+      sized = well_sized_law modules formed c.top c.resets (named_in c) flat unfolds keeps;
+      sound = sound_law modules formed c.top c.resets (named_in c) (flat_of flat) unfolds;
     };
     sized = λ sig s at. at-place (λ (x : Signal). (1 ≤ x.width) × (x.width ≤ 64)) flat.signals sig s at
-        (sizes_law modules formed c.top c.resets (flat_of flat) unfolds).signals;
+        (sizes_law modules formed c.top c.resets (named_in c) (flat_of flat) unfolds).signals;
   }
   flat_of_modules formed (Err e) unfolds keeps = tt
 

@@ -36,7 +36,7 @@ use Rattle.audit_top.specs.declared.status.Status.TheVariants.{Netlist, Constrai
 use Rattle.audit_top.specs.Replays.{IsReplayOf, ended_with}
 use Rattle.audit_top.specs.Refused.{HasCause, IsOfDesignFile, IsNetlistRefused, tokens, reading, IsDesignRefused, rule, cells, domains, AreTextsRefused, netlist, constraints, design, IsVerdictRefused, crossings, waivers, IsAuditRefused, texts, verdict}
 use Rattle.audit_top.specs.ConstraintFiles.{BreaksRule, HasConstraints}
-use Rattle.audit_top.specs.Described.{IsNetOfModules, ReadsAs}
+use Rattle.audit_top.specs.Described.{IsNetOfModules, ReadsAs, named_in}
 use Rattle.audit_top.specs.Replays.{IsDesign}
 use Rattle.audit_top.proofs.Described.{IsFlatOfModules, modules_formed, text_ended}
 
@@ -60,7 +60,7 @@ reading_cause text ts (Err (stop.Refused f)) are h = reading ts are (h (text_end
 reading_cause text ts (Err stop.Memory) are h = tt
 
 module _ (modules : List ModuleTree) (c : ConstraintsOf) where
-  pub unfolding_cause : (given : Result Flat Stop) → IsUnfolding (unfolded modules c.top c.resets) given
+  pub unfolding_cause : (given : Result Flat Stop) → IsUnfolding (unfolded modules c.top c.resets (named_in c)) given
       → IfErr given (Refuses (λ f. IsDesignRefused modules c f Netlist))
   unfolding_cause (Ok flat) h = tt
   unfolding_cause (Err (stop.Refused f)) h = rule h

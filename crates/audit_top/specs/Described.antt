@@ -1,7 +1,9 @@
 -- The flat design that a netlist's text describes, and the net that is made of it.
-use Rattle.std.specs.Prelude.{◌≡◌, ℕ, List, map, Ok}
+use Rattle.std.specs.Prelude.{◌≡◌, ℕ, List, ◌++◌, map, Ok}
 use Rattle.cell_graph.specs.declared.net.Net.{Net}
 use Rattle.cell_graph.specs.Nets.{AreSized}
+use Rattle.clock_constraints.specs.declared.ClockPin.{ClockPin}
+use Rattle.clock_constraints.specs.declared.InputPin.{InputPin}
 use Rattle.clock_constraints.specs.declared.Constraints.{Constraints}
 use Rattle.verilog_lex.specs.declared.token.Token.{Token}
 use Rattle.verilog_lex.specs.Tokens.{tokens_of}
@@ -24,9 +26,13 @@ pub record ReadsAs (text : List ℕ) (modules : List ModuleTree) : Type 0 where
   pub reads : IsSource tokens modules
   pub alone : (others : List ModuleTree) → IsSource tokens others → others ≡ modules
 
--- the modules unfold to the flat design, from the top that the constraints name, with their resets
+-- the names of clocks, inputs and static inputs
+abbrev pub named_in : Constraints → List (List ℕ)
+named_in c = (map (λ (k : ClockPin). k.name) c.clocks ++ map (λ (i : InputPin). i.name) c.inputs) ++ c.statics
+
+-- the modules unfold to the flat design, from the top that the constraints name, with their resets and other names
 abbrev pub UnfoldsTo : List ModuleTree → Constraints → Flat → Type 0
-UnfoldsTo modules c f = unfolded modules c.top c.resets ≡ good f
+UnfoldsTo modules c f = unfolded modules c.top c.resets (named_in c) ≡ good f
 
 -- the net has the trees and the signals of the flat design that the modules unfold to, which is sound and has no loop
 pub record IsNetOfModules (modules : List ModuleTree) (c : Constraints) (net : Net) : Type 0 where

@@ -16,7 +16,7 @@ help_lines =
     ∷ codes "  NET  a netlist in Verilog"
     ∷ codes "  CON  clock constraints in TOML, or in SDC where the word ends in .sdc"
     ∷ codes "  RUN  a run record in JSON"
-    ∷ codes "  N    a number from 1 to 500"
+    ∷ codes "  N    a number from 1 to 10000"
     ∷ []
     ∷ codes "status 0  clean, or done"
     ∷ codes "status 1  a finding without a waiver"

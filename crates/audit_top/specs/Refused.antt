@@ -27,7 +27,7 @@ use Rattle.audit_top.specs.declared.answer.Ending.TheVariants.{Refused, Memory}
 use Rattle.audit_top.specs.declared.status.Status.{Status}
 use Rattle.audit_top.specs.declared.status.Status.TheVariants.{Netlist, Constraints}
 use Rattle.audit_top.specs.ConstraintFiles.{BreaksRule, HasConstraints}
-use Rattle.audit_top.specs.Described.{IsNetOfModules, ReadsAs, UnfoldsTo}
+use Rattle.audit_top.specs.Described.{IsNetOfModules, ReadsAs, UnfoldsTo, named_in}
 use Rattle.audit_top.specs.Replays.{IsDesign}
 
 -- a refusal has such a cause, unless memory ran out
@@ -47,7 +47,7 @@ pub data IsNetlistRefused (text : List ℕ) (fault : Fault) : Status → Type 0 
 -- modules under constraints: the first broken rule of their unfolding; the cause for which their flat design has no cells; or the rule of clocks and
 -- inputs that its net breaks
 pub data IsDesignRefused (modules : List ModuleTree) (c : ConstraintsOf) (fault : Fault) : Status → Type 0 where
-  rule : unfolded modules c.top c.resets ≡ bad fault → IsDesignRefused modules c fault Netlist
+  rule : unfolded modules c.top c.resets (named_in c) ≡ bad fault → IsDesignRefused modules c fault Netlist
   cells : (flat : Flat) → UnfoldsTo modules c (flat_of flat) → IsFlattened flat → IsRefusedFor flat fault → IsDesignRefused modules c fault Netlist
   domains : (net : Net) → IsNetOfModules modules c net → IsNet net → IsBroken plain.ghosts.reads net c fault → IsDesignRefused modules c fault Constraints
 

@@ -25,7 +25,7 @@ Text = List ℕ
 
 -- the most bytes of a file
 abbrev pub max_bytes : ℕ
-max_bytes = 8388608
+max_bytes = 268435456
 
 abbrev pub usage_line : Text
 usage_line = codes "usage: cdcaudit audit [--json] NET CON | replay NET CON RUN | selftest N | help" ++ 10 ∷ []

@@ -20,6 +20,7 @@ ghost use Rattle.audit_top.specs.Endings.{IsOfDesign, IsOfFiles, IsEndOfAudit};
 use crate::answer::{Answer, Ending, or_refused};
 use crate::constraints::read_constraints;
 use crate::input::read_both;
+use crate::named::names_of;
 use crate::status::Status;
 use cdc_base::{Files, List, NoMemory};
 use cdc_model::Verdict;
@@ -57,7 +58,9 @@ fn elaborated(alloc: Global, source: &Source, constraints: &Constraints) -> Resu
     ensures refused { IsSourceFormed (source_of source.now) → IfErr result (HasCause (λ status fault. IsDesignRefused (source_of source.now) constraints.now fault status)) }
 {
     let resets = constraints.resets.as_slice();
-    let flat = flat_design::flatten(alloc, source, &constraints.top, resets);
+    let names = names_of(alloc, constraints)?;
+    let named = names.as_slice();
+    let flat = flat_design::flatten(alloc, source, &constraints.top, resets, named);
     let flat = or_refused(Status::Netlist, flat)?;
     or_refused(Status::Netlist, elaborate::elaborate(alloc, &flat))
 }

@@ -7,6 +7,7 @@ pub mod constraints;
 pub mod generated;
 pub mod input;
 pub mod laws;
+pub mod named;
 pub mod output;
 pub mod page;
 pub mod replay;

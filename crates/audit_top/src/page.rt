@@ -21,7 +21,7 @@ const HELP: [&str; 25] = [
     "  NET  a netlist in Verilog",
     "  CON  clock constraints in TOML, or in SDC where the word ends in .sdc",
     "  RUN  a run record in JSON",
-    "  N    a number from 1 to 500",
+    "  N    a number from 1 to 10000",
     "",
     "status 0  clean, or done",
     "status 1  a finding without a waiver",

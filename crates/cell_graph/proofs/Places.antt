@@ -59,7 +59,7 @@ place_in-other cs c q None f h = place_in-push cs c q (length cs) refl h ∙ ap 
 ])
 
 pub added : {S : Type 0} (signals : List Signal) (es : List Entry) (old new : HashMap Cell ℕ S) (calls n : ℕ) (e : Entry)
-    → IsKept signals es old calls → n ≡ length es → calls < 2 ^ 20 → e.width ≡ width_of signals (widths signals (cells_of es)) e.cell
+    → IsKept signals es old calls → n ≡ length es → calls < 2 ^ 24 → e.width ≡ width_of signals (widths signals (cells_of es)) e.cell
     → place_in (cells_of es) e.cell ≡ None
     → ((q : Cell) → hash.get same_cell new q ≡ cond (same_cell e.cell q) (Some n) (hash.get same_cell old q))
     → IsKept signals (es ++ e ∷ []) new (calls + 1)

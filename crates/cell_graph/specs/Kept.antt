@@ -17,4 +17,4 @@ pub record IsKept {S : Type 0} (signals : List Signal) (entries : List Entry) (p
   pub widths_are : widths_of entries ≡ widths signals (cells_of entries)
   pub placed : (c : Cell) → hash.get same_cell places c ≡ place_in (cells_of entries) c
   pub counted : length entries ≤ calls
-  pub limited : calls ≤ 2 ^ 20
+  pub limited : calls ≤ 2 ^ 24

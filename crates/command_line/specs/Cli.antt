@@ -21,9 +21,9 @@ json_rule = record (new_rule (codes "json")) { long = Some (codes "json"); actio
 abbrev pub required_rule : Text → Rule
 required_rule id = record (new_rule id) { required = true }
 
--- N, a number from 1 to 500
+-- N, a number from 1 to 10,000
 abbrev pub count_rule : Rule
-count_rule = record (required_rule (codes "N")) { parser = Some (vp.Signed (pos 1) (pos 500)) }
+count_rule = record (required_rule (codes "N")) { parser = Some (vp.Signed (pos 1) (pos 10000)) }
 
 -- `audit [--json] NET CON`
 abbrev pub audit_app : App
@@ -72,10 +72,10 @@ IsAccepted words = (is_some (page_of words) ≡ true) ⊎ HasReading words
 abbrev pub text_of : Text → List Row → Text
 text_of id rows = unwrap_or (first_of id rows) []
 
--- n is from 1 to 500, and the number that N writes where that is
+-- n is from 1 to 10,000, and the number that N writes where that is
 abbrev pub IsCount : List Row → ℕ → Type 0
-IsCount rows n = (1 ≤ n) × (n ≤ 500) × ((t : Text) → one_of (codes "N") rows ≡ Some t → IsNumeral 10 (without_leading_plus t)
-    → 1 ≤ digits_value 10 (without_leading_plus t) → digits_value 10 (without_leading_plus t) ≤ 500
+IsCount rows n = (1 ≤ n) × (n ≤ 10000) × ((t : Text) → one_of (codes "N") rows ≡ Some t → IsNumeral 10 (without_leading_plus t)
+    → 1 ≤ digits_value 10 (without_leading_plus t) → digits_value 10 (without_leading_plus t) ≤ 10000
     → n ≡ digits_value 10 (without_leading_plus t))
 
 -- the request that a subcommand with its values makes

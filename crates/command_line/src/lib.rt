@@ -11,7 +11,7 @@ use clap::{Arg, ArgAction, ArgMatches, Command};
 use std::alloc::{AllocError, Global};
 
 /// What the words ask for. `net`, `con` and `run` are the names of the netlist, the constraint file and the record of a
-/// run, and `channels` counts the channels of the generated design, 1 to 500.
+/// run, and `channels` counts the channels of the generated design, 1 to 10,000.
 pub enum Request<'a> {
     Audit {
         json: bool,
@@ -78,7 +78,7 @@ fn selftest_command<'a>(alloc: Global) -> Result<Command<'a>, AllocError>
 {
     let channels = Arg::new(alloc, "N")
         .required(true)
-        .value_parser(clap::value_parser!(u32).range(1..=500));
+        .value_parser(clap::value_parser!(u32).range(1..=10_000));
     Command::new(alloc, "selftest").arg(channels)
 }
 
@@ -117,7 +117,7 @@ fn text<'a>(found: &ArgMatches<'a>, id: &str) -> &'a str
 fn count(found: &ArgMatches) -> u32
     ensures { IsCount (rows_of (found_of found.now)) result }
 {
-    found.get_one::<u32>("N").unwrap_or(1).clamp(1, 500)
+    found.get_one::<u32>("N").unwrap_or(1).clamp(1, 10_000)
 }
 
 fn read_request<'a>(name: &str, found: &ArgMatches<'a>) -> Request<'a>

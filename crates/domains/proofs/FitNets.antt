@@ -27,7 +27,7 @@ use Rattle.clock_constraints.specs.Refusals.{Text, ◌>>=◌, required, unless}
 use Rattle.domains.specs.declared.port.Role.{Role}
 use Rattle.domains.specs.declared.port.Role.TheVariants.{Pin, Clocked, Reset, Static}
 use Rattle.domains.specs.Tables.{named}
-use Rattle.domains.specs.Ports.{is_input, top_widths, clock_roles, input_roles, reset_roles, static_roles, roles, signal_role, signal_roles}
+use Rattle.domains.specs.Ports.{is_input, signal_ports, clock_roles, input_roles, reset_roles, static_roles, roles, signal_role, signal_roles}
 use Rattle.domains.specs.Clocks.{Roles, role_at, pin_of, input_clock, is_static, static_signals, pin_in, pin_at, register_of, clock_of_signal, Reads, HasClock}
 use Rattle.domains.specs.Nets.{IsNet, is_register, register_signals}
 use Rattle.domains.specs.Groups.{IsInGroup}
@@ -293,7 +293,8 @@ module _ (reads : Reads) (net : Net) (c : Constraints) (d : Domains) (is_net : I
 
   roles-fit : AreRolesOf n net.graph.signals are.roles
   roles-fit = roles-of n (named (roles c)) (λ q r e. named-below n (roles c) q r all-below e) net.graph.signals are.roles
-      (unless-ok (broken_port (named (top_widths net.graph.signals)) (map (λ (p : Text × Role). p.0) (roles c)) c) (signal_roles (named (roles c)) net.graph.signals) are.roles are.ports)
+      (unless-ok (broken_port (named (signal_ports net.graph.signals)) (roles c) c)
+      (signal_roles (named (roles c)) net.graph.signals) are.roles are.ports)
 
   long : length are.roles ≡ length net.graph.signals
   long = sym (zip-length (λ (s : Signal) (o : Option Role). IsRoleOf n s.kind o) net.graph.signals are.roles roles-fit)

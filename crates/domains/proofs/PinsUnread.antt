@@ -1,6 +1,6 @@
 -- No next value reads a clock pin.
-use Rattle.std.proofs.Common.{◌≡◌, ◌∙◌, sym, ap, subst, refl, arith, ℕ, zero, suc, ◌+◌, ◌<◌, ◌≤◌, Bool, true, false, cond, List, [], ◌∷◌, ◌++◌, length, get_or, Option, Some, None, is_some, slice_get, Result, Ok, Err}
-use Rattle.std.specs.Prelude.{All, Any, Contains}
+use Rattle.std.proofs.Common.{◌≡◌, ◌∙◌, sym, ap, subst, refl, arith, ℕ, zero, suc, ◌+◌, ◌<◌, Bool, true, false, cond, List, [], ◌∷◌, ◌++◌, length, get_or, Option, Some, None, is_some, slice_get, Result, Ok, Err}
+use Rattle.std.specs.Prelude.{Any}
 use Rattle.std.specs.List.{AllByRecursion}
 use Rattle.std.specs.Option.{option_map_or}
 use Rattle.std.specs.Str.{bytes_eq}
@@ -10,21 +10,21 @@ use Rattle.cdc_base.specs.declared.bit.Bit.{Bit}
 use Rattle.cdc_base.specs.declared.fault.Fault.{Fault}
 use Rattle.cdc_base.specs.declared.signal.Signal.{Signal}
 use Rattle.cdc_base.specs.declared.signal.SigKind.{SigKind}
-use Rattle.cdc_base.specs.declared.signal.SigKind.TheVariants.{Input, Register, Wire}
+use Rattle.cdc_base.specs.declared.signal.SigKind.TheVariants.{Input}
 use Rattle.cell_graph.specs.declared.net.Net.{Net}
 use Rattle.cell_graph.specs.declared.net.Reg.{Reg}
 use Rattle.cell_graph.specs.Feeds.{node}
 use Rattle.clock_constraints.specs.declared.ClockPin.{ClockPin}
 use Rattle.clock_constraints.specs.declared.Constraints.{Constraints}
-use Rattle.clock_constraints.specs.Refusals.{Text, ◌>>=◌, required, unless}
+use Rattle.clock_constraints.specs.Refusals.{Text, ◌>>=◌, required}
 use Rattle.domains.specs.declared.Domains.{Domains}
 use Rattle.domains.specs.declared.port.Role.{Role}
 use Rattle.domains.specs.declared.port.Role.TheVariants.{Pin}
 use Rattle.domains.specs.Tables.{named}
-use Rattle.domains.specs.Ports.{is_input, top_widths, clock_roles, input_roles, reset_roles, static_roles, roles, signal_role, signal_roles}
+use Rattle.domains.specs.Ports.{is_input, signal_ports, clock_roles, input_roles, reset_roles, static_roles, roles, signal_role, signal_roles}
 use Rattle.domains.specs.Clocks.{Roles, role_at, pin_of, pin_bits, Reads, HasClock}
 use Rattle.domains.specs.Assignment.{AreDomains, broken_port}
-use Rattle.domains.specs.Fit.{IsClockPin, ArePinsUnread}
+use Rattle.domains.specs.Fit.{ArePinsUnread}
 use Rattle.domains.proofs.FitNets.{unless-ok}
 
 -- what holds of each pin's bit holds of the bit of a signal that is a pin
@@ -104,7 +104,8 @@ are_unread reads net c d are r i sig member within pin =
     let declared = pin-front ((clock_roles 0 c.clocks ++ input_roles c.inputs) ++ reset_roles c.resets) (static_roles c.statics) q
     (pin-front (clock_roles 0 c.clocks ++ input_roles c.inputs) (reset_roles c.resets) q
     (pin-front (clock_roles 0 c.clocks) (input_roles c.inputs) q (pin-named 0 c.clocks q clocks.0 clocks.1 clocks.2 clocks.3 clocks.4))) in
-    let ok = unless-ok (broken_port (named (top_widths net.graph.signals)) _ c) (signal_roles (named (roles c)) net.graph.signals) are.roles are.ports in
+    let ok = unless-ok (broken_port (named (signal_ports net.graph.signals)) (roles c) c)
+    (signal_roles (named (roles c)) net.graph.signals) are.roles are.ports in
     let role = role-named (named (roles c)) net.graph.signals are.roles sig s ok pin.1 pin.2 in
     let is_pin : is_some (pin_of (role_at are.roles sig)) ≡ true = ap (λ (o : Option Role). is_some (pin_of o)) role ∙ declared in
     let has = All-contains (λ (q : Reg). (k : ℕ) × HasClock reads net.graph are.roles q k) net.regs r are.registers member in

@@ -1,21 +1,20 @@
 -- The ports' rules over equal tables.
-use Rattle.std.proofs.Common.{◌≡◌, ◌∙◌, ap, subst, refl, ℕ, List, [], ◌∷◌, map, Option, Result, Bor}
+use Rattle.std.proofs.Common.{◌≡◌, ◌∙◌, ap, subst, List, Option, Result}
 use Rattle.cdc_base.specs.declared.fault.Fault.{Fault}
 use Rattle.cdc_base.specs.declared.fault.Stop.{Stop}
 use Rattle.cdc_base.specs.declared.signal.Signal.{Signal}
 use Rattle.clock_constraints.specs.declared.Constraints.{Constraints}
 use Rattle.clock_constraints.specs.Refusals.{Text, Gives, unless}
+use Rattle.domains.specs.declared.port.Port.{Port}
 use Rattle.domains.specs.declared.port.Role.{Role}
-use Rattle.domains.specs.Tables.{pairs_of}
 use Rattle.domains.specs.Ports.{signal_roles}
 use Rattle.domains.specs.Assignment.{broken_port}
 
-pub names-of_pairs : {V : Type 0} (ps : List (Bor Text × V)) → map (λ (p : Bor Text × V). p.0.now) ps ≡ map (λ (p : Text × V). p.0) (pairs_of ps)
-names-of_pairs [] = refl
-names-of_pairs (p ∷ ps) = ap (λ ns. p.0.now ∷ ns) (names-of_pairs ps)
-
-pub same-ports : (f h : Text → Option ℕ) (ns ms : List Text) (c : Constraints) → ((q : Text) → f q ≡ h q) → ns ≡ ms → broken_port f ns c ≡ broken_port h ms c
-same-ports f h ns ms c same e = let tables : f ≡ h = λ i q. same q i in ap (λ (t : Text → Option ℕ). broken_port t ns c) tables ∙ ap (λ (ks : List Text). broken_port h ks c) e
+pub same-ports : (f h : Text → Option Port) (ps qs : List (Text × Role)) (c : Constraints) → ((q : Text) → f q ≡ h q) → ps ≡ qs
+    → broken_port f ps c ≡ broken_port h qs c
+same-ports f h ps qs c same e =
+    let tables : f ≡ h = λ i q. same q i in
+    ap (λ (t : Text → Option Port). broken_port t ps c) tables ∙ ap (λ (rs : List (Text × Role)). broken_port h rs c) e
 
 pub same-roles : (f h : Text → Option Role) (ss : List Signal) → ((q : Text) → f q ≡ h q) → signal_roles f ss ≡ signal_roles h ss
 same-roles f h ss same = let tables : f ≡ h = λ i q. same q i in ap (λ (t : Text → Option Role). signal_roles t ss) tables

@@ -13,8 +13,10 @@ use Rattle.clock_constraints.specs.declared.ClockPin.{ClockPin}
 use Rattle.clock_constraints.specs.declared.Constraints.{Constraints}
 use Rattle.clock_constraints.specs.Refusals.{Text, broken, unless}
 use Rattle.domains.specs.declared.Domains.{Domains}
+use Rattle.domains.specs.declared.port.Port.{Port}
+use Rattle.domains.specs.declared.port.Role.{Role}
 use Rattle.domains.specs.Tables.{named}
-use Rattle.domains.specs.Ports.{top_widths, roles, lost, wide, signal_roles}
+use Rattle.domains.specs.Ports.{signal_ports, roles, lost, wide, signal_roles}
 use Rattle.domains.specs.Groups.{mentions, IsInGroup}
 use Rattle.domains.specs.Clocks.{Roles, Reads, static_signals, AreClocks, AreClocked, LacksClock, signal_name}
 
@@ -23,14 +25,15 @@ abbrev pub or_then : Option Fault → Option Fault → Option Fault
 or_then None later = later
 or_then (Some f) later = Some f
 
--- the first rule that a port breaks: it is an input of the top, a clock's has one bit, a reset's has one bit
-abbrev pub broken_port : (Text → Option ℕ) → List Text → Constraints → Option Fault
-broken_port tops names c =
-    or_then (lost tops names) (or_then (wide 407 tops (map (λ k. k.name) c.clocks)) (wide 408 tops (map (λ r. r.name) c.resets)))
+-- the first rule that a port breaks: a reset's is a signal and any other's an input of the top, a clock's has one bit, a
+-- reset's has one bit
+abbrev pub broken_port : (Text → Option Port) → List (Text × Role) → Constraints → Option Fault
+broken_port ports declared c =
+    or_then (lost ports declared) (or_then (wide 407 ports (map (λ k. k.name) c.clocks)) (wide 408 ports (map (λ r. r.name) c.resets)))
 
 -- what the signals are declared as, or the first rule that a port breaks, or else that each input of the top is declared
 abbrev pub port_roles : List Signal → Constraints → Result Roles Fault
-port_roles signals c = unless (broken_port (named (top_widths signals)) (map (λ p. p.0) (roles c)) c) (signal_roles (named (roles c)) signals)
+port_roles signals c = unless (broken_port (named (signal_ports signals)) (roles c) c) (signal_roles (named (roles c)) signals)
 
 -- the register is the first without a clock
 abbrev pub IsFirstUnclocked : Reads → Cells → Roles → List Reg → Reg → Type 0

@@ -1,5 +1,5 @@
 //! The clocks of a net's signals, by its constraints.
-ghost use Rattle.std.specs.Prelude.{◌≡◌, map, IfOk, IfErr};
+ghost use Rattle.std.specs.Prelude.{◌≡◌, IfOk, IfErr};
 ghost use Rattle.clock_constraints.specs.Fit.{AreFit};
 ghost use Rattle.clock_constraints.specs.Refusals.{Gives, Passes, unless};
 ghost use Rattle.domains.specs.Assignment.{broken_port, port_roles, AreDomains, IsBroken, Refuses};
@@ -7,10 +7,10 @@ ghost use Rattle.domains.specs.Clocks.{static_signals};
 ghost use Rattle.domains.specs.Fit.{Fit, ArePinsUnread};
 ghost use Rattle.domains.specs.Nets.{IsNet};
 ghost use Rattle.domains.specs.Ports.{signal_roles};
-ghost use Rattle.domains.specs.Tables.{found_in};
+ghost use Rattle.domains.specs.Tables.{found_in, pairs_of};
 ghost use Rattle.refusals.specs.Numbers.{HasNumberIn, assignment_numbers};
 
-use crate::port::{self, Role};
+use crate::port::{self, Port, Role};
 use crate::{Domains, group, register, table};
 use cdc_base::{List, NoMemory, Signal, Stop};
 use cell_graph::{Cofactors, Net};
@@ -18,19 +18,19 @@ use clock_constraints::{ClockPin, Constraints};
 use indexmap::IndexMap;
 use std::alloc::Global;
 
-/// Refuses a declared port that isn't an input of the top; then a clock's port that hasn't one bit; then such a port of a
-/// reset.
+/// Refuses a declared port that isn't an input of the top, or a reset that is no signal; then a clock's port that hasn't one
+/// bit; then such a port of a reset.
 fn check_ports(
     alloc: Global,
-    tops: &IndexMap<&str, u8>,
+    ports: &IndexMap<&str, Port>,
     roles: &[(&str, Role)],
     constraints: &Constraints,
 ) -> Result<(), Stop>
-    ensures { Passes result (broken_port (λ q. found_in tops.now q) (map (λ p. p.0.now) roles.now) constraints.now) }
+    ensures { Passes result (broken_port (λ q. found_in ports.now q) (pairs_of roles.now) constraints.now) }
 {
-    port::check_found(alloc, tops, roles)?;
-    port::check_clocks(alloc, tops, constraints.clocks.as_slice())?;
-    port::check_resets(alloc, tops, constraints.resets.as_slice())
+    port::check_found(alloc, ports, roles)?;
+    port::check_clocks(alloc, ports, constraints.clocks.as_slice())?;
+    port::check_resets(alloc, ports, constraints.resets.as_slice())
 }
 
 /// The role of each signal that is an input of the top. It refuses a port that breaks a rule; then an input of the top
@@ -38,19 +38,19 @@ fn check_ports(
 fn checked_roles(
     alloc: Global,
     signals: &[Signal],
-    tops: &IndexMap<&str, u8>,
+    ports: &IndexMap<&str, Port>,
     roles: &[(&str, Role)],
     declared: &IndexMap<&str, Role>,
     constraints: &Constraints,
 ) -> Result<List<Option<Role>>, Stop>
-    ensures { Gives result (unless (broken_port (λ q. found_in tops.now q) (map (λ p. p.0.now) roles.now) constraints.now)
+    ensures { Gives result (unless (broken_port (λ q. found_in ports.now q) (pairs_of roles.now) constraints.now)
         (signal_roles (λ q. found_in declared.now q) signals.now)) }
 {
-    check_ports(alloc, tops, roles, constraints)?;
+    check_ports(alloc, ports, roles, constraints)?;
     port::signal_roles(alloc, signals, declared)
 }
 
-/// The role of each signal, with tables of the top's inputs and of the ports that are declared.
+/// The role of each signal, with tables of the signals and of the ports that are declared.
 fn roles(
     alloc: Global,
     signals: &[Signal],
@@ -59,14 +59,14 @@ fn roles(
     ensures given { Gives result (port_roles signals.now constraints.now) }
     ensures numbered { IfErr result (HasNumberIn assignment_numbers) }
 {
-    let widths = port::top_widths(alloc, signals)?;
-    let tops = table::by_name(alloc, widths.as_slice())?;
+    let pairs = port::signal_ports(alloc, signals)?;
+    let ports = table::by_name(alloc, pairs.as_slice())?;
     let roles = port::roles(alloc, constraints)?;
     let declared = table::by_name(alloc, roles.as_slice())?;
     checked_roles(
         alloc,
         signals,
-        &tops,
+        &ports,
         roles.as_slice(),
         &declared,
         constraints,
@@ -104,9 +104,9 @@ fn copy_clocks(alloc: Global, clocks: &[ClockPin]) -> Result<List<ClockPin>, NoM
 }
 
 /// Assigns clocks to the registers and inputs of the net. It refuses the first broken rule of these, in this order: each
-/// declared port is an input of the top; each clock's port has one bit; each reset's port has one bit; each input of the
-/// top is declared; each register's clock comes from a declared clock pin, and its next value reads none. Ports go in the
-/// order clocks, inputs, resets, statics, and inputs and registers by signal.
+/// declared reset is a signal, and each other declared port an input of the top; each clock's port has one bit; each
+/// reset's port has one bit; each input of the top is declared; each register's clock comes from a declared clock pin, and
+/// its next value reads none. Ports go in the order clocks, inputs, resets, statics, and inputs and registers by signal.
 pub fn assign<C: Cofactors>(
     alloc: Global,
     net: &Net,

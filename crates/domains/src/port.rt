@@ -1,8 +1,8 @@
-//! What the ports of the top are declared as.
+//! What ports are declared as.
 ghost use Rattle.std.specs.Prelude.{◌≡◌, ◌++◌, map, IfOk, OnOk};
 ghost use Rattle.clock_constraints.specs.Refusals.{Gives, Passes};
 ghost use Rattle.domains.specs.Tables.{found_in, pairs_of};
-ghost use Rattle.domains.specs.Ports.{top_widths, clock_roles, input_roles, reset_roles, static_roles, roles, lost, wide, is_one, signal_role, signal_roles};
+ghost use Rattle.domains.specs.Ports.{signal_port, signal_ports, clock_roles, input_roles, reset_roles, static_roles, roles, is_found, lost, wide, is_one, signal_role, signal_roles};
 
 use cdc_base::{List, Name, NoMemory, ResetPin, SigKind, Signal, Stop};
 use clock_constraints::refusal::refuse;
@@ -10,8 +10,8 @@ use clock_constraints::{ClockPin, Constraints, InputPin};
 use indexmap::IndexMap;
 use std::alloc::Global;
 
-/// A declared port isn't an input of the top; the name is the port.
-const NO_SUCH_INPUT: u16 = 403;
+/// A declared clock, input or static port isn't an input of the top, or a declared reset is no signal; the name is the port.
+const NO_SUCH_PORT: u16 = 403;
 /// An input of the top has no declaration; the name is the input.
 const NOT_DECLARED: u16 = 405;
 /// A clock's port has several bits; the name is the port.
@@ -19,8 +19,8 @@ const WIDE_CLOCK: u16 = 407;
 /// A reset's port has several bits; the name is the port.
 const WIDE_RESET: u16 = 408;
 
-/// What an input of the top is declared as: the pin of a clock, an input that changes with a clock, a reset, or static.
-/// Clocks go by their place in the list.
+/// What a port is declared as: the pin of a clock, an input that changes with a clock, a reset, or static. Clocks go by
+/// their place in the list.
 #[derive(Clone, Copy, PartialEq, Eq, Debug, Drop)]
 pub enum Role {
     Pin(u32),
@@ -29,20 +29,34 @@ pub enum Role {
     Static,
 }
 
-/// The names and widths of the top's inputs.
-pub fn top_widths(alloc: Global, signals: &[Signal]) -> Result<Vec<(&str, u8)>, NoMemory>
-    ensures { IfOk result (λ widths. pairs_of widths.items ≡ top_widths signals.now) }
+/// What a port may be declared of: a signal's width, and whether it is an input of the top.
+#[derive(Clone, Copy)]
+pub struct Port {
+    width: u8,
+    is_input: bool,
+}
+
+fn signal_port(signal: &Signal) -> Port
+    ensures { result ≡ signal_port signal.now }
 {
-    let mut widths = Vec::new(alloc);
+    Port {
+        width: signal.width,
+        is_input: matches!(signal.kind, SigKind::Input),
+    }
+}
+
+/// The names of all signals, and what a port may be declared of each.
+pub fn signal_ports(alloc: Global, signals: &[Signal]) -> Result<Vec<(&str, Port)>, NoMemory>
+    ensures { IfOk result (λ ports. pairs_of ports.items ≡ signal_ports signals.now) }
+{
+    let mut ports = Vec::new(alloc);
     for signal in signals {
-        if matches!(signal.kind, SigKind::Input) {
-            let width = (signal.name.as_str(), signal.width);
-            if widths.push(width).is_err() {
-                return Err(NoMemory);
-            }
+        let port = (signal.name.as_str(), signal_port(signal));
+        if ports.push(port).is_err() {
+            return Err(NoMemory);
         }
     }
-    Ok(widths)
+    Ok(ports)
 }
 
 fn add_clocks<'a>(roles: &mut Vec<(&'a str, Role)>, clocks: &'a [ClockPin]) -> Result<(), NoMemory>
@@ -108,28 +122,39 @@ pub fn roles<'a>(
     Ok(roles)
 }
 
-/// Refuses the first port that isn't an input of the top.
+/// Whether the port is a signal that may have the role: a reset may be any signal, and all other ports are inputs of the
+/// top.
+fn is_found(ports: &IndexMap<&str, Port>, name: &str, role: Role) -> bool
+    ensures { result ≡ is_found (found_in ports.now name.now) role }
+{
+    match ports.get(name) {
+        Some(port) => port.is_input || matches!(role, Role::Reset),
+        None => false,
+    }
+}
+
+/// Refuses the first port that isn't found.
 pub fn check_found(
     alloc: Global,
-    tops: &IndexMap<&str, u8>,
+    ports: &IndexMap<&str, Port>,
     roles: &[(&str, Role)],
 ) -> Result<(), Stop>
-    ensures { Passes result (lost (λ q. found_in tops.now q) (map (λ p. p.0.now) roles.now)) }
+    ensures { Passes result (lost (λ q. found_in ports.now q) (pairs_of roles.now)) }
 {
-    for (name, _) in roles {
-        if !tops.contains_key(*name) {
-            return Err(refuse(alloc, NO_SUCH_INPUT, name));
+    for (name, role) in roles {
+        if !is_found(ports, name, *role) {
+            return Err(refuse(alloc, NO_SUCH_PORT, name));
         }
     }
     Ok(())
 }
 
-/// Whether the input has one bit.
-fn has_one_bit(tops: &IndexMap<&str, u8>, name: &str) -> bool
-    ensures { result ≡ is_one (found_in tops.now name.now) }
+/// Whether the port has one bit.
+fn has_one_bit(ports: &IndexMap<&str, Port>, name: &str) -> bool
+    ensures { result ≡ is_one (found_in ports.now name.now) }
 {
-    match tops.get(name) {
-        Some(width) => *width == 1,
+    match ports.get(name) {
+        Some(port) => port.width == 1,
         None => false,
     }
 }
@@ -137,13 +162,13 @@ fn has_one_bit(tops: &IndexMap<&str, u8>, name: &str) -> bool
 /// Refuses the first clock whose port hasn't one bit.
 pub fn check_clocks(
     alloc: Global,
-    tops: &IndexMap<&str, u8>,
+    ports: &IndexMap<&str, Port>,
     clocks: &[ClockPin],
 ) -> Result<(), Stop>
-    ensures { Passes result (wide 407 (λ q. found_in tops.now q) (map (λ c. c.name) clocks.now)) }
+    ensures { Passes result (wide 407 (λ q. found_in ports.now q) (map (λ c. c.name) clocks.now)) }
 {
     for clock in clocks {
-        if !has_one_bit(tops, clock.name.as_str()) {
+        if !has_one_bit(ports, clock.name.as_str()) {
             return Err(refuse(alloc, WIDE_CLOCK, clock.name.as_str()));
         }
     }
@@ -153,13 +178,13 @@ pub fn check_clocks(
 /// Refuses the first reset whose port hasn't one bit.
 pub fn check_resets(
     alloc: Global,
-    tops: &IndexMap<&str, u8>,
+    ports: &IndexMap<&str, Port>,
     resets: &[ResetPin],
 ) -> Result<(), Stop>
-    ensures { Passes result (wide 408 (λ q. found_in tops.now q) (map (λ r. r.name) resets.now)) }
+    ensures { Passes result (wide 408 (λ q. found_in ports.now q) (map (λ r. r.name) resets.now)) }
 {
     for reset in resets {
-        if !has_one_bit(tops, reset.name.as_str()) {
+        if !has_one_bit(ports, reset.name.as_str()) {
             return Err(refuse(alloc, WIDE_RESET, reset.name.as_str()));
         }
     }

@@ -12,9 +12,6 @@ use cell_graph::{Cell, CellId, ReduceKind};
 use std::alloc::Global;
 use std::marker::Model;
 
-/// More drafts than this count as want of memory.
-const MAX_DRAFTS: usize = 16_777_216;
-
 #[derive(Clone, Copy, Drop)]
 pub enum Form {
     /// Bits of a signal, from `at` on.
@@ -71,9 +68,6 @@ impl Drafts {
     fn push(&mut self, form: Form, width: u8) -> Result<CellId, NoMemory>
         ensures added { IfOk result (λ id. (id.0 ≡ length self.old) × (self.new ≡ self.old ++ drafted form width ∷ [])) }
     {
-        if self.drafts.len() >= MAX_DRAFTS {
-            return Err(NoMemory);
-        }
         let place = numbered(self.drafts.len())?;
         push(&mut self.drafts, Draft { form, width })?;
         Ok(CellId(place))

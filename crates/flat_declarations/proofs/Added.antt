@@ -31,18 +31,18 @@ use Rattle.flat_declarations.proofs.Named.{defined, first-words, word-count, nex
 abbrev pub too_many : Fault
 too_many = record { number = 601; place = None; name = [] }
 
-pub adds-shown : (pins : List ResetPin) (e : u.Design) (y : n.Entry) (d : Design) (s : ℕ) → s ≡ length e.entries → s < 65536 → ShowsDesign pins d (record e { entries = e.entries ++ (y ∷ []) }) → Adds pins e y (Ok s) d
-adds-shown pins e y d s i l h = (i, lt-false 65536 (length e.entries + 1) (omega (arith, i, l)), h)
+pub adds-shown : (pins : List ResetPin) (e : u.Design) (y : n.Entry) (d : Design) (s : ℕ) → s ≡ length e.entries → s < 1048576 → ShowsDesign pins d (record e { entries = e.entries ++ (y ∷ []) }) → Adds pins e y (Ok s) d
+adds-shown pins e y d s i l h = (i, lt-false 1048576 (length e.entries + 1) (omega (arith, i, l)), h)
 
 -- a refusal for too many signals, as added refuses
 many-meets : {S : Type 0} (pins : List ResetPin) (table : IndexMap Text Meaning S) (s : Stage) (es : List n.Entry) (names : n.Names) (r : Result (Unit {0}) Stop) (d : Design)
-    → nat_lt 65536 (length s.design.entries + length es) ≡ true → Refuses too_many r → Meets pins table (added s es names) r d
+    → nat_lt 1048576 (length s.design.entries + length es) ≡ true → Refuses too_many r → Meets pins table (added s es names) r d
 many-meets pins table s es names (Ok u) d k h = absurd h
 many-meets pins table s es names (Err (Refused f)) d k h = ap (λ b. then_ (refused_if b 601 None []) (λ u. good (record { names = s.names ++ names; design = record s.design { entries = s.design.entries ++ es } }))) k ∙ ap bad (sym h)
 many-meets pins table s es names (Err Memory) d k h = tt
 
 few-meets : {S : Type 0} (pins : List ResetPin) (table : IndexMap Text Meaning S) (s : Stage) (es : List n.Entry) (names : n.Names) (u : Unit {0}) (d : Design)
-    → nat_lt 65536 (length s.design.entries + length es) ≡ false → ShowsNames table (s.names ++ names) → ShowsDesign pins d (record s.design { entries = s.design.entries ++ es })
+    → nat_lt 1048576 (length s.design.entries + length es) ≡ false → ShowsNames table (s.names ++ names) → ShowsDesign pins d (record s.design { entries = s.design.entries ++ es })
     → Meets pins table (added s es names) (Ok u) d
 few-meets pins table s es names u d k a b = (
   record { names = s.names ++ names; design = record s.design { entries = s.design.entries ++ es } },
@@ -100,28 +100,28 @@ module _ (s : Stage) (at : Site) (x : DeclTree) (r : Option Range) where
     }
 
     -- no word is one too many
-    pub word-err : (table : IndexMap Text Meaning S) (d : Design) (words k : ℕ) (y : Stop) → length s.design.entries + words ≤ 65536 → k < words
+    pub word-err : (table : IndexMap Text Meaning S) (d : Design) (words k : ℕ) (y : Stop) → length s.design.entries + words ≤ 1048576 → k < words
         → Adds pins (with_words k).design (entry at x.kind r false (word_name x.name k)) (Err y) d → Meets pins table (add_memory s at x r words) (Err y) d
-    word-err table d words k (Refused f) l b h = absurd (let g = ltb-true 65536 (length (with_words k).design.entries + 1) h.0 in let j = words-length k in omega (arith, g, j, l, b))
+    word-err table d words k (Refused f) l b h = absurd (let g = ltb-true 1048576 (length (with_words k).design.entries + 1) h.0 in let j = words-length k in omega (arith, g, j, l, b))
     word-err table d words k Memory l b h = tt
 
     -- the memory itself
     pub memory-ok : (old new : IndexMap Text Meaning S) (d : Design) (words : ℕ) (v : kept.Memory) (u : Unit {0}) → ShowsStage pins old d (with_words words) → is_declared s.names x.name ≡ false
-        → length s.design.entries + words ≤ 65536 → v.first ≡ length s.design.entries → v.words ≡ words
+        → length s.design.entries + words ≤ 1048576 → v.first ≡ length s.design.entries → v.words ≡ words
         → ((y : Text) → kept_in new y ≡ cond (pointwise ◌==◌ x.name y) (Some (m.Memory v)) (kept_in old y)) → Meets pins new (add_memory s at x r words) (Ok u) d
     memory-ok old new d words v u h f l a b e =
         let first = length s.design.entries in let xs = word_names x.name 0 words in
         let many : length (map (entry at x.kind r false) xs) ≡ words = length-map xs (entry at x.kind r false) ∙ word-count x.name 0 words in
         let named = defined old new (with_words words).names x.name (m.Memory v) h.names (own-free s.names x.name words f) e in
         few-meets pins new s (map (entry at x.kind r false) xs) (taken_names xs ++ ((x.name, a_memory (record { first = first; words = words })) ∷ [])) u d
-        (lt-false 65536 (first + length (map (entry at x.kind r false) xs)) (omega (arith, many, l)))
+        (lt-false 1048576 (first + length (map (entry at x.kind r false) xs)) (omega (arith, many, l)))
         (subst (ShowsNames new) (ap₂ (λ i j. (s.names ++ taken_names xs) ++ ((x.name, a_memory (record { first = i; words = j })) ∷ [])) a b ∙ append_assoc s.names (taken_names xs) ((x.name, a_memory (record { first = first; words = words })) ∷ [])) named)
         h.design
 
     -- too many words
-    pub memory-many : (table : IndexMap Text Meaning S) (d : Design) (words : ℕ) (y : Result (Unit {0}) Stop) → 65536 < length s.design.entries + words → Refuses too_many y → Meets pins table (add_memory s at x r words) y d
+    pub memory-many : (table : IndexMap Text Meaning S) (d : Design) (words : ℕ) (y : Result (Unit {0}) Stop) → 1048576 < length s.design.entries + words → Refuses too_many y → Meets pins table (add_memory s at x r words) y d
     memory-many table d words y l h =
         let xs = word_names x.name 0 words in
         let j : length (map (entry at x.kind r false) xs) ≡ words = length-map xs (entry at x.kind r false) ∙ word-count x.name 0 words in
         many-meets pins table s (map (entry at x.kind r false) xs) (taken_names xs ++ ((x.name, a_memory (record { first = length s.design.entries; words = words })) ∷ [])) y d
-        (lt-ltb 65536 _ (omega (arith, l, j))) h
+        (lt-ltb 1048576 _ (omega (arith, l, j))) h

@@ -95,8 +95,8 @@ added-fit : (s : Stage) (fs : List Entry) (names : Names) (t : Stage) → added 
     → All (λ (p : Text × Meaning). IsFitMeaning (length (s.design.entries ++ fs)) p.1) names → AreFitEntries fs → IsFit (look_of t)
 added-fit s fs names t e h k f =
     let es = s.design.entries in
-    let g = good_then (refused_if (nat_lt 65536 (length es + length fs)) 601 None []) _ t e in
-    let few = not_refused (nat_lt 65536 (length es + length fs)) 601 None [] g.0 g.1 in
+    let g = good_then (refused_if (nat_lt 1048576 (length es + length fs)) 601 None []) _ t e in
+    let few = not_refused (nat_lt 1048576 (length es + length fs)) 601 None [] g.0 g.1 in
     let many = length_of_both es fs in
     subst (λ (u : Stage). IsFit (look_of u)) (good_is _ t g.2) (from-names (record { names = s.names ++ names; design = record s.design { entries = es ++ fs } })
     (both-fit (length (es ++ fs)) s.names names (λ x v d. more-fit (length es) (length (es ++ fs)) (omega (arith, many)) v (fit-names s h x v d)) k)
@@ -106,8 +106,8 @@ added-fit s fs names t e h k f =
     entries i z (inl d) = h.entries i z d
     entries i z (inr d) = f d.0 z d.1
 
-    not-more : nat_lt 65536 (length s.design.entries + length fs) ≡ false → length s.design.entries + length fs ≤ 65536
-    not-more e = ltb-false 65536 (length s.design.entries + length fs) e
+    not-more : nat_lt 1048576 (length s.design.entries + length fs) ≡ false → length s.design.entries + length fs ≤ 1048576
+    not-more e = ltb-false 1048576 (length s.design.entries + length fs) e
 
 taken-fit : (n : ℕ) (xs : List Text) → All (λ (p : Text × Meaning). IsFitMeaning n p.1) (taken_names xs)
 taken-fit n [] = All-nil (λ (p : Text × Meaning). IsFitMeaning n p.1)

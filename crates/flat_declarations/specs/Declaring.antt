@@ -108,8 +108,8 @@ Declares (d.Memory b w) r again words = (again ≡ None) × (words ≡ Some w) �
 
 -- a refusal of too many signals, or one more entry
 abbrev pub Adds : List ResetPin → Design → n.Entry → Result ℕ Stop → grown.Design → Type 0
-Adds pins e x (Ok s) design = (s ≡ length e.entries) × (nat_lt 65536 (length e.entries + 1) ≡ false) × ShowsDesign pins design (record e { entries = e.entries ++ (x ∷ []) })
-Adds pins e x (Err (Refused f)) design = (nat_lt 65536 (length e.entries + 1) ≡ true) × (f ≡ record { number = 601; place = None; name = [] })
+Adds pins e x (Ok s) design = (s ≡ length e.entries) × (nat_lt 1048576 (length e.entries + 1) ≡ false) × ShowsDesign pins design (record e { entries = e.entries ++ (x ∷ []) })
+Adds pins e x (Err (Refused f)) design = (nat_lt 1048576 (length e.entries + 1) ≡ true) × (f ≡ record { number = 601; place = None; name = [] })
 Adds pins e x (Err Memory) design = Unit {0}
 
 -- a header's names, or the first that stands in it twice

@@ -7,15 +7,18 @@ use Rattle.cdc_base.specs.declared.fault.Place.{Place}
 use Rattle.verilog_reading.specs.SourceTree.{DeclTree, PortTree, BodyTree, param, decl, assign, gate, instance, always, initial, ItemTree, ModuleTree}
 use Rattle.flat_unfolding.specs.Outcome.{Text, Outcome, good, then_, each}
 use Rattle.flat_unfolding.specs.Declarations.{Site, declaration, decl_in, item_decls, declarations}
+use Rattle.flat_unfolding.specs.Parameters.{Overrides, parameters}
 use Rattle.flat_unfolding.specs.Design.{Design, Stage, look_of}
+use Rattle.flat_unfolding.specs.Unfolding.{with_resets}
 use Rattle.cdc_base.specs.declared.fault.Stop.{Stop}
 use Rattle.cdc_base.specs.declared.fault.Stop.TheVariants.{Refused, Memory}
 use Rattle.cdc_base.specs.declared.signal.ResetPin.{ResetPin}
 use Rattle.flat_names.specs.declared.design.Design as grown
 use Rattle.flat_names.specs.Looks.{meaning_of, kept_in, IsFit}
-use Rattle.flat_names.specs.Designs.{ShowsNames}
+use Rattle.flat_names.specs.Designs.{ShowsNames, ShowsDesign}
 use Rattle.flat_declarations.specs.Declaring.{MeetsFit}
-use Rattle.flat_design.specs.Visiting.{is_declaration, declares, IsFitDesign, Begins, Table}
+use Rattle.flat_design.specs.Visiting.{is_declaration, declares, IsFitDesign, begun, Begins, Table}
+use Rattle.flat_design.proofs.Fits.{resets-fit}
 
 no-ports : (ps : List PortTree) → not (length ps == 0) ≡ false → ps ≡ []
 no-ports [] e = refl
@@ -74,17 +77,35 @@ no-names-fit d h = record {
   few = h.few;
 }
 
-module _ (pins : List ResetPin) (o : Outcome Stage) (after : Stage → Outcome Stage) where
+module _ (pins : List ResetPin) (given : Overrides) (prefix : Text) (m : ModuleTree) (d : Design) where
+  abbrev first : Stage
+  first = record { names = []; design = d }
+
+  with-declared : Stage → Outcome Stage
+  with-declared s = then_ (declarations prefix m s) (λ (t : Stage). good (with_resets (length d.entries) t))
+
   -- its parameters are refused
-  pub parameters-refused : (S : Type 0) (table : Table) (kept new : grown.Design) (e : Stop) → MeetsFit pins table o (Err e) kept → Begins {S = S} pins (then_ o after) (Err e) new
-  parameters-refused S table kept new (Refused f) h = ap (λ (q : Outcome Stage). then_ q after) h
+  pub parameters-refused : (S : Type 0) (table : Table) (kept new : grown.Design) (e : Stop) → MeetsFit pins table (parameters given m first) (Err e) kept → Begins {S = S} pins (begun given prefix m d) (Err e) new
+  unfolding with-declared
+  parameters-refused S table kept new (Refused f) h = ap (λ (q : Outcome Stage). then_ q with-declared) h
   parameters-refused S table kept new Memory h = tt
 
-  module _ (t : Stage) (is : o ≡ good t) where
+  module _ (s : Stage) (is : parameters given m first ≡ good s) where
+    goes-on : begun given prefix m d ≡ then_ (declarations prefix m s) (λ (t : Stage). good (with_resets (length d.entries) t))
+    unfolding with-declared
+    goes-on = ap (λ (q : Outcome Stage). then_ q with-declared) is
+
     -- its declarations are refused
-    pub declarations-refused : (S : Type 0) (table : Table) (new : grown.Design) (e : Stop) → MeetsFit pins table (after t) (Err e) new → Begins {S = S} pins (then_ o after) (Err e) new
-    declarations-refused S table new (Refused f) h = ap (λ (q : Outcome Stage). then_ q after) is ∙ h
+    pub declarations-refused : (S : Type 0) (table : Table) (new : grown.Design) (e : Stop) → MeetsFit pins table (declarations prefix m s) (Err e) new → Begins {S = S} pins (begun given prefix m d) (Err e) new
+    declarations-refused S table new (Refused f) h = goes-on ∙ ap (λ (q : Outcome Stage). then_ q (λ (t : Stage). good (with_resets (length d.entries) t))) h
     declarations-refused S table new Memory h = tt
 
-    pub module-begun : (table : Table) (new : grown.Design) → MeetsFit pins table (after t) (Ok tt) new → Begins pins (then_ o after) (Ok table) new
-    module-begun table new h = (h.0, ap (λ (q : Outcome Stage). then_ q after) is ∙ h.1, h.2, h.3)
+    -- it is begun once the resets among its declarations are known
+    pub module-begun : (table : Table) (kept new : grown.Design) → MeetsFit pins table (declarations prefix m s) (Ok tt) kept
+        → ((t : Stage) → ShowsDesign pins kept t.design → ShowsDesign pins new (with_resets (length d.entries) t).design) → Begins pins (begun given prefix m d) (Ok table) new
+    module-begun table kept new h resolves = (
+      with_resets (length d.entries) h.0,
+      goes-on ∙ ap (λ (q : Outcome Stage). then_ q (λ (t : Stage). good (with_resets (length d.entries) t))) h.1,
+      record { names = h.2.names; design = resolves h.0 h.2.design },
+      resets-fit (length d.entries) h.0 h.3,
+    )

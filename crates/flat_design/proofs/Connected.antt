@@ -5,7 +5,7 @@ use Rattle.cdc_base.specs.declared.signal.ResetPin.{ResetPin}
 use Rattle.flat_meaning.specs.Flat.{Expr, Target}
 use Rattle.flat_form.specs.Sizes.{is_word}
 use Rattle.flat_unfolding.specs.Names.{Names, Meaning, a_param, a_signal, a_memory, no_value, Entry, width_of, meaning_in}
-use Rattle.flat_unfolding.specs.Instances.{Link, into, out_of, into_port, out_of_port, connect_one, connect_all, connected}
+use Rattle.flat_unfolding.specs.Instances.{Link, into, out_of, resolving_to, into_port, out_of_port, connect_one, connect_all, connected}
 use Rattle.flat_unfolding.specs.Design.{Design, Stage, look_of, change_entry}
 use Rattle.flat_unfolding.proofs.Steps.{some_is}
 use Rattle.flat_unfolding.proofs.Entries.{same_length}
@@ -36,8 +36,8 @@ into-alike : (d : Design) (v : Expr) (r : Option ResetPin) (m : Option Meaning) 
 into-alike d v r None = alike-itself d.entries
 into-alike d v r (Some (a_param p)) = alike-itself d.entries
 into-alike d v r (Some (a_signal s)) = record {
-  count = same_length (λ (a : Entry). record a { reset = r }) s d.entries;
-  ranges = changed-ranges (λ (a : Entry). record a { reset = r }) (λ a. refl) s d.entries;
+  count = same_length (resolving_to r) s d.entries;
+  ranges = changed-ranges (resolving_to r) (λ a. refl) s d.entries;
 }
 into-alike d v r (Some (a_memory a)) = alike-itself d.entries
 into-alike d v r (Some no_value) = alike-itself d.entries

@@ -94,7 +94,7 @@ pub word-narrow : (w : ℕ) → is_word w ≡ true → w ≤ 64
 word-narrow w e = leb-true w 64 (and_parts (nat_le 1 w) (nat_le w 64) e).1
 
 -- what a list shows of another, place by place
-shown-at : (xs : List Entry) (es : List n.Entry) (s : ℕ) (e : n.Entry) → map seen xs ≡ map shown es → slice_get es s ≡ Some e → (x : Entry) × (slice_get xs s ≡ Some x) × (seen x ≡ shown e)
+pub shown-at : (xs : List Entry) (es : List n.Entry) (s : ℕ) (e : n.Entry) → map seen xs ≡ map shown es → slice_get es s ≡ Some e → (x : Entry) × (slice_get xs s ≡ Some x) × (seen x ≡ shown e)
 shown-at xs es s e h at = go (slice_get xs s) refl (sym (slice_get-map seen xs s) ∙ ap (λ ys. slice_get ys s) h ∙ slice_get-map shown es s ∙ ap (option_map shown) at)
   where
     go : (o : Option Entry) → slice_get xs s ≡ o → option_map seen o ≡ Some (shown e) → (x : Entry) × (slice_get xs s ≡ Some x) × (seen x ≡ shown e)
@@ -235,10 +235,10 @@ module _ (pins : List ResetPin) (k : table.Design) (d : Design) (h : ShowsDesign
       (subst (λ (v : List Signal). length v ≤ 2 ^ 32) (sym e) (few-signals fit)))
 
 -- how the trial ends, for the unfolding
-pub trial-passed : (d : Design) → driven_once (flat_design d) d.resets ≡ good tt → law.finished d ≡ good (flat_design d)
+pub trial-passed : (d : Design) → driven_once (flat_design d) d.resets ≡ good tt → law.checked (flat_design d) d.resets ≡ good (flat_design d)
 trial-passed d e = ap (λ (p : Outcome (Unit {0})). then_ p (λ u. good (flat_design d))) e
 
-pub trial-failed : (d : Design) (e : Stop) → Meets (driven_once (flat_design d) d.resets) (Err e) → IsUnfolding (law.finished d) (Err e)
+pub trial-failed : (d : Design) (e : Stop) → Meets (driven_once (flat_design d) d.resets) (Err e) → IsUnfolding (law.checked (flat_design d) d.resets) (Err e)
 trial-failed d (Refused f) h = ap (λ (p : Outcome (Unit {0})). then_ p (λ u. good (flat_design d))) h
 trial-failed d Memory h = tt
 

@@ -1,5 +1,5 @@
 -- Stages stay fit while modules are visited.
-use Rattle.std.proofs.Common.{◌≡◌, ℕ, zero, suc, ◌+◌, ◌^◌, ◌<◌, ◌≤◌, true, List, [], ◌∷◌, length, Option, Some, None, refl, sym, ap, subst, ◌∙◌, arith, rules}
+use Rattle.std.proofs.Common.{◌≡◌, ℕ, zero, suc, ◌+◌, ◌-◌, ◌^◌, ◌<◌, ◌≤◌, true, List, [], ◌∷◌, length, Option, Some, None, refl, sym, ap, subst, ◌∙◌, arith, rules}
 use Rattle.std.specs.Prelude.{slice_get}
 use Rattle.verilog_ast.specs.declared.DeclKind.{DeclKind}
 use Rattle.verilog_ast.specs.declared.DeclKind.TheVariants as k
@@ -7,19 +7,19 @@ use Rattle.verilog_ast.specs.declared.Event.{Event}
 use Rattle.verilog_ast.specs.declared.Event.TheVariants as event
 use Rattle.verilog_ast.specs.declared.GateKind.{GateKind}
 use Rattle.cdc_base.specs.declared.fault.Place.{Place}
-use Rattle.cdc_base.specs.declared.signal.ResetPin.{ResetPin}
 use Rattle.verilog_reading.specs.ExprTree.{ExprTree, TargetTree, whole}
 use Rattle.verilog_reading.specs.StmtTree.{StmtTree}
 use Rattle.verilog_reading.specs.SourceTree.{DeclTree, BodyTree, param, decl, assign, gate, instance, always, initial, ModuleTree}
 use Rattle.flat_unfolding.specs.Outcome.{Text, good, by_number, each}
 use Rattle.flat_unfolding.specs.Names as n
 use Rattle.flat_unfolding.specs.Names.{Names, Meaning, a_signal, a_param, a_memory, no_value, meaning, meaning_in, width_of, Direction, inner, inward, outward, direction_at}
-use Rattle.flat_unfolding.specs.Design.{Design, Stage, look_of, with_design, change_entry}
+use Rattle.flat_unfolding.specs.Design.{Design, Stage, look_of, with_design, change_entry, change_from}
 use Rattle.flat_unfolding.specs.Expressions.{Term, read}
 use Rattle.flat_unfolding.specs.Starts.{Starts, with_starts, start_of, initial_starts, so_far}
 use Rattle.flat_unfolding.specs.Wires.{assign_item, gate_item}
 use Rattle.flat_unfolding.specs.Processes.{always_item}
-use Rattle.flat_unfolding.specs.Unfolding.{Visit, value_item, declared_value, item_of, directed_port, top_port, top_ports, top_input}
+use Rattle.flat_unfolding.specs.Signals.{from_outside}
+use Rattle.flat_unfolding.specs.Unfolding.{Visit, value_item, declared_value, item_of, directed_port, top_port, top_ports, declared_reset, with_resets}
 use Rattle.flat_unfolding.proofs.Steps.{judged_is, good_is, good_then, some_is}
 use Rattle.flat_unfolding.proofs.Entries.{same_length}
 use Rattle.flat_form.specs.Sizes.{is_word}
@@ -116,32 +116,51 @@ changed-fit f t d e is h k = record {
 }
 
 -- the ports of the top
-directed-length : (resets : List ResetPin) (d : Design) (s : ℕ) (side : Direction) → length (directed_port resets d s side).entries ≡ length d.entries
-directed-length resets d s inward = same_length (top_input resets) s d.entries
-directed-length resets d s inner = refl
-directed-length resets d s outward = refl
+directed-length : (d : Design) (s : ℕ) (side : Direction) → length (directed_port d s side).entries ≡ length d.entries
+directed-length d s inward = same_length from_outside s d.entries
+directed-length d s inner = refl
+directed-length d s outward = refl
 
-pub port-length : (resets : List ResetPin) (d : Design) (m : Option Meaning) → length (top_port resets d m).entries ≡ length d.entries
-port-length resets d (Some (a_signal s)) = directed-length resets d s (direction_at d.entries s)
-port-length resets d (Some (a_param q)) = refl
-port-length resets d (Some (a_memory a)) = refl
-port-length resets d (Some no_value) = refl
-port-length resets d None = refl
+pub port-length : (d : Design) (m : Option Meaning) → length (top_port d m).entries ≡ length d.entries
+port-length d (Some (a_signal s)) = directed-length d s (direction_at d.entries s)
+port-length d (Some (a_param q)) = refl
+port-length d (Some (a_memory a)) = refl
+port-length d (Some no_value) = refl
+port-length d None = refl
 
-directed-fit : (resets : List ResetPin) (d : Design) (s : ℕ) (side : Direction) → IsFitDesign d → IsFitDesign (directed_port resets d s side)
-directed-fit resets d s inward h = changed-fit (top_input resets) s d (directed_port resets d s inward) refl (λ a. refl) h
-directed-fit resets d s inner h = record { entries = h.entries; few = h.few }
-directed-fit resets d s outward h = record { entries = h.entries; few = h.few }
+directed-fit : (d : Design) (s : ℕ) (side : Direction) → IsFitDesign d → IsFitDesign (directed_port d s side)
+directed-fit d s inward h = changed-fit from_outside s d (directed_port d s inward) refl (λ a. refl) h
+directed-fit d s inner h = record { entries = h.entries; few = h.few }
+directed-fit d s outward h = record { entries = h.entries; few = h.few }
 
-pub port-fit : (resets : List ResetPin) (d : Design) (m : Option Meaning) → IsFitDesign d → IsFitDesign (top_port resets d m)
-port-fit resets d (Some (a_signal s)) h = directed-fit resets d s (direction_at d.entries s) h
-port-fit resets d (Some (a_param q)) h = h
-port-fit resets d (Some (a_memory a)) h = h
-port-fit resets d (Some no_value) h = h
-port-fit resets d None h = h
+pub port-fit : (d : Design) (m : Option Meaning) → IsFitDesign d → IsFitDesign (top_port d m)
+port-fit d (Some (a_signal s)) h = directed-fit d s (direction_at d.entries s) h
+port-fit d (Some (a_param q)) h = h
+port-fit d (Some (a_memory a)) h = h
+port-fit d (Some no_value) h = h
+port-fit d None h = h
 
-pub top-fit : (resets : List ResetPin) (xs : List Text) (s : Stage) → IsFit (look_of s) → IsFit (look_of (top_ports resets xs s))
-top-fit resets [] s h = h
-top-fit resets (x ∷ xs) s h =
-    let m = meaning_in s.names x in let d = top_port resets s.design m in
-    top-fit resets xs (with_design s d) (fit-stage s.names d (subst (AreFitNames s.names) (sym (port-length resets s.design m)) (names-fit s h)) (port-fit resets s.design m (design-fit s h)))
+pub top-fit : (xs : List Text) (s : Stage) → IsFit (look_of s) → IsFit (look_of (top_ports xs s))
+top-fit [] s h = h
+top-fit (x ∷ xs) s h =
+    let m = meaning_in s.names x in let d = top_port s.design m in
+    top-fit xs (with_design s d) (fit-stage s.names d (subst (AreFitNames s.names) (sym (port-length s.design m)) (names-fit s h)) (port-fit s.design m (design-fit s h)))
+
+-- the resets that are declared
+pub from-length : (f : n.Entry → n.Entry) (t more : ℕ) (es : List n.Entry) → length (change_from f t more es) ≡ length es
+from-length f t zero es = refl
+from-length f t (suc more) es = from-length f (suc t) more (change_entry f t es) ∙ same_length f t es
+
+from-fit : (f : n.Entry → n.Entry) → ((a : n.Entry) → (f a).range ≡ a.range) → (t more : ℕ) (es : List n.Entry) → ((s : ℕ) (a : n.Entry) → slice_get es s ≡ Some a → is_word (width_of a.range) ≡ true)
+    → (s : ℕ) (a : n.Entry) → slice_get (change_from f t more es) s ≡ Some a → is_word (width_of a.range) ≡ true
+from-fit f h t zero es k = k
+from-fit f h t (suc more) es k = from-fit f h (suc t) more (change_entry f t es) (entry-after f t es h k)
+
+pub resets-length : (first : ℕ) (s : Stage) → length (with_resets first s).design.entries ≡ length s.design.entries
+resets-length first s = from-length (declared_reset s.design.pins) first (length s.design.entries - first) s.design.entries
+
+pub resets-fit : (first : ℕ) (s : Stage) → IsFit (look_of s) → IsFit (look_of (with_resets first s))
+resets-fit first s h =
+    let d = s.design in let e = (with_resets first s).design in let f = declared_reset d.pins in let same = sym (resets-length first s) in
+    fit-stage s.names e (subst (AreFitNames s.names) same (names-fit s h))
+    record { entries = from-fit f (λ a. refl) first (length d.entries - first) d.entries h.entries; few = subst (λ (c : ℕ). c ≤ 2 ^ 32) same h.few }

@@ -46,31 +46,31 @@ driven f resets u e s i x g l =
     sym (ap (λ m. is_undriven f m x i) k) ∙ no_bit_of 310 (is_undriven f) 0 f.signals u d.2 s i x g l
 
 -- an unfolding had its drivers tried
-module _ (modules : List ModuleTree) (top : Text) (resets : List ResetPin) (f : Flat) where
-  from_top_driven : (o : Option ModuleTree) → from_top modules resets top o ≡ good f → IsDriven f
+module _ (modules : List ModuleTree) (top : Text) (resets : List ResetPin) (named : List Text) (f : Flat) where
+  from_top_driven : (o : Option ModuleTree) → from_top modules resets named top o ≡ good f → IsDriven f
   from_top_driven None e = absurd (search (rules, e))
   from_top_driven (Some m) e =
-      let g = good_then (visit modules (length modules) [] (m.name ∷ []) m [] (top_ports resets (header_of m)) no_design) (λ (s : Stage). finished s.design) f e in
-      let t = tried g.0.design f g.2 in driven f g.0.design.resets t.0 t.1
+      let g = good_then (visit modules (length modules) [] (m.name ∷ []) m [] (top_ports (header_of m)) (no_design resets)) (λ (s : Stage). finished named s.design) f e in
+      let t = tried named g.0.design f g.2 in driven f g.0.design.resets t.0 t.1
 
-  unfolded_driven : unfolded modules top resets ≡ good f → IsDriven f
+  unfolded_driven : unfolded modules top resets named ≡ good f → IsDriven f
   unfolded_driven e =
-      let g = good_then (modules_differ modules) (λ u. from_top modules resets top (module_named top modules)) f e in
+      let g = good_then (modules_differ modules) (λ u. from_top modules resets named top (module_named top modules)) f e in
       from_top_driven (module_named top modules) g.2
 
-pub flattened : (modules : List ModuleTree) → IsSourceFormed modules → IsSourceVisible modules → (top : Text) (resets : List ResetPin) (f : code.Flat)
-    → unfolded modules top resets ≡ good (flat_of f) → KeepsSizes f → IsFlattened f
-flattened modules formed visible top resets f e sizes = record {
-  sized = well_sized_law modules formed top resets f e sizes;
-  sound = sound_law modules formed top resets (flat_of f) e;
-  well_clocked = well_clocked_law modules formed top resets (flat_of f) e;
-  driven = unfolded_driven modules top resets (flat_of f) e;
-  names = names_differ modules visible top resets (flat_of f) e;
-  few = (limits_law modules top resets (flat_of f) e).1;
+pub flattened : (modules : List ModuleTree) → IsSourceFormed modules → IsSourceVisible modules → (top : Text) (resets : List ResetPin) (named : List Text) (f : code.Flat)
+    → unfolded modules top resets named ≡ good (flat_of f) → KeepsSizes f → IsFlattened f
+flattened modules formed visible top resets named f e sizes = record {
+  sized = well_sized_law modules formed top resets named f e sizes;
+  sound = sound_law modules formed top resets named (flat_of f) e;
+  well_clocked = well_clocked_law modules formed top resets named (flat_of f) e;
+  driven = unfolded_driven modules top resets named (flat_of f) e;
+  names = names_differ modules visible top resets named (flat_of f) e;
+  few = (limits_law modules top resets named (flat_of f) e).1;
 }
 
 -- so has what flattening answers
-pub fact : (modules : List ModuleTree) → IsSourceFormed modules → IsSourceVisible modules → (top : Text) (resets : List ResetPin) (r : Result code.Flat Stop)
-    → IsUnfolding (unfolded modules top resets) r → IfOk r KeepsSizes → IfOk r IsFlattened
-fact modules formed visible top resets (Ok f) e sizes = flattened modules formed visible top resets f e sizes
-fact modules formed visible top resets (Err x) e sizes = tt
+pub fact : (modules : List ModuleTree) → IsSourceFormed modules → IsSourceVisible modules → (top : Text) (resets : List ResetPin) (named : List Text) (r : Result code.Flat Stop)
+    → IsUnfolding (unfolded modules top resets named) r → IfOk r KeepsSizes → IfOk r IsFlattened
+fact modules formed visible top resets named (Ok f) e sizes = flattened modules formed visible top resets named f e sizes
+fact modules formed visible top resets named (Err x) e sizes = tt

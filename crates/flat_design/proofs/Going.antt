@@ -18,8 +18,7 @@ use Rattle.verilog_ast.specs.declared.ItemBody.TheVariants as bodies
 use Rattle.verilog_reading.specs.SourceTree.{ConnsTree, instance, ItemTree, body_of, item_of, ModuleTree, module_of}
 use Rattle.flat_unfolding.specs.Outcome.{Text, Outcome, good, then_}
 use Rattle.flat_unfolding.specs.Names.{Names, no_value, is_declared, printed_part, Look}
-use Rattle.flat_unfolding.specs.Parameters.{parameters}
-use Rattle.flat_unfolding.specs.Declarations.{header_decls, declarations}
+use Rattle.flat_unfolding.specs.Declarations.{header_decls}
 use Rattle.flat_unfolding.specs.Instances.{Link, overrides_of, links_of, connected, leaning_of}
 use Rattle.flat_unfolding.specs.Design.{Design, Stage, look_of}
 use Rattle.flat_unfolding.specs.Unfolding.{module_named, item, header_values, visit}
@@ -32,7 +31,7 @@ use Rattle.flat_names.specs.Designs.{ShowsNames, ShowsDesign, ShowsStage, Meets,
 use Rattle.flat_design.specs.declared.instance.Given.{Given}
 use Rattle.flat_design.specs.declared.visit.Open.{Open}
 use Rattle.flat_design.specs.declared.visit.Visit.{Visit}
-use Rattle.flat_design.specs.Visiting.{Frame, visited, closed, IsClosed, leaning_in, rest_of, item_before, part_of, prefix_of, IsFrame, AreFrames, AreFitNames, IsVisiting, IsPlain, next_of, IsGrown, Goes, Begins, Table, Enters, Finds, AreEnds, end_rules}
+use Rattle.flat_design.specs.Visiting.{Frame, visited, closed, IsClosed, leaning_in, rest_of, item_before, part_of, prefix_of, IsFrame, AreFrames, AreFitNames, IsVisiting, IsPlain, next_of, IsGrown, Goes, begun, Begins, Table, Enters, Finds, AreEnds, end_rules}
 use Rattle.flat_design.proofs.Fits.{fit-stage, KeepsLook, still-fit, values-look}
 use Rattle.flat_design.proofs.Connected.{connected-fit, connected-count}
 use Rattle.flat_design.proofs.Stacks.{AreNamedApart, innermost, left-behind}
@@ -291,26 +290,26 @@ module _ (pins : List ResetPin) (modules : List Module) (f : Frame) (fs : List F
       abbrev renamed : List Open
       renamed = opens ++ record o { names = names } ∷ []
 
-      abbrev begun : Outcome Stage
-      begun = then_ (parameters (overrides_of (look_of the_stage) t params) t (record { names = []; design = d })) (λ (s : Stage). declarations (prefix_of modules renamed) t s)
+      abbrev entry : Outcome Stage
+      entry = begun (overrides_of (look_of the_stage) t params) (prefix_of modules renamed) t d
 
       to-come : Stage → Outcome Design
       to-come s = then_ (header_values t (connected (links_of (look_of the_stage) t ports) s)) (λ (u : Stage). rest_of (map module_of modules)
           (record { tree = t; names = u.names; items = t.items; prefix = f.prefix ++ printed_part x ++ codes "."; depth = f.depth - 1; given = leaning_of (look_of the_stage) t params ports; place = Some p } ∷ record f { names = f.names ++ ((x, no_value) ∷ []) } ∷ fs) u.design)
 
-      next-is : next_of (map module_of modules) f fs d the_item ≡ then_ begun to-come
+      next-is : next_of (map module_of modules) f fs d the_item ≡ then_ entry to-come
       unfolding to-come
       next-is =
           instance-is (map module_of modules) f fs d p t child params x ports (f.depth - 1) deep found.named found.new found.fresh right
-          ∙ ap (λ (prefix : Text). then_ (then_ (parameters (overrides_of (look_of the_stage) t params) t (record { names = []; design = d })) (λ (s : Stage). declarations prefix t s)) to-come)
+          ∙ ap (λ (prefix : Text). then_ (begun (overrides_of (look_of the_stage) t params) prefix t d) to-come)
           (prefix-below pins modules apart opens o marks kept f fs d h x names shows part)
 
       -- its parameters or declarations are refused
-      pub not-begun : (S : Type 0) (v : Visit) (e : Stop) (kept' : table.Design) → Begins {S = S} pins begun (Err e) kept' → Goes pins modules (next_of (map module_of modules) f fs d the_item) (Err e) v
+      pub not-begun : (S : Type 0) (v : Visit) (e : Stop) (kept' : table.Design) → Begins {S = S} pins entry (Err e) kept' → Goes pins modules (next_of (map module_of modules) f fs d the_item) (Err e) v
       not-begun S v (Refused q) kept' b = next-is ∙ ap (λ (r : Outcome Stage). then_ r to-come) b
       not-begun S v Memory kept' b = tt
 
-      module _ (s : Stage) (is : begun ≡ good s) (fit : IsFit (look_of s)) where
+      module _ (s : Stage) (is : entry ≡ good s) (fit : IsFit (look_of s)) where
         abbrev links : List Link
         links = links_of (look_of the_stage) t ports
 

@@ -1,11 +1,15 @@
 pub mod Begun
+pub mod Changes
 pub mod Connected
 pub mod Counted
+pub mod DeclaredResets
 pub mod Deep
 pub mod Entered
 pub mod Entering
 pub mod Finished
 pub mod Fits
+pub mod FreeSignals
+pub mod Freed
 pub mod Going
 pub mod HeaderValues
 pub mod Joined
@@ -17,7 +21,7 @@ pub mod Longer
 pub mod Overrides
 pub mod Pins
 pub mod Places
-pub mod Resets
+pub mod Resolving
 pub mod Shown
 pub mod Sides
 pub mod Stacks

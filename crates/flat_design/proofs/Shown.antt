@@ -6,7 +6,7 @@ use Rattle.flat_unfolding.specs.Names.{width_at}
 use Rattle.flat_unfolding.proofs.Steps.{some_is}
 use Rattle.flat_names.specs.declared.design.Entry.{Entry}
 use Rattle.flat_names.specs.Looks.{Seen, seen, shown}
-use Rattle.flat_design.proofs.Resets.{heads}
+use Rattle.flat_design.proofs.Resolving.{heads}
 
 -- the width of a signal that is there
 pub width-shown : (xs : List Entry) (es : List n.Entry) → map seen xs ≡ map shown es → (s : ℕ) (x : Entry) → slice_get xs s ≡ Some x → x.width ≡ width_at es s

@@ -10,8 +10,7 @@ use Rattle.cdc_base.specs.declared.fault.Stop.TheVariants.{Refused, Memory}
 use Rattle.verilog_ast.specs.declared.Module.{Module}
 use Rattle.verilog_reading.specs.SourceTree.{ModuleTree, module_of}
 use Rattle.flat_unfolding.specs.Outcome.{Text, Outcome, good, then_}
-use Rattle.flat_unfolding.specs.Parameters.{parameters}
-use Rattle.flat_unfolding.specs.Declarations.{header_of, header_decls, declarations}
+use Rattle.flat_unfolding.specs.Declarations.{header_of, header_decls}
 use Rattle.flat_unfolding.specs.Design.{Design, Stage, look_of, no_design}
 use Rattle.flat_unfolding.specs.Unfolding.{header_values, visit, top_ports}
 use Rattle.flat_names.specs.declared.design.Design as table
@@ -22,7 +21,7 @@ use Rattle.flat_declarations.specs.Declaring.{override_of, given_in, IsGivenSize
 use Rattle.flat_design.specs.declared.instance.Given.{Given}
 use Rattle.flat_design.specs.declared.visit.Open.{Open}
 use Rattle.flat_design.specs.declared.visit.Visit.{Visit}
-use Rattle.flat_design.specs.Visiting.{Frame, leaning_in, rest_of, AreMarked, AreFitNames, IsFitDesign, IsVisiting, Goes, Begins, Table, Enters}
+use Rattle.flat_design.specs.Visiting.{Frame, leaning_in, rest_of, AreMarked, AreFitNames, IsFitDesign, IsVisiting, Goes, begun, Begins, Table, Enters}
 use Rattle.flat_design.proofs.Fits.{names-fit, design-fit, still-fit, values-look, top-fit}
 use Rattle.flat_design.proofs.Stacks.{AreNamedApart, mark-entered}
 use Rattle.flat_design.proofs.Visits.{visit-is}
@@ -38,16 +37,16 @@ module _ (pins : List ResetPin) (modules : List Module) (apart : AreNamedApart m
   t = module_of m
 
   abbrev pub top_begun : Outcome Stage
-  top_begun = then_ (parameters [] t (record { names = []; design = no_design })) (λ (s : Stage). declarations [] t s)
+  top_begun = begun [] [] t (no_design pins)
 
   abbrev pub top_visit : Outcome Design
-  top_visit = then_ (visit (map module_of modules) (length modules) [] (m.name ∷ []) t [] (top_ports pins (header_of t)) no_design) (λ (s : Stage). good s.design)
+  top_visit = then_ (visit (map module_of modules) (length modules) [] (m.name ∷ []) t [] (top_ports (header_of t)) (no_design pins)) (λ (s : Stage). good s.design)
 
   abbrev depth : ℕ
   depth = length modules - 1
 
   to-come : Stage → Outcome Design
-  to-come s = then_ (header_values t (top_ports pins (header_of t) s)) (λ (u : Stage). rest_of (map module_of modules) (record { tree = t; names = u.names; items = t.items; prefix = []; depth = depth; given = []; place = None } ∷ []) u.design)
+  to-come s = then_ (header_values t (top_ports (header_of t) s)) (λ (u : Stage). rest_of (map module_of modules) (record { tree = t; names = u.names; items = t.items; prefix = []; depth = depth; given = []; place = None } ∷ []) u.design)
 
   deep : length modules ≡ suc depth
   deep = let l = slice_get_within modules top m at in omega (arith, l)
@@ -55,8 +54,8 @@ module _ (pins : List ResetPin) (modules : List Module) (apart : AreNamedApart m
   top-is : top_visit ≡ then_ top_begun to-come
   unfolding to-come
   top-is =
-      ap (λ (k : ℕ). then_ (visit (map module_of modules) k [] (m.name ∷ []) t [] (top_ports pins (header_of t)) no_design) (λ (s : Stage). good s.design)) deep
-      ∙ visit-is (map module_of modules) depth [] (m.name ∷ []) t [] (top_ports pins (header_of t)) no_design (λ (s : Stage). good s.design)
+      ap (λ (k : ℕ). then_ (visit (map module_of modules) k [] (m.name ∷ []) t [] (top_ports (header_of t)) (no_design pins)) (λ (s : Stage). good s.design)) deep
+      ∙ visit-is (map module_of modules) depth [] (m.name ∷ []) t [] (top_ports (header_of t)) (no_design pins) (λ (s : Stage). good s.design)
 
   pub top-not-begun : (S : Type 0) (e : Stop) (kept : table.Design) (P : Design → Type 0) → Begins {S = S} pins top_begun (Err e) kept → Ends P top_visit (Err e)
   top-not-begun S (Refused f) kept P b = top-is ∙ ap (λ (o : Outcome Stage). then_ o to-come) b
@@ -67,20 +66,20 @@ module _ (pins : List ResetPin) (modules : List Module) (apart : AreNamedApart m
     begins = top-is ∙ ap (λ (o : Outcome Stage). then_ o to-come) is
 
     -- refused by a start value in its header
-    pub top-refused : (inner : Table) (given : Given) (old v : Visit) (e : Stop) (P : Design → Type 0) → Enters pins top inner given old (header_values t (top_ports pins (header_of t) s)) (Err e) v → Ends P top_visit (Err e)
+    pub top-refused : (inner : Table) (given : Given) (old v : Visit) (e : Stop) (P : Design → Type 0) → Enters pins top inner given old (header_values t (top_ports (header_of t) s)) (Err e) v → Ends P top_visit (Err e)
     unfolding to-come
     top-refused inner given old v (Refused f) P h = begins ∙ ap (λ (o : Outcome Stage). then_ o (λ (u : Stage). rest_of (map module_of modules) (record { tree = t; names = u.names; items = t.items; prefix = []; depth = depth; given = []; place = None } ∷ []) u.design)) h
     top-refused inner given old v Memory P h = tt
 
     pub top-entered : (inner : Table) (given : Given) (old v : Visit) → map leaning_in given.params.items ++ map leaning_in given.ports.items ≡ [] → given.place ≡ None → old.open.items ≡ [] → old.is_open.items ≡ map (λ (q : Module). false) modules
-        → Enters pins top inner given old (header_values t (top_ports pins (header_of t) s)) (Ok tt) v → Goes pins modules top_visit (Ok tt) v
+        → Enters pins top inner given old (header_values t (top_ports (header_of t) s)) (Ok tt) v → Goes pins modules top_visit (Ok tt) v
     unfolding to-come
     top-entered inner given old v leans place none marks h =
         let w = h.0 in
         let frame : Frame = record { tree = t; names = w.names; items = t.items; prefix = []; depth = depth; given = []; place = None } in
         let opened : Open = record { «module» = top; names = inner; next = 0; given = given } in
-        let looks = values-look t.place (top_ports pins (header_of t) s) (header_decls t) w h.1 in
-        let well = still-fit (top_ports pins (header_of t) s) w looks (top-fit pins (header_of t) s fit) in
+        let looks = values-look t.place (top_ports (header_of t) s) (header_decls t) w h.1 in
+        let well = still-fit (top_ports (header_of t) s) w looks (top-fit (header_of t) s fit) in
         let d = deep in
         let visiting : IsVisiting pins modules (opened ∷ []) (slice_set (map (λ (q : Module). false) modules) top true) v.design (frame ∷ []) w.design = record {
           frames_are = ([], opened, refl, record { tree = m; found = at; is = refl; items = refl; names = h.2.names; given = leans; place = place }, refl, refl);
@@ -106,5 +105,5 @@ no-overrides given h = record { found = λ x. ap (option_map override_of) (h x);
 pub no-overrides-fit : AreFitOverrides []
 no-overrides-fit x o e = absurd (search (rules, e))
 
-pub nothing-fit : IsFitDesign no_design
-nothing-fit = record { entries = λ s a e. absurd (search (rules, e)); few = let l : 0 ≤ 2 ^ 32 = omega arith in l }
+pub nothing-fit : (pins : List ResetPin) → IsFitDesign (no_design pins)
+nothing-fit pins = record { entries = λ s a e. absurd (search (rules, e)); few = let l : 0 ≤ 2 ^ 32 = omega arith in l }

@@ -11,7 +11,8 @@ use Rattle.flat_unfolding.specs.Names.{Meaning, a_param, a_signal, a_memory, no_
 use Rattle.flat_unfolding.specs.Targets.{is_input}
 use Rattle.flat_unfolding.specs.Design as u
 use Rattle.flat_unfolding.specs.Design.{Stage, with_design, change_entry}
-use Rattle.flat_unfolding.specs.Unfolding.{top_input, directed_port, top_port, top_ports}
+use Rattle.flat_unfolding.specs.Signals.{from_outside}
+use Rattle.flat_unfolding.specs.Unfolding.{directed_port, top_port, top_ports}
 use Rattle.flat_unfolding.proofs.Steps.{some_is}
 use Rattle.flat_names.specs.declared.design.Design.{Design}
 use Rattle.flat_names.specs.declared.design.Entry.{Entry}
@@ -26,6 +27,7 @@ use Rattle.flat_design.proofs.Fits.{port-length}
 pub shows-output : (pins : List ResetPin) (k : Design) (d : u.Design) (s : ℕ) (v : Vec ℕ Global) → ShowsDesign pins k d → v.items ≡ k.outputs.items ++ s ∷ []
     → ShowsDesign pins (record k { outputs = v }) (record d { outputs = d.outputs ++ (s ∷ []) })
 shows-output pins k d s v h e = record {
+  declared = h.declared;
   entries = h.entries;
   may_repeat = h.may_repeat;
   signals = h.signals;
@@ -41,15 +43,15 @@ shows-output pins k d s v h e = record {
 }
 
 -- a port by its direction
-pub in-port : (pins : List ResetPin) (d : u.Design) (s : ℕ) (side : Direction) → is_input side ≡ true → directed_port pins d s side ≡ record d { entries = change_entry (top_input pins) s d.entries }
-in-port pins d s inward e = refl
-in-port pins d s inner e = absurd (search (rules, e))
-in-port pins d s outward e = absurd (search (rules, e))
+pub in-port : (d : u.Design) (s : ℕ) (side : Direction) → is_input side ≡ true → directed_port d s side ≡ record d { entries = change_entry from_outside s d.entries }
+in-port d s inward e = refl
+in-port d s inner e = absurd (search (rules, e))
+in-port d s outward e = absurd (search (rules, e))
 
-pub out-port : (pins : List ResetPin) (d : u.Design) (s : ℕ) (side : Direction) → is_input side ≡ false → directed_port pins d s side ≡ record d { outputs = d.outputs ++ (s ∷ []) }
-out-port pins d s inward e = absurd (search (rules, e))
-out-port pins d s inner e = refl
-out-port pins d s outward e = refl
+pub out-port : (d : u.Design) (s : ℕ) (side : Direction) → is_input side ≡ false → directed_port d s side ≡ record d { outputs = d.outputs ++ (s ∷ []) }
+out-port d s inward e = absurd (search (rules, e))
+out-port d s inner e = refl
+out-port d s outward e = refl
 
 -- a port by what its name stands for
 pub signal-port : (m : Option Meaning) (s : ℕ) → if_signal m ≡ Some s → m ≡ Some (a_signal s)
@@ -59,30 +61,30 @@ signal-port (Some (a_signal t)) s e = ap (λ i. Some (a_signal i)) (some_is t s 
 signal-port (Some (a_memory a)) s e = absurd (search (rules, e))
 signal-port (Some no_value) s e = absurd (search (rules, e))
 
-no-port : (pins : List ResetPin) (d : u.Design) (m : Option Meaning) → if_signal m ≡ None → top_port pins d m ≡ d
-no-port pins d None e = refl
-no-port pins d (Some (a_param q)) e = refl
-no-port pins d (Some (a_signal t)) e = absurd (search (rules, e))
-no-port pins d (Some (a_memory a)) e = refl
-no-port pins d (Some no_value) e = refl
+no-port : (d : u.Design) (m : Option Meaning) → if_signal m ≡ None → top_port d m ≡ d
+no-port d None e = refl
+no-port d (Some (a_param q)) e = refl
+no-port d (Some (a_signal t)) e = absurd (search (rules, e))
+no-port d (Some (a_memory a)) e = refl
+no-port d (Some no_value) e = refl
 
 module _ (pins : List ResetPin) (table : Table) (old new : Design) (x : Text) (xs : List Text) (t : Stage) (h : ShowsStage pins table old t) (fit : AreFitNames t.names (length t.design.entries)) where
   -- what is left of the ports once the first is done
   abbrev pub IsPortDone : Type 0
-  IsPortDone = (u : Stage) × (top_ports pins (x ∷ xs) t ≡ top_ports pins xs u) × ShowsStage pins table new u × AreFitNames u.names (length u.design.entries)
+  IsPortDone = (u : Stage) × (top_ports (x ∷ xs) t ≡ top_ports xs u) × ShowsStage pins table new u × AreFitNames u.names (length u.design.entries)
 
-  done : ShowsDesign pins new (top_port pins t.design (meaning_in t.names x)) → IsPortDone
+  done : ShowsDesign pins new (top_port t.design (meaning_in t.names x)) → IsPortDone
   done k =
       let m = meaning_in t.names x in
-      (with_design t (top_port pins t.design m), refl, record { names = h.names; design = k }, subst (AreFitNames t.names) (sym (port-length pins t.design m)) fit)
+      (with_design t (top_port t.design m), refl, record { names = h.names; design = k }, subst (AreFitNames t.names) (sym (port-length t.design m)) fit)
 
-  pub port-done : (s : ℕ) → Some s ≡ if_signal (meaning_in t.names x) → (s < length t.design.entries → ShowsDesign pins new (top_port pins t.design (Some (a_signal s)))) → IsPortDone
+  pub port-done : (s : ℕ) → Some s ≡ if_signal (meaning_in t.names x) → ShowsDesign pins new (top_port t.design (Some (a_signal s))) → IsPortDone
   port-done s e k =
       let m = signal-port (meaning_in t.names x) s (sym e) in
-      done (subst (λ (v : Option Meaning). ShowsDesign pins new (top_port pins t.design v)) (sym m) (k (fit.signals x s m)))
+      done (subst (λ (v : Option Meaning). ShowsDesign pins new (top_port t.design v)) (sym m) k)
 
   pub port-passed : None ≡ if_signal (meaning_in t.names x) → new ≡ old → IsPortDone
-  port-passed e same = done (subst (ShowsDesign pins new) (sym (no-port pins t.design (meaning_in t.names x) (sym e))) (subst (λ (k : Design). ShowsDesign pins k t.design) (sym same) h.design))
+  port-passed e same = done (subst (ShowsDesign pins new) (sym (no-port t.design (meaning_in t.names x) (sym e))) (subst (λ (k : Design). ShowsDesign pins k t.design) (sym same) h.design))
 
 -- ---- directions
 

@@ -21,38 +21,38 @@ as-many : (modules : List Module) → length (map module_of modules) ≡ length 
 as-many [] = refl
 as-many (m ∷ modules) = ap suc (as-many modules)
 
-module _ (modules : List Module) (top : Text) (resets : List ResetPin) where
+module _ (modules : List Module) (top : Text) (resets : List ResetPin) (named : List Text) where
   abbrev pub unfolding_of : Outcome meaning.Flat
-  unfolding_of = unfolded (map module_of modules) top resets
+  unfolding_of = unfolded (map module_of modules) top resets named
 
   -- two modules of one name
   pub not-listed : (e : Stop) → Lists modules (Err e) → IsUnfolding unfolding_of (Err e)
-  not-listed (Refused f) h = ap (λ (o : Outcome (Unit {0})). then_ o (λ u. from_top (map module_of modules) resets top (module_named top (map module_of modules)))) h
+  not-listed (Refused f) h = ap (λ (o : Outcome (Unit {0})). then_ o (λ u. from_top (map module_of modules) resets named top (module_named top (map module_of modules)))) h
   not-listed Memory h = tt
 
   module _ (differ : modules_differ (map module_of modules) ≡ good tt) where
-    goes-on : unfolding_of ≡ from_top (map module_of modules) resets top (module_named top (map module_of modules))
-    goes-on = ap (λ (o : Outcome (Unit {0})). then_ o (λ u. from_top (map module_of modules) resets top (module_named top (map module_of modules)))) differ
+    goes-on : unfolding_of ≡ from_top (map module_of modules) resets named top (module_named top (map module_of modules))
+    goes-on = ap (λ (o : Outcome (Unit {0})). then_ o (λ u. from_top (map module_of modules) resets named top (module_named top (map module_of modules)))) differ
 
     -- no top
     pub no-top : module_named top (map module_of modules) ≡ None → (r : Result Flat Stop) → Refuses (record { number = 301; place = None; name = top }) r → IsUnfolding unfolding_of r
     no-top none (Ok f) h = absurd h
-    no-top none (Err (Refused f)) h = goes-on ∙ ap (from_top (map module_of modules) resets top) none ∙ ap bad (sym h)
+    no-top none (Err (Refused f)) h = goes-on ∙ ap (from_top (map module_of modules) resets named top) none ∙ ap bad (sym h)
     no-top none (Err Memory) h = tt
 
-    module _ (m : Module) (named : module_named top (map module_of modules) ≡ Some (module_of m)) where
+    module _ (m : Module) (is-top : module_named top (map module_of modules) ≡ Some (module_of m)) where
       abbrev pub visit_of : Outcome Design
-      visit_of = then_ (visit (map module_of modules) (length modules) [] (m.name ∷ []) (module_of m) [] (top_ports resets (header_of (module_of m))) no_design) (λ (s : Stage). good s.design)
+      visit_of = then_ (visit (map module_of modules) (length modules) [] (m.name ∷ []) (module_of m) [] (top_ports (header_of (module_of m))) (no_design resets)) (λ (s : Stage). good s.design)
 
-      visits : unfolding_of ≡ then_ visit_of law.finished
-      visits = goes-on ∙ ap (from_top (map module_of modules) resets top) named
-          ∙ ap (λ (k : ℕ). then_ (visit (map module_of modules) k [] (m.name ∷ []) (module_of m) [] (top_ports resets (header_of (module_of m))) no_design) (λ (s : Stage). law.finished s.design)) (as-many modules)
-          ∙ sym (then-then (visit (map module_of modules) (length modules) [] (m.name ∷ []) (module_of m) [] (top_ports resets (header_of (module_of m))) no_design) (λ (s : Stage). good s.design) law.finished)
+      visits : unfolding_of ≡ then_ visit_of (law.finished named)
+      visits = goes-on ∙ ap (from_top (map module_of modules) resets named top) is-top
+          ∙ ap (λ (k : ℕ). then_ (visit (map module_of modules) k [] (m.name ∷ []) (module_of m) [] (top_ports (header_of (module_of m))) (no_design resets)) (λ (s : Stage). law.finished named s.design)) (as-many modules)
+          ∙ sym (then-then (visit (map module_of modules) (length modules) [] (m.name ∷ []) (module_of m) [] (top_ports (header_of (module_of m))) (no_design resets)) (λ (s : Stage). good s.design) (law.finished named))
 
       -- the visit is refused
       pub not-visited : (e : Stop) (P : Design → Type 0) → Ends P visit_of (Err e) → IsUnfolding unfolding_of (Err e)
-      not-visited (Refused f) P h = visits ∙ ap (λ (o : Outcome Design). then_ o law.finished) h
+      not-visited (Refused f) P h = visits ∙ ap (λ (o : Outcome Design). then_ o (law.finished named)) h
       not-visited Memory P h = tt
 
-      pub visited-is : (d : Design) → visit_of ≡ good d → unfolding_of ≡ law.finished d
-      visited-is d h = visits ∙ ap (λ (o : Outcome Design). then_ o law.finished) h
+      pub visited-is : (d : Design) → visit_of ≡ good d → unfolding_of ≡ law.finished named d
+      visited-is d h = visits ∙ ap (λ (o : Outcome Design). then_ o (law.finished named)) h

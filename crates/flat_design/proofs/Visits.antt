@@ -1,5 +1,5 @@
 -- Steps of a visit, by the definition.
-use Rattle.std.proofs.Common.{◌≡◌, ℕ, suc, Bool, true, false, List, [], ◌∷◌, ◌++◌, Option, Some, refl, ap, ◌∙◌, rules}
+use Rattle.std.proofs.Common.{◌≡◌, ℕ, suc, Bool, true, false, List, [], ◌∷◌, ◌++◌, length, Option, Some, refl, ap, ◌∙◌, rules}
 use Rattle.std.specs.Prelude.{codes}
 use Rattle.std.specs.List.{list_any}
 use Rattle.cdc_base.specs.declared.fault.Place.{Place}
@@ -12,8 +12,8 @@ use Rattle.flat_unfolding.specs.Design.{Design, Stage, look_of}
 use Rattle.flat_unfolding.specs.Parameters.{Overrides, parameters}
 use Rattle.flat_unfolding.specs.Declarations.{declarations}
 use Rattle.flat_unfolding.specs.Instances.{overrides_of, links_of, connected, leaning_of, is_short}
-use Rattle.flat_unfolding.specs.Unfolding.{module_named, instance_item, item, header_values, visit}
-use Rattle.flat_design.specs.Visiting.{Frame, visited, closed, rest_of, next_of, end_rules}
+use Rattle.flat_unfolding.specs.Unfolding.{module_named, instance_item, item, header_values, with_resets, visit}
+use Rattle.flat_design.specs.Visiting.{Frame, visited, closed, rest_of, next_of, begun, end_rules}
 
 pub then-then : {A B C : Type 0} (o : Outcome A) (f : A → Outcome B) (g : B → Outcome C) → then_ (then_ o f) g ≡ then_ o (λ a. then_ (f a) g)
 then-then (good a) f g = refl
@@ -48,26 +48,26 @@ unbroken : {B : Type 0} (order : Order) (p : Place) (bs : List Broken) (k : Unit
 unbroken order p [] k e = refl
 unbroken order p (b ∷ bs) k e = absurd (search (rules, e))
 
-regroup : {A B C D E : Type 0} (o : Outcome A) (f : A → Outcome B) (g : B → Outcome C) (h : C → Outcome D) (k : D → Outcome E)
-    → then_ (then_ o (λ a. then_ (f a) (λ b. then_ (g b) h))) k ≡ then_ (then_ o f) (λ b. then_ (g b) (λ c. then_ (h c) k))
-regroup (bad e) f g h k = refl
-regroup {B = B} {C = C} (good a) f g h k = go (f a)
+regroup : {A B C D E : Type 0} (o : Outcome A) (f : A → Outcome B) (w : B → B) (g : B → Outcome C) (h : C → Outcome D) (k : D → Outcome E)
+    → then_ (then_ o (λ a. then_ (f a) (λ b. then_ (g (w b)) h))) k ≡ then_ (then_ o (λ a. then_ (f a) (λ b. good (w b)))) (λ b. then_ (g b) (λ c. then_ (h c) k))
+regroup (bad e) f w g h k = refl
+regroup {B = B} {C = C} (good a) f w g h k = go (f a)
   where
     last : (o : Outcome C) → then_ (then_ o h) k ≡ then_ o (λ c. then_ (h c) k)
     last o = then-then o h k
 
-    go : (o : Outcome B) → then_ (then_ o (λ b. then_ (g b) h)) k ≡ then_ o (λ b. then_ (g b) (λ c. then_ (h c) k))
-    go (good b) = last (g b)
+    go : (o : Outcome B) → then_ (then_ o (λ b. then_ (g (w b)) h)) k ≡ then_ (then_ o (λ b. good (w b))) (λ b. then_ (g b) (λ c. then_ (h c) k))
+    go (good b) = last (g (w b))
     go (bad e) = refl
 
 module _ (modules : List ModuleTree) where
   -- the visit of a module goes on with the stack
   pub visit-is : (n : ℕ) (prefix : Text) (visiting : List Text) (m : ModuleTree) (given : Overrides) (ports : Stage → Stage) (d : Design) (k : Stage → Outcome Design)
       → then_ (visit modules (suc n) prefix visiting m given ports d) k
-      ≡ then_ (then_ (parameters given m (record { names = []; design = d })) (λ (s : Stage). declarations prefix m s))
+      ≡ then_ (begun given prefix m d)
       (λ (t : Stage). then_ (header_values m (ports t)) (λ (u : Stage). then_ (each (item modules visiting prefix (visit modules n)) u m.items) k))
   visit-is n prefix visiting m given ports d k =
-      regroup (parameters given m (record { names = []; design = d })) (λ (s : Stage). declarations prefix m s) (λ (t : Stage). header_values m (ports t))
+      regroup (parameters given m (record { names = []; design = d })) (λ (s : Stage). declarations prefix m s) (with_resets (length d.entries)) (λ (t : Stage). header_values m (ports t))
       (λ (u : Stage). each (item modules visiting prefix (visit modules n)) u m.items) k
 
   module _ (f : Frame) (fs : List Frame) (d : Design) (p : Place) (m : ModuleTree) (child : Text) (params : ConnsTree) (x : Text) (ports : ConnsTree) where
@@ -96,7 +96,7 @@ module _ (modules : List ModuleTree) where
 
     pub instance-is : (n : ℕ) → f.depth ≡ suc n → module_named child modules ≡ Some m → is_in (visited (f ∷ fs)) m.name ≡ false → is_declared f.names x ≡ false → end_rules here m params ports ≡ []
         → next_of modules f fs d (record { place = p; body = instance child params x ports })
-        ≡ then_ (then_ (parameters (overrides_of (look_of here) m params) m (record { names = []; design = d })) (λ (s : Stage). declarations below m s)) (entering n)
+        ≡ then_ (begun (overrides_of (look_of here) m params) below m d) (entering n)
     instance-is n depth named new fresh right =
         let g : Stage → Outcome Design = λ (s : Stage). rest_of modules (record f { names = s.names } ∷ fs) s.design in
         ap (λ (o : Option ModuleTree). then_ (instance_item modules (visited (f ∷ fs)) f.prefix (visit modules f.depth) here p o child params x ports) g) named

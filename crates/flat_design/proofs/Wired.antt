@@ -18,7 +18,7 @@ use Rattle.flat_form.proofs.Folds.{expr_of-Read, target_of-Whole}
 use Rattle.flat_unfolding.specs.Names as n
 use Rattle.flat_unfolding.specs.Outcome.{Text}
 use Rattle.flat_unfolding.specs.Names.{width_at, meaning_in}
-use Rattle.flat_unfolding.specs.Instances.{Link, into, out_of, into_port, out_of_port, connect_one, connect_all}
+use Rattle.flat_unfolding.specs.Instances.{Link, into, out_of, resolving_to, into_port, out_of_port, connect_one, connect_all}
 use Rattle.flat_unfolding.specs.Design as u
 use Rattle.flat_unfolding.specs.Design.{change_entry}
 use Rattle.flat_unfolding.specs.Widths.{width_step, width_of, keeps_sizes, target_step, target_keeps_sizes}
@@ -40,9 +40,9 @@ read-keeps s at w = ap (λ (k : Kept). k.right) (ap width_of (sym (e.rolls-Read 
 
 module _ (pins : List ResetPin) (d : Design) (v : Vec FlatAssign Global) (s : ℕ) where
   -- a port that is driven
-  pub drives-port : (o : u.Design) (link : Link) (x : FExpr) (q : Option Reset) → IsEnd pins (ends.Input x q) link → ((r : Option ResetPin) → IsReset pins q r → ShowsDesign pins d (record o { entries = change_entry (λ (a : n.Entry). record a { reset = r }) s o.entries }))
+  pub drives-port : (o : u.Design) (link : Link) (x : FExpr) (q : Option Reset) → IsEnd pins (ends.Input x q) link → ((r : Option ResetPin) → IsReset pins q r → ShowsDesign pins d (record o { entries = change_entry (resolving_to r) s o.entries }))
       → v.items ≡ d.assigns.items ++ (record { target = t.Whole s; value = x }) ∷ [] → ShowsDesign pins (record d { assigns = v }) (connect_at o s link)
-  drives-port o (into y w r) x q h k i = shows-assign pins d (record o { entries = change_entry (λ (a : n.Entry). record a { reset = r }) s o.entries }) (k r h.2) v (record { target = t.Whole s; value = x }) (Whole s) w i
+  drives-port o (into y w r) x q h k i = shows-assign pins d (record o { entries = change_entry (resolving_to r) s o.entries }) (k r h.2) v (record { target = t.Whole s; value = x }) (Whole s) w i
       record { target = λ z. target_of-Whole s; value = λ z. h.0; sizes = λ z. ap₂ (λ b c. b && c) (whole-keeps s) h.1 }
   drives-port o (out_of y w) x q h k i = absurd h
 

@@ -15,11 +15,11 @@ abbrev pub IsDriven : Flat → Type 0
 IsDriven f = (s i : ℕ) (x : Signal) → slice_get f.signals s ≡ Some x → i < x.width → is_undriven f s x i ≡ false
 
 -- Kept widths are sizes, numbers fit in theirs and selects lie in their signals; no bit has two drivers, and no process of wires a latch; each bit of
--- a register has one clocked process, and a register's processes one clock of one bit; what is read is driven; printed names differ; and there are 65,536 signals at most.
+-- a register has one clocked process, and a register's processes one clock of one bit; what is read is driven; printed names differ; and there are 1,048,576 signals at most.
 pub record IsFlattened (f : code.Flat) : Type 0 where
   pub sized : IsWellSized f
   pub sound : IsSound (flat_of f)
   pub well_clocked : IsWellClocked (flat_of f)
   pub driven : IsDriven (flat_of f)
   pub names : AreNames (names_in (flat_of f))
-  pub few : length f.signals ≤ 65536
+  pub few : length f.signals ≤ 1048576

@@ -1,3 +1,4 @@
 pub mod Finishing
 pub mod Visiting
 pub mod Flattened
+pub mod Freeing

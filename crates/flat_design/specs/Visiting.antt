@@ -26,12 +26,12 @@ use Rattle.flat_unfolding.specs.Outcome.{Text, Broken, Outcome, good, bad, then_
 use Rattle.flat_unfolding.specs.Names as n
 use Rattle.flat_unfolding.specs.Names.{Names, Direction, inner, inward, outward, width_of, width_at, is_declared, meaning_in, Look, printed_part}
 use Rattle.flat_unfolding.specs.Expressions.{as_constant, read}
-use Rattle.flat_unfolding.specs.Declarations.{header_of}
-use Rattle.flat_unfolding.specs.Parameters.{overridable}
+use Rattle.flat_unfolding.specs.Declarations.{header_of, declarations}
+use Rattle.flat_unfolding.specs.Parameters.{Overrides, overridable, parameters}
 use Rattle.flat_unfolding.specs.Instances as of
 use Rattle.flat_unfolding.specs.Instances.{Joint, joints, override, override_rules, connection_rules, port_direction, Link, into, out_of, linked, into_port, out_of_port, leaning_joint, takes_input, is_short}
 use Rattle.flat_unfolding.specs.Design.{Design, Stage, look_of}
-use Rattle.flat_unfolding.specs.Unfolding.{item, visit, instance_item, modules_differ, module_named}
+use Rattle.flat_unfolding.specs.Unfolding.{item, visit, with_resets, instance_item, modules_differ, module_named}
 use Rattle.flat_unfolding.specs.Unfolding as law
 use Rattle.flat_unfolding.specs.Widths.{keeps_sizes, target_keeps_sizes}
 use Rattle.flat_names.specs.declared.design.Entry as kept
@@ -315,7 +315,11 @@ Steps pins modules frames d (Ok true) v = Goes pins modules (rest_of (map module
 Steps pins modules frames d (Ok false) v = (frames ≡ []) × IsGrown pins v.design d
 Steps pins modules frames d (Err e) v = Goes pins modules (rest_of (map module_of modules) frames d) (Err e) v
 
--- the parameters and declarations of a module, or their refusal
+-- the parameters and declarations of a module, and the resets among these, in a design so far
+abbrev pub begun : Overrides → (prefix : Text) → ModuleTree → Design → Outcome Stage
+begun given prefix m d = then_ (parameters given m (record { names = []; design = d })) (λ (s : Stage). then_ (declarations prefix m s) (λ (t : Stage). good (with_resets (length d.entries) t)))
+
+-- a module is begun, or refused
 abbrev pub Begins : {S : Type 0} → List ResetPin → Outcome Stage → Result (IndexMap Text Meaning S) Stop → table.Design → Type 0
 Begins pins o (Ok names) d = (s : Stage) × (o ≡ good s) × ShowsStage pins names d s × IsFit (look_of s)
 Begins pins o (Err (Refused f)) d = o ≡ bad f
@@ -354,7 +358,7 @@ AreEnds pins table s p m params ports (Ok r) = (end_rules s m params ports ≡ [
 AreEnds pins table s p m params ports (Err (Refused f)) = judged by_number p (end_rules s m params ports) (tt {0}) ≡ bad f
 AreEnds pins table s p m params ports (Err Memory) = Unit {0}
 
--- ---- the top
+-- ---- resets
 
 abbrev pub pin_in : {S : Type 0} → IndexMap Text Reset S → Text → Option Reset
 pin_in table x = get_by (pointwise ◌==◌ x) table
@@ -363,15 +367,17 @@ pin_in table x = get_by (pointwise ◌==◌ x) table
 abbrev pub ShowsPins : {S : Type 0} → IndexMap Text Reset S → List ResetPin → Type 0
 ShowsPins table pins = (x : Text) → IsReset pins (pin_in table x) (find (λ (r : ResetPin). bytes_eq r.name x) pins)
 
--- a signal from outside, where it is this one
-abbrev pub outside_if : Bool → Signal → Signal
-outside_if true y = record y { kind = Input }
-outside_if false y = y
-
 -- an entry with this reset, where it is that of this signal
 abbrev pub resolved_if : Option Reset → Bool → kept.Entry → kept.Entry
 resolved_if q true x = record x { reset = q }
 resolved_if q false x = x
+
+-- ---- the top
+
+-- a signal from outside, where it is this one
+abbrev pub outside_if : Bool → Signal → Signal
+outside_if true y = record y { kind = Input }
+outside_if false y = y
 
 -- whether a module declares anything
 abbrev pub is_declaration : BodyTree → Bool

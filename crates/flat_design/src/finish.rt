@@ -1,4 +1,4 @@
-//! The end of the work: which signals are registers, and their start values.
+//! The end of the work: free signals, the trial of drivers, which signals are registers, and their start values.
 ghost use Rattle.std.specs.Prelude.{◌≡◌, ◌==◌, ℕ, List, option_map, slice_get, IfOk, IfErr};
 ghost use Rattle.refusals.specs.Numbers.{HasNumberIn, unfolding_numbers};
 ghost use Rattle.cdc_base.specs.declared.signal.ResetPin as pin;
@@ -14,7 +14,8 @@ ghost use Rattle.flat_names.specs.Designs.{ShowsDesign};
 ghost use Rattle.flat_design.specs.Visiting.{IsFitDesign};
 ghost use Rattle.flat_design.specs.Finishing.{HasKept, AreKept, finished_at};
 
-use cdc_base::{List, NoMemory, Signal, Stop};
+use crate::free::mark_free;
+use cdc_base::{List, Name, NoMemory, ResetPin, Signal, Stop};
 use flat_drivers::drivers::try_drivers;
 use flat_drivers::registers::{Starts, make_register, registers_of};
 use flat_form::bits::low_bits;
@@ -22,12 +23,19 @@ use flat_form::flat::Flat;
 use flat_names::design::{Design, Entry};
 use std::alloc::Global;
 
-/// The flat design, where each bit has its driver.
-pub fn checked(alloc: Global, design: Design) -> Result<Flat, Stop>
-    ensures exact { (pins : List pin.ResetPin) (d : grown.Design) → ShowsDesign pins design d → IsFitDesign d → IsUnfolding (law.finished d) result }
-    ensures sizes { (pins : List pin.ResetPin) (d : grown.Design) → ShowsDesign pins design d → IfOk result (λ f. KeepsSizes f) }
+/// The flat design, where free signals come from outside and each bit has its driver.
+pub fn checked(
+    alloc: Global,
+    named: &[Name],
+    pins: &[ResetPin],
+    design: Design,
+) -> Result<Flat, Stop>
+    ensures exact { (d : grown.Design) → ShowsDesign pins.now design d → IsFitDesign d → IsUnfolding (law.finished named.now d) result }
+    ensures sizes { (d : grown.Design) → ShowsDesign pins.now design d → IfOk result (λ f. KeepsSizes f) }
     ensures numbered { IfErr result (HasNumberIn unfolding_numbers) }
 {
+    let mut design = design;
+    mark_free(alloc, named, pins, &mut design)?;
     try_drivers(
         alloc,
         design.signals.as_slice(),

@@ -224,7 +224,7 @@ fn note_excess(word: &str, names: usize, values: usize, faults: &mut Faults) -> 
     Ok(())
 }
 
-fn name_set(alloc: Global, names: &[Name]) -> Result<IndexSet<Name>, NoMemory>
+pub fn name_set(alloc: Global, names: &[Name]) -> Result<IndexSet<Name>, NoMemory>
     ensures { IfOk result (λ set. ShowsHeader set names.now) }
 {
     let mut set = IndexSet::new(alloc);
@@ -713,14 +713,14 @@ fn add_connection(sig: u32, end: End, design: &mut Design) -> Result<(), NoMemor
     push(&mut design.assigns, assign)
 }
 
-/// A port reads as the reset that is connected to it.
+/// A port reads as the reset that is connected to it, unless it is declared as one itself.
 fn set_reset(design: &mut Design, sig: u32, reset: Option<Reset>)
     ensures { (pins : List ResetPin) (e : grown.Design) (r : Option ResetPin) → ShowsDesign pins design.old e → IsReset pins reset r
-        → ShowsDesign pins design.new (record e { entries = grown.change_entry (λ (a : n.Entry). record a { reset = r }) sig e.entries }) }
+        → ShowsDesign pins design.new (record e { entries = grown.change_entry (of.resolving_to r) sig e.entries }) }
 {
     let place = usize::try_from(sig).unwrap_or(usize::MAX);
     if let Some(entry) = design.entries.get_mut(place) {
-        entry.reset = reset;
+        entry.reset = entry.reset.or(reset);
     }
 }
 

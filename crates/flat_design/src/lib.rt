@@ -11,7 +11,9 @@ ghost use Rattle.signal_names.specs.Laws.{IsSourceVisible};
 ghost use Rattle.flat_design.specs.Flattened.{IsFlattened};
 
 mod finish;
+mod free;
 mod instance;
+mod resets;
 mod top_ports;
 mod visit;
 
@@ -23,8 +25,11 @@ use std::alloc::Global;
 use verilog_ast::Source;
 use visit::{Library, Visit, visit_top};
 
-/// Unfolds the source from its module `top`. An input of the top with the name of a reset reads as the reset's inactive
-/// level, and so does each input port that is connected to it by its plain name.
+/// Unfolds the source from its module `top`. A signal of one bit with the printed name of a reset reads as the reset's
+/// inactive level, in whichever module it is declared, and so does each input port that is connected to it by its plain name.
+///
+/// `named` has the names of the clocks, inputs and static inputs of the constraints. A signal with such a printed name, or
+/// with that of a reset, which nothing drives counts as an input of the top: an output of a module without a text.
 ///
 /// It refuses what breaks a rule of the language, as the first rule that is broken in this order: modules of one name;
 /// no top; then module by module from the top its parameters, its declarations and its other items, each in textual
@@ -34,17 +39,18 @@ pub fn flatten(
     source: &Source,
     top: &Name,
     resets: &[ResetPin],
+    named: &[Name],
 ) -> Result<Flat, Stop>
-    ensures exact { IsSourceFormed (source_of source.now) → IsUnfolding (unfolded_source source.now top.now resets.now) result }
+    ensures exact { IsSourceFormed (source_of source.now) → IsUnfolding (unfolded_source source.now top.now resets.now named.now) result }
     ensures sizes { IsSourceFormed (source_of source.now) → IfOk result KeepsSizes }
     ensures fact { IsSourceFormed (source_of source.now) → IsSourceVisible (source_of source.now) → IfOk result IsFlattened }
     ensures numbered { IfErr result (HasNumberIn unfolding_numbers) }
 {
-    let library = Library::new(alloc, source)?;
+    let library = Library::new(alloc, source, resets)?;
     let Some(number) = library.number(top) else {
         return refused(alloc, Rule::NoTop, None, top.as_str());
     };
     let mut visit = Visit::new(&library)?;
-    visit_top(&library, number, resets, &mut visit)?;
-    checked(alloc, visit.design)
+    visit_top(&library, number, &mut visit)?;
+    checked(alloc, named, resets, visit.design)
 }

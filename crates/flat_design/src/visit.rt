@@ -21,12 +21,13 @@ ghost use Rattle.flat_unfolding.specs.Unfolding.{declared_value, header_values, 
 ghost use Rattle.flat_names.specs.Looks.{IsFit};
 ghost use Rattle.flat_names.specs.Designs.{ShowsNames, ShowsDesign, ShowsStage, Meets, Ends};
 ghost use Rattle.flat_declarations.specs.Declaring.{MeetsFit, ShowsOverrides, AreFitOverrides};
-ghost use Rattle.flat_design.specs.Visiting.{ShowsPorts, IsLinkOf, IsNumber, IsLibrary, Lists, Frame, IsFrame, closed, IsClosed, rest_of, part_in, part_of, item_before, IsVisiting, AreMarked, next_of, Goes, IsGrown, Steps, Begins, Enters, instance_tree, Finds, AreEnds, mark_at, prefix_of, is_declaration as is_declaration_of, declares as declares_of, IsPlain, IsFitDesign, AreFitNames};
+ghost use Rattle.flat_design.specs.Visiting.{ShowsPorts, IsLinkOf, IsNumber, IsLibrary, Lists, Frame, IsFrame, closed, IsClosed, rest_of, part_in, part_of, item_before, IsVisiting, AreMarked, next_of, Goes, IsGrown, Steps, begun, Begins, Enters, instance_tree, Finds, AreEnds, mark_at, prefix_of, is_declaration as is_declaration_of, declares as declares_of, IsPlain, IsFitDesign, AreFitNames, ShowsPins};
 
 use crate::instance::{
     Connected, Connection, Given, Overridden, Ports, add_connections, connections_of, has_short,
     overrides_of, ports_of,
 };
+use crate::resets::{Pins, pins_by_name, resolve_resets};
 use crate::top_ports::set_top_ports;
 use cdc_base::{Name, NoMemory, Place, ResetPin, Stop};
 use flat_declarations::declare::add_declarations;
@@ -43,18 +44,20 @@ use indexmap::IndexMap;
 use std::alloc::Global;
 use verilog_ast::{Conns, Decl, DeclKind, Item, ItemBody, Module, Port, Source};
 
-/// The source with its modules by name.
+/// The source with its modules by name, and the resets by name.
 #[derive(Drop)]
 pub struct Library<'a> {
     alloc: Global,
     modules: &'a [Module],
     by_name: IndexMap<Name, usize>,
+    pins: Pins,
 }
 
 impl<'a> Library<'a> {
     /// Two modules of one name are refused.
-    pub fn new(alloc: Global, source: &'a Source) -> Result<Library<'a>, Stop>
+    pub fn new(alloc: Global, source: &'a Source, resets: &[ResetPin]) -> Result<Library<'a>, Stop>
         ensures exact { Lists source.entry.now.modules result }
+        ensures pins { IfOk result (λ l. ShowsPins l.pins resets.now) }
         ensures numbered { IfErr result (HasNumberIn unfolding_numbers) }
     {
         let modules = source.modules.as_slice();
@@ -72,10 +75,12 @@ impl<'a> Library<'a> {
                 return Err(Stop::Memory);
             }
         }
+        let pins = pins_by_name(alloc, resets)?;
         Ok(Library {
             alloc,
             modules,
             by_name,
+            pins,
         })
     }
 
@@ -128,7 +133,7 @@ pub struct Visit {
 
 impl Visit {
     pub fn new(library: &Library) -> Result<Visit, NoMemory>
-        ensures { (pins : List pin.ResetPin) → IfOk result (λ v. (v.open.items ≡ []) × (v.is_open.items ≡ map (λ (m : code.Module). false) library.now.modules.now) × ShowsDesign pins v.design no_design) }
+        ensures { (pins : List pin.ResetPin) → IfOk result (λ v. (v.open.items ≡ []) × (v.is_open.items ≡ map (λ (m : code.Module). false) library.now.modules.now) × ShowsDesign pins v.design (no_design pins)) }
     {
         let mut is_open = Vec::new(library.alloc);
         for _module in library.modules {
@@ -187,7 +192,7 @@ fn append_instance(prefix: &mut String, item: Option<&Item>) -> Result<(), NoMem
 }
 
 fn empty_design(alloc: Global) -> Design
-    ensures { (pins : List pin.ResetPin) → ShowsDesign pins result no_design }
+    ensures { (pins : List pin.ResetPin) → ShowsDesign pins result (no_design pins) }
 {
     Design {
         signals: Vec::new(alloc),
@@ -225,21 +230,17 @@ fn is_declaration(body: &ItemBody) -> bool
 }
 
 /// Visits the top and all that it has.
-pub fn visit_top(
-    library: &Library,
-    top: usize,
-    resets: &[ResetPin],
-    visit: &mut Visit,
-) -> Result<(), Stop>
-    ensures exact { (m : code.Module) → IsLibrary library.now.modules.now library.now.by_name → All IsModuleFormed (map module_of library.now.modules.now) → slice_get library.now.modules.now top ≡ Some m
-        → visit.old.open.items ≡ [] → visit.old.is_open.items ≡ map (λ (q : code.Module). false) library.now.modules.now → ShowsDesign resets.now visit.old.design no_design
-        → Ends (IsGrown resets.now visit.new.design)
-        (then_ (law.visit (map module_of library.now.modules.now) (length library.now.modules.now) [] (m.name ∷ []) (module_of m) [] (top_ports resets.now (header_of (module_of m))) no_design) (λ (s : Stage). good s.design)) result }
+pub fn visit_top(library: &Library, top: usize, visit: &mut Visit) -> Result<(), Stop>
+    ensures exact { (pins : List pin.ResetPin) (m : code.Module) → IsLibrary library.now.modules.now library.now.by_name → ShowsPins library.now.pins pins → All IsModuleFormed (map module_of library.now.modules.now)
+        → slice_get library.now.modules.now top ≡ Some m
+        → visit.old.open.items ≡ [] → visit.old.is_open.items ≡ map (λ (q : code.Module). false) library.now.modules.now → ShowsDesign pins visit.old.design (no_design pins)
+        → Ends (IsGrown pins visit.new.design)
+        (then_ (law.visit (map module_of library.now.modules.now) (length library.now.modules.now) [] (m.name ∷ []) (module_of m) [] (top_ports (header_of (module_of m))) (no_design pins)) (λ (s : Stage). good s.design)) result }
     ensures numbered { IfErr result (HasNumberIn unfolding_numbers) }
 {
     let none = IndexMap::new(library.alloc);
     let names = begin(library, top, &none, visit)?;
-    set_ports(library, top, resets, &names, &mut visit.design)?;
+    set_ports(library, top, &names, &mut visit.design)?;
     let given = Given {
         place: None,
         params: Vec::new(library.alloc),
@@ -249,26 +250,25 @@ pub fn visit_top(
     visit_open(library, visit)
 }
 
-/// What the ports of the top are: what comes from outside, its resets, and its outputs.
+/// What the ports of the top are: what comes from outside, and its outputs.
 fn set_ports(
     library: &Library,
     top: usize,
-    resets: &[ResetPin],
     names: &Names,
     design: &mut Design,
 ) -> Result<(), NoMemory>
-    ensures { (m : code.Module) (s : Stage) → slice_get library.now.modules.now top ≡ Some m → ShowsStage resets.now names.now design.old s → AreFitNames s.names (length s.design.entries)
-        → IfOk result (λ _. ShowsStage resets.now names.now design.new (top_ports resets.now (header_of (module_of m)) s)) }
+    ensures { (pins : List pin.ResetPin) (m : code.Module) (s : Stage) → slice_get library.now.modules.now top ≡ Some m → ShowsStage pins names.now design.old s → AreFitNames s.names (length s.design.entries)
+        → IfOk result (λ _. ShowsStage pins names.now design.new (top_ports (header_of (module_of m)) s)) }
 {
     let Some(module) = library.module(top) else {
         return Ok(());
     };
-    set_top_ports(library.alloc, module, resets, names, design)
+    set_top_ports(module, names, design)
 }
 
 /// Visits what is left of the modules that are being visited.
 fn visit_open(library: &Library, visit: &mut Visit) -> Result<(), Stop>
-    ensures exact { (pins : List pin.ResetPin) (frames : List Frame) (d : grown.Design) → IsLibrary library.now.modules.now library.now.by_name → All IsModuleFormed (map module_of library.now.modules.now)
+    ensures exact { (pins : List pin.ResetPin) (frames : List Frame) (d : grown.Design) → IsLibrary library.now.modules.now library.now.by_name → ShowsPins library.now.pins pins → All IsModuleFormed (map module_of library.now.modules.now)
         → IsVisiting pins library.now.modules.now visit.old.open.items visit.old.is_open.items visit.old.design frames d → Ends (IsGrown pins visit.new.design) (rest_of (map module_of library.now.modules.now) frames d) result }
     ensures numbered { IfErr result (HasNumberIn unfolding_numbers) }
 {
@@ -281,7 +281,7 @@ fn visit_open(library: &Library, visit: &mut Visit) -> Result<(), Stop>
     Err(Stop::Memory)
 }
 
-/// Reads the parameters and the declarations of a module, and gives its names.
+/// Reads the parameters and the declarations of a module with the resets among them, and gives its names.
 fn begin(
     library: &Library,
     module: usize,
@@ -289,9 +289,8 @@ fn begin(
     visit: &mut Visit,
 ) -> Result<Names, Stop>
     ensures exact { (pins : List pin.ResetPin) (m : code.Module) (given : law_parameters.Overrides) (d : grown.Design) → slice_get library.now.modules.now «module» ≡ Some m → IsModuleFormed (module_of m)
-        → ShowsDesign pins visit.old.design d → IsFitDesign d → ShowsOverrides overrides.now given → AreFitOverrides given
-        → Begins pins (then_ (law_parameters.parameters given (module_of m) (record { names = []; design = d }))
-        (λ (s : Stage). law_declarations.declarations (prefix_of library.now.modules.now visit.old.open.items) (module_of m) s)) result visit.new.design }
+        → ShowsPins library.now.pins pins → ShowsDesign pins visit.old.design d → IsFitDesign d → ShowsOverrides overrides.now given → AreFitOverrides given
+        → Begins pins (begun given (prefix_of library.now.modules.now visit.old.open.items) (module_of m) d) result visit.new.design }
     ensures stack { visit.new.open ≡ visit.old.open }
     ensures marks { visit.new.is_open ≡ visit.old.is_open }
     ensures numbered { IfErr result (HasNumberIn unfolding_numbers) }
@@ -301,8 +300,10 @@ fn begin(
     let Some(module) = library.module(module) else {
         return Ok(names);
     };
+    let first = visit.design.entries.len();
     add_parameters(alloc, module, overrides, &mut names, &visit.design)?;
     declare(library, module, &mut names, visit)?;
+    resolve_resets(&library.pins, first, &mut visit.design);
     Ok(names)
 }
 
@@ -417,7 +418,7 @@ fn add_port_value(
 
 /// One item of the innermost module, or its end. Answers whether there was a module left.
 fn step(library: &Library, visit: &mut Visit) -> Result<bool, Stop>
-    ensures exact { (pins : List pin.ResetPin) (frames : List Frame) (d : grown.Design) → IsLibrary library.now.modules.now library.now.by_name → All IsModuleFormed (map module_of library.now.modules.now)
+    ensures exact { (pins : List pin.ResetPin) (frames : List Frame) (d : grown.Design) → IsLibrary library.now.modules.now library.now.by_name → ShowsPins library.now.pins pins → All IsModuleFormed (map module_of library.now.modules.now)
         → IsVisiting pins library.now.modules.now visit.old.open.items visit.old.is_open.items visit.old.design frames d → Steps pins library.now.modules.now frames d result visit.new }
     ensures numbered { IfErr result (HasNumberIn unfolding_numbers) }
 {
@@ -459,7 +460,7 @@ fn try_given(library: &Library, open: &Open, design: &Design) -> Result<(), Stop
 
 /// One item of a module that is being visited.
 fn add_next(library: &Library, item: &Item, outer: Open, visit: &mut Visit) -> Result<(), Stop>
-    ensures exact { (pins : List pin.ResetPin) (frames : List Frame) (f : Frame) (d : grown.Design) → IsLibrary library.now.modules.now library.now.by_name → All IsModuleFormed (map module_of library.now.modules.now)
+    ensures exact { (pins : List pin.ResetPin) (frames : List Frame) (f : Frame) (d : grown.Design) → IsLibrary library.now.modules.now library.now.by_name → ShowsPins library.now.pins pins → All IsModuleFormed (map module_of library.now.modules.now)
         → IsVisiting pins library.now.modules.now (visit.old.open.items ++ outer ∷ []) visit.old.is_open.items visit.old.design (f ∷ frames) d
         → item_before library.now.modules.now outer ≡ Some item.now
         → Goes pins library.now.modules.now (next_of (map module_of library.now.modules.now) f frames d (item_tree_of item.now)) result visit.new }
@@ -520,7 +521,7 @@ fn add_instance(
     outer: Open,
     visit: &mut Visit,
 ) -> Result<(), Stop>
-    ensures exact { (pins : List pin.ResetPin) (frames : List Frame) (f : Frame) (d : grown.Design) → IsLibrary library.now.modules.now library.now.by_name → All IsModuleFormed (map module_of library.now.modules.now)
+    ensures exact { (pins : List pin.ResetPin) (frames : List Frame) (f : Frame) (d : grown.Design) → IsLibrary library.now.modules.now library.now.by_name → ShowsPins library.now.pins pins → All IsModuleFormed (map module_of library.now.modules.now)
         → IsVisiting pins library.now.modules.now (visit.old.open.items ++ outer ∷ []) visit.old.is_open.items visit.old.design (f ∷ frames) d
         → part_of library.now.modules.now outer ≡ printed_part instance.now.name.now ++ codes "."
         → AreConnsFormed (conns_of instance.now.params.now) → AreConnsFormed (conns_of instance.now.ports.now)

@@ -3,3 +3,4 @@ pub mod Reading
 pub mod Trials
 pub mod Marked
 pub mod Sharing
+pub mod Assigned

@@ -1,3 +1,4 @@
 pub mod Driving
 pub mod Registers
 pub mod Clocked
+pub mod Driven

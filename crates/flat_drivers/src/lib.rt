@@ -3,6 +3,7 @@
 #![tactic(auto)]
 
 mod clocked;
+pub mod driven;
 pub mod drivers;
 mod reads;
 pub mod registers;

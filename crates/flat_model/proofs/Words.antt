@@ -13,10 +13,11 @@ use Rattle.cell_graph.specs.Tree.{bit_at}
 use Rattle.cell_graph.proofs.Words.{bit-mod, bit-zero}
 use Rattle.clock_constraints.specs.declared.Constraints.{Constraints}
 use Rattle.clock_constraints.specs.Refusals.{Text, ◌>>=◌, unless}
+use Rattle.domains.specs.declared.port.Port.{Port}
 use Rattle.domains.specs.declared.port.Role.{Role}
 use Rattle.domains.specs.Assignment.{broken_port, port_roles}
 use Rattle.domains.specs.Clocks.{Roles}
-use Rattle.domains.specs.Ports.{is_input, roles, signal_role, signal_roles, top_widths}
+use Rattle.domains.specs.Ports.{is_input, roles, signal_ports, signal_role, signal_roles}
 use Rattle.domains.specs.Tables.{named}
 use Rattle.cdc_model.specs.Nets.{start_of}
 use Rattle.flat_meaning.specs.Design.{kind_in}
@@ -87,11 +88,11 @@ start_word ss sized b = ap (option_and_then (start_at b)) (slice_get-map as_word
 later : (s : Signal) (ss : List Signal) → AreSized (s ∷ ss) → AreSized ss
 later s ss h sig t e = h (suc sig) t e
 
-tops_word : (ss : List Signal) → AreSized ss → top_widths (map as_word ss) ≡ top_widths ss
-tops_word [] sized = refl
-tops_word (s ∷ ss) sized =
+ports_word : (ss : List Signal) → AreSized ss → signal_ports (map as_word ss) ≡ signal_ports ss
+ports_word [] sized = refl
+ports_word (s ∷ ss) sized =
     let size = sized zero s refl in
-    ap₂ (λ w more. cond (is_input s.kind) ((s.name, w) ∷ more) more) (word_wide s.width size.0 size.1) (tops_word ss (later s ss sized))
+    ap₂ (λ w (more : List (Text × Port)). (s.name, record { width = w; is_input = is_input s.kind }) ∷ more) (word_wide s.width size.0 size.1) (ports_word ss (later s ss sized))
 
 signal_roles_word : (declared : Text → Option Role) (ss : List Signal) → signal_roles declared (map as_word ss) ≡ signal_roles declared ss
 signal_roles_word declared [] = refl
@@ -99,7 +100,7 @@ signal_roles_word declared (s ∷ ss) = ap (λ (more : Result Roles Fault). sign
 
 pub port_roles_word : (ss : List Signal) (c : Constraints) → AreSized ss → port_roles (map as_word ss) c ≡ port_roles ss c
 port_roles_word ss c sized =
-    ap₂ (λ tops (rs : Result Roles Fault). unless (broken_port (named tops) (map (λ p. p.0) (roles c)) c) rs) (tops_word ss sized) (signal_roles_word (named (roles c)) ss)
+    ap₂ (λ ports (rs : Result Roles Fault). unless (broken_port (named ports) (roles c) c) rs) (ports_word ss sized) (signal_roles_word (named (roles c)) ss)
 
 pub registers_word : (k : ℕ) (ss : List Signal) → register_signals k (map as_word ss) ≡ register_signals k ss
 registers_word k [] = refl

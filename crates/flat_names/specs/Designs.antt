@@ -82,6 +82,7 @@ abbrev pub flat_so_far : Design → Flat
 flat_so_far d = record { signals = d.signals.items; assigns = d.assigns.items; combs = d.combs.items; clocked = d.clocked.items; outputs = d.outputs.items }
 
 pub record ShowsDesign (pins : List ResetPin) (d : Design) (e : u.Design) : Type 0 where
+  pub declared : e.pins ≡ pins
   pub entries : map seen d.entries.items ≡ map shown e.entries
   pub may_repeat : map (λ (x : Entry). x.is_open) d.entries.items ≡ map (λ (x : n.Entry). x.is_open) e.entries
   pub signals : d.signals.items ≡ map signal_of e.entries

@@ -99,6 +99,7 @@ module _ (pins : List ResetPin) (d : Design) (e : u.Design) (h : ShowsDesign pin
         ∙ ap₂ (λ ys (z : Target × Expr). ys ++ z ∷ []) h.assigns (ap₂ (λ y z. (y, z)) (a.target refl) (a.value refl));
     combs = h.combs;
     clocked = h.clocked;
+    declared = h.declared;
     process_resets = h.process_resets;
     outputs = h.outputs;
     starts = h.starts;
@@ -121,6 +122,7 @@ module _ (pins : List ResetPin) (d : Design) (e : u.Design) (h : ShowsDesign pin
     assigns = h.assigns;
     combs = ap (map (λ (y : FlatComb). stmt_of y.body)) i ∙ map-append (λ (y : FlatComb). stmt_of y.body) d.combs.items (x ∷ []) ∙ ap₂ (λ ys z. ys ++ z ∷ []) h.combs body;
     clocked = h.clocked;
+    declared = h.declared;
     process_resets = h.process_resets;
     outputs = h.outputs;
     starts = h.starts;
@@ -145,6 +147,7 @@ module _ (pins : List ResetPin) (d : Design) (e : u.Design) (h : ShowsDesign pin
     combs = h.combs;
     clocked = ap (map (λ (y : FlatClocked). (y.clock, stmt_of y.body))) i ∙ map-append (λ (y : FlatClocked). (y.clock, stmt_of y.body)) d.clocked.items (x ∷ [])
         ∙ ap₂ (λ ys (z : ℕ × Stmt). ys ++ z ∷ []) h.clocked (ap₂ (λ y z. (y, z)) clock body);
+    declared = h.declared;
     process_resets = ap (map view.reset_of) j ∙ map-append view.reset_of d.resets.items (y ∷ []) ∙ ap₂ (λ ys (z : Option ℕ × Stmt). ys ++ z ∷ []) h.process_resets reset;
     outputs = h.outputs;
     starts = h.starts;

@@ -177,6 +177,7 @@ module _ (pins : List ResetPin) (c : Design) (e : u.Design) (h : ShowsDesign pin
         assigns = h.assigns;
         combs = h.combs;
         clocked = h.clocked;
+        declared = h.declared;
         process_resets = h.process_resets;
         outputs = h.outputs;
         starts = λ s. ap (λ ys. start_at ys s) k ∙ start-same g.sig g c.entries.items s ∙ h.starts s;

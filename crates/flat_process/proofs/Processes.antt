@@ -1,14 +1,14 @@
 -- Processes: their events, bodies and resets, from what the code has to the definition's.
-use Rattle.std.proofs.Common.{◌≡◌, ℕ, ◌<◌, ◌≤◌, Bool, true, false, cond, not, ◌&&◌, ◌||◌, ◌==◌, List, [], ◌∷◌, ◌++◌, length, get_or, Option, Some, None, refl, sym, ap, subst, ◌∙◌, arith, rules, append_assoc, append-nil, Box, Vec, Global}
-use Rattle.std.specs.Prelude.{flat_map, option_map, option_and_then, is_some, is_none, unwrap_or, slice_get}
+use Rattle.std.proofs.Common.{◌≡◌, ℕ, ◌<◌, Bool, true, false, cond, not, ◌&&◌, ◌||◌, ◌==◌, List, [], ◌∷◌, ◌++◌, length, get_or, Option, Some, None, refl, sym, ap, ap₂, subst, ◌∙◌, arith, rules, append_assoc, append-nil, Box, Vec, Global}
+use Rattle.std.specs.Prelude.{flat_map, option_map, is_some, is_none, unwrap_or, slice_get}
 use Rattle.std.specs.Option.{option_map_or}
-use Rattle.std.specs.List.{list_all}
+use Rattle.std.specs.List.{list_all, list_any}
 use Rattle.verilog_ast.specs.declared.Edge.{Edge}
 use Rattle.verilog_ast.specs.declared.EdgeKind.{EdgeKind}
 use Rattle.verilog_ast.specs.declared.Expr.{Expr}
 use Rattle.verilog_ast.specs.declared.Stmt as s
 use Rattle.verilog_ast.specs.declared.Stmt.TheVariants as vs
-use Rattle.verilog_reading.specs.ExprTree.{tree_of}
+use Rattle.verilog_reading.specs.ExprTree.{ExprTree, tree_of}
 use Rattle.verilog_reading.specs.StmtTree.{StmtTree, null, set, when, either, switch, switch_else, block, StmtTrees, no_rows, and_rows, stmt_tree_of}
 use Rattle.flat_meaning.specs.Flat.{Stmt}
 use Rattle.flat_form.specs.View.{reset_of}
@@ -19,8 +19,8 @@ use Rattle.flat_unfolding.specs.Names.{Meaning, a_param, a_signal, a_memory, no_
 use Rattle.flat_unfolding.specs.Expressions.{read}
 use Rattle.flat_unfolding.specs.Statements.{Kind, clocked, neither, done, done_all}
 use Rattle.flat_unfolding.specs.Resets as q
-use Rattle.flat_unfolding.specs.Resets.{peeled, peeled_rows, reset_signals, branch_given, form_in, reset_form, reset_rules, is_edge_of, is_active_edge}
-use Rattle.flat_unfolding.specs.Processes.{has_form, first_edge, second_edge, edge_rules, meant_clock, clock_of, event_rules, body_without, reset_branch, reset_gives}
+use Rattle.flat_unfolding.specs.Resets.{peeled, peeled_rows, tested_signals, branch_given, form_with, form_in, reset_form, reset_rules, is_edge_of, is_active_edge}
+use Rattle.flat_unfolding.specs.Processes.{has_form, first_edge, edge_rules, meant_signal, edge_signal, is_wide, reset_edge, reset_signal, event_rules, body_without, reset_branch, reset_gives}
 use Rattle.flat_unfolding.specs.Formed.{IsFormed, IsStmtFormed, AreRowsFormed}
 use Rattle.flat_unfolding.specs.Design as u
 use Rattle.flat_unfolding.proofs.Steps.{none_of_both, some_is}
@@ -38,7 +38,7 @@ use Rattle.flat_process.specs.declared.reset.Given.{Given}
 use Rattle.flat_process.specs.declared.always.Clocked.{Clocked}
 use Rattle.flat_process.specs.declared.always.ResetForm.{ResetForm}
 use Rattle.flat_process.specs.Resets.{AreGiven, AreGivenIf}
-use Rattle.flat_process.specs.Processes.{is_wide_clock, IsBody, second_edge_signal, reset_with, IsClocked, IsForm, IsFormIf}
+use Rattle.flat_process.specs.Processes.{breaks_edges, lacks_reset, IsBody, reset_with, IsClocked, other_tree, left_tree, IsForm, IsFormIf}
 
 -- ---- bodies
 
@@ -90,9 +90,20 @@ mutual
 -- ---- reset form
 
 module _ (l : Look) where
-  -- neither branch breaks a rule where the whole breaks none
+  -- neither the first branch nor what is left breaks a rule where the whole breaks none
   abbrev AreClean : q.ResetForm → Type 0
   AreClean f = ((done l clocked f.branch).broken ≡ []) × ((done l clocked f.rest).broken ≡ [])
+
+  left-clean : (b : Bool) (z all : StmtTree) → (done l clocked z).broken ≡ [] → (done l clocked all).broken ≡ [] → (done l clocked (cond b z all)).broken ≡ []
+  left-clean true z all d w = d
+  left-clean false z all d w = w
+
+  with-clean : (k : ExprTree) (s z all : StmtTree) (f : q.ResetForm) → form_with l k s z all ≡ Some f → (done l clocked s).broken ≡ [] → (done l clocked z).broken ≡ [] → (done l clocked all).broken ≡ [] → AreClean f
+  with-clean k s z all f e c d w = go (tested_signals l k) e
+    where
+      go : (o : Option (List ℕ)) → option_map (λ ss. record { signals = ss; branch = s; given = branch_given l s; rest = left_tree l k z all }) o ≡ Some f → AreClean f
+      go None i = absurd (search (rules, i))
+      go (Some ss) i = subst AreClean (some_is _ f i) (c, left-clean (is_some (q.reset_signals l k)) z all d w)
 
   form-clean : (t : StmtTree) (f : q.ResetForm) → form_in l t ≡ Some f → (done l clocked t).broken ≡ [] → AreClean f
   form-clean null f e c = absurd (search (rules, e))
@@ -100,18 +111,10 @@ module _ (l : Look) where
   form-clean (switch v rows) f e c = absurd (search (rules, e))
   form-clean (switch_else v rows d) f e c = absurd (search (rules, e))
   form-clean (block rows) f e c = absurd (search (rules, e))
-  form-clean (when k s) f e c = go (reset_signals l k) e
-    where
-      go : (o : Option (List ℕ)) → option_map (λ ss. record { signals = ss; branch = s; given = branch_given l s; rest = null }) o ≡ Some f → AreClean f
-      go None i = absurd (search (rules, i))
-      go (Some ss) i = subst AreClean (some_is _ f i) ((none_of_both (read l k).broken (done l clocked s).broken c).1, refl)
-  form-clean (either k s z) f e c = go (reset_signals l k) e
-    where
-      go : (o : Option (List ℕ)) → option_map (λ ss. record { signals = ss; branch = s; given = branch_given l s; rest = z }) o ≡ Some f → AreClean f
-      go None i = absurd (search (rules, i))
-      go (Some ss) i =
-          let parts = none_of_both ((read l k).broken ++ (done l clocked s).broken) (done l clocked z).broken c in
-          subst AreClean (some_is _ f i) ((none_of_both (read l k).broken (done l clocked s).broken parts.0).1, parts.1)
+  form-clean (when k s) f e c = with-clean k s null (when k s) f e (none_of_both (read l k).broken (done l clocked s).broken c).1 refl c
+  form-clean (either k s z) f e c =
+      let parts = none_of_both ((read l k).broken ++ (done l clocked s).broken) (done l clocked z).broken c in
+      with-clean k s z (either k s z) f e (none_of_both (read l k).broken (done l clocked s).broken parts.0).1 parts.1 c
 
   both-clean : (t : StmtTree) (f : q.ResetForm) → reset_form l t ≡ Some f → (done l clocked t).broken ≡ [] → AreClean f
   both-clean t f e c = form-clean (peeled t) f e (peeled-clean l clocked t c)
@@ -137,7 +140,7 @@ module _ (l : Look) where
   items-or None x y e h = ap (λ (v : Vec Given Global). v.items) e ∙ h
   items-or (Some z) x y e h = ap (λ (v : Vec Given Global). v.items) e
 
-  -- one with reset form leaves out the reset's branch
+  -- of one with reset form the rest is left
   pub rest-body : (c : ℕ) (edge : Option ℕ) (t : StmtTree) (r : ResetForm) (p : Clocked) → p.clock ≡ c → p.body ≡ r.rest → p.reset ≡ (record { edge = edge; branch = r.branch })
       → p.given.items ≡ unwrap_or (option_map (λ (v : Vec Given Global). v.items) r.given) [] → IsFormIf l (reset_form l t) (Some r)
       → IsClocked (length l.entries) c (body_without l t (reset_form l t)) (reset_with l edge t) (reset_gives l (reset_form l t)) (done l clocked t).broken p
@@ -152,64 +155,55 @@ module _ (l : Look) where
         given = subst (AreGiven (length l.entries) (unwrap_or f.given [])) (sym g) (given-or f.given (option_map (λ (v : Vec Given Global). v.items) r.given) h.given);
       }
 
--- what stands in the other branch
-abbrev pub rest_of : Option (Box s.Stmt Global) → StmtTree
-rest_of None = null
-rest_of (Some z) = stmt_tree_of z.value
-
--- the form of a branch whose condition has these signals
-abbrev form_with : Look → (first rest : StmtTree) → List ℕ → q.ResetForm
-form_with l first rest ss = record { signals = ss; branch = first; given = branch_given l first; rest = rest }
+-- the form of a branch whose condition tests these signals
+abbrev of_signals : Look → (c : ExprTree) (first other all : StmtTree) → List ℕ → q.ResetForm
+of_signals l c first other all ss = record { signals = ss; branch = first; given = branch_given l first; rest = left_tree l c other all }
 
 module _ (l : Look) (x : s.Stmt) (k : Expr) (y : Box s.Stmt Global) where
   -- the parts of a branch are as readings of texts give them
-  pub branch-formed : (o : Option (Box s.Stmt Global)) → x ≡ vs.If k y o → IsStmtFormed (stmt_tree_of x) → IsFormed (tree_of k) × IsStmtFormed (stmt_tree_of y.value) × IsStmtFormed (rest_of o)
+  pub branch-formed : (o : Option (Box s.Stmt Global)) → x ≡ vs.If k y o → IsStmtFormed (stmt_tree_of x) → IsFormed (tree_of k) × IsStmtFormed (stmt_tree_of y.value) × IsStmtFormed (other_tree o)
   branch-formed None e h = let i = subst IsStmtFormed (ap stmt_tree_of e ∙ tree-when k y) h in (i.0, i.1, tt)
   branch-formed (Some z) e h = subst IsStmtFormed (ap stmt_tree_of e ∙ tree-either k y z) h
 
+  -- what reset form of a branch is
+  form-is : (o : Option (Box s.Stmt Global)) → x ≡ vs.If k y o → form_in l (stmt_tree_of x) ≡ form_with l (tree_of k) (stmt_tree_of y.value) (other_tree o) (stmt_tree_of x)
+  form-is None e = let t = ap stmt_tree_of e ∙ tree-when k y in
+      ap (form_in l) t ∙ ap (form_with l (tree_of k) (stmt_tree_of y.value) null) (sym t)
+  form-is (Some z) e = let t = ap stmt_tree_of e ∙ tree-either k y z in
+      ap (form_in l) t ∙ ap (form_with l (tree_of k) (stmt_tree_of y.value) (stmt_tree_of z.value)) (sym t)
+
   -- a branch whose condition tests no reset has no reset form
-  pub no-reset : (o : Option (Box s.Stmt Global)) → x ≡ vs.If k y o → None ≡ reset_signals l (tree_of k) → IsFormIf l (form_in l (stmt_tree_of x)) None
-  no-reset None e h = subst (λ t. IsFormIf l (form_in l t) None) (sym (ap stmt_tree_of e ∙ tree-when k y)) (subst (λ ss. IsFormIf l (option_map (form_with l (stmt_tree_of y.value) null) ss) None) h tt)
-  no-reset (Some z) e h = subst (λ t. IsFormIf l (form_in l t) None) (sym (ap stmt_tree_of e ∙ tree-either k y z)) (subst (λ ss. IsFormIf l (option_map (form_with l (stmt_tree_of y.value) (stmt_tree_of z.value)) ss) None) h tt)
+  pub no-reset : (o : Option (Box s.Stmt Global)) → x ≡ vs.If k y o → None ≡ tested_signals l (tree_of k) → IsFormIf l (form_in l (stmt_tree_of x)) None
+  no-reset o e h = subst (λ f. IsFormIf l f None) (sym (form-is o e))
+      (subst (λ ss. IsFormIf l (option_map (of_signals l (tree_of k) (stmt_tree_of y.value) (other_tree o) (stmt_tree_of x)) ss) None) h tt)
 
-  -- one whose condition tests a reset has it
-  pub has-reset : (o : Option (Box s.Stmt Global)) (r : ResetForm) → x ≡ vs.If k y o → Some r.signals.items ≡ reset_signals l (tree_of k) → IsDone (done l clocked (stmt_tree_of y.value)) r.branch
-      → AreGivenIf (length l.entries) (branch_given l (stmt_tree_of y.value)) (option_map (λ (v : Vec Given Global). v.items) r.given) → IsDone (done l clocked (rest_of o)) r.rest → IsFormIf l (form_in l (stmt_tree_of x)) (Some r)
-  has-reset None r e h b g d = subst (λ t. IsFormIf l (form_in l t) (Some r)) (sym (ap stmt_tree_of e ∙ tree-when k y))
-      (subst (λ ss. IsFormIf l (option_map (form_with l (stmt_tree_of y.value) null) ss) (Some r)) h (record { signals = refl; branch = b; given = g; rest = d }))
-  has-reset (Some z) r e h b g d = subst (λ t. IsFormIf l (form_in l t) (Some r)) (sym (ap stmt_tree_of e ∙ tree-either k y z))
-      (subst (λ ss. IsFormIf l (option_map (form_with l (stmt_tree_of y.value) (stmt_tree_of z.value)) ss) (Some r)) h (record { signals = refl; branch = b; given = g; rest = d }))
-
-module _ (l : Look) where
-  -- what the code reads as the other branch, where there is one and where there is none
-  pub some-rest : (o : Option (Box s.Stmt Global)) (z : Box s.Stmt Global) (a : s.Stmt) (r n : FStmt) → o ≡ Some z → a ≡ z.value → n ≡ r → IsDone (done l clocked (stmt_tree_of a)) r → IsDone (done l clocked (rest_of o)) n
-  some-rest o z a r n e i j d = subst (IsDone (done l clocked (rest_of o))) (sym j)
-      (subst (λ k. IsDone (done l clocked (rest_of k)) r) (sym e) (subst (λ (k : s.Stmt). IsDone (done l clocked (stmt_tree_of k)) r) i d))
-
-  pub no-rest : (o : Option (Box s.Stmt Global)) (n : FStmt) → o ≡ None → n ≡ form.Null → IsDone (done l clocked (rest_of o)) n
-  no-rest o n e j = subst (IsDone (done l clocked (rest_of o))) (sym j) (subst (λ k. IsDone (done l clocked (rest_of k)) form.Null) (sym e) (done-null l clocked))
+  -- one whose condition tests some has it
+  pub has-reset : (o : Option (Box s.Stmt Global)) (r : ResetForm) → x ≡ vs.If k y o → Some r.signals.items ≡ tested_signals l (tree_of k) → IsDone (done l clocked (stmt_tree_of y.value)) r.branch
+      → AreGivenIf (length l.entries) (branch_given l (stmt_tree_of y.value)) (option_map (λ (v : Vec Given Global). v.items) r.given)
+      → IsDone (done l clocked (left_tree l (tree_of k) (other_tree o) (stmt_tree_of x))) r.rest → IsFormIf l (form_in l (stmt_tree_of x)) (Some r)
+  has-reset o r e h b g d = subst (λ f. IsFormIf l f (Some r)) (sym (form-is o e))
+      (subst (λ ss. IsFormIf l (option_map (of_signals l (tree_of k) (stmt_tree_of y.value) (other_tree o) (stmt_tree_of x)) ss) (Some r)) h (record { signals = refl; branch = b; given = g; rest = d }))
 
 -- ---- events
 
 module _ (l : Look) where
-  -- a clock is declared
-  clock-there : IsFit l → (edges : List Edge) (s : ℕ) → Some s ≡ clock_of l edges → s < length l.entries
-  clock-there fit [] s e = none-some s (sym e)
-  clock-there fit (c ∷ rest) s e = go (meaning l c.name) refl e
+  -- the signal of an edge is declared
+  edge-there : IsFit l → (e : Edge) (s : ℕ) → Some s ≡ edge_signal l e → s < length l.entries
+  edge-there fit c s e = go (meaning l c.name) refl e
     where
-      go : (m : Option Meaning) → meaning l c.name ≡ m → Some s ≡ meant_clock l m → s < length l.entries
+      go : (m : Option Meaning) → meaning l c.name ≡ m → Some s ≡ meant_signal l m → s < length l.entries
       go None k e = none-some s (sym e)
       go (Some (a_param p)) k e = none-some s (sym e)
       go (Some (a_signal t)) k e = subst (λ i. i < length l.entries) (sym (some-same s t e)) (fit.signals c.name t k)
       go (Some (a_memory m)) k e = none-some s (sym e)
       go (Some no_value) k e = none-some s (sym e)
 
-  pub wide-clock : (k : v.Look) → Shows k l → IsFit l → (edges : List Edge) (s n : ℕ) → Some s ≡ clock_of l edges → n ≡ option_map_or (λ (x : Entry). x.width) (slice_get k.entries.now s) 1 → not (n == 1) ≡ is_wide_clock l edges
-  wide-clock k h fit edges s n e w = ap (λ i. not (i == 1)) (w ∙ width-is k l h s (clock-there fit edges s e)) ∙ ap (λ o. option_map_or (λ i. not (width_at l.entries i == 1)) o false) e
+  pub wide-edge : (k : v.Look) → Shows k l → IsFit l → (c : Edge) (s n : ℕ) → Some s ≡ edge_signal l c → n ≡ option_map_or (λ (x : Entry). x.width) (slice_get k.entries.now s) 1 → not (n == 1) ≡ is_wide l c
+  wide-edge k h fit c s n e w = ap (λ i. not (i == 1)) (w ∙ width-is k l h s (edge-there fit c s e)) ∙ ap (λ o. option_map_or (λ i. not (width_at l.entries i == 1)) o false) e
 
   -- an event without its form breaks a rule
   no-form-breaks : (edges : List Edge) → has_form edges ≡ false → event_rules l edges ≡ [] → ⊥
-  no-form-breaks edges e h = go (is_wide_clock l edges) (none_of_both (flat_map (edge_rules l (first_edge edges)) edges) _ h).1
+  no-form-breaks edges e h = go (breaks_edges l edges) (none_of_both (flat_map (edge_rules l (first_edge edges)) edges) _ h).1
     where
       go : (b : Bool) → breaks_if (not (has_form edges) || b) 316 (first_edge edges) ≡ [] → ⊥
       go b k = let n = subst (λ a. breaks_if (not a || b) 316 (first_edge edges) ≡ []) e k in absurd (search (rules, n))
@@ -221,11 +215,25 @@ told-if f g t n x y bs e d i k = d ∙ ap (λ z. all_noted f (breaks n z)) i ∙
 pub untold : (f : Noted) (t : Bool) (n : ℕ) (y : Text) (bs : List Broken) → t ≡ false → breaks_if t n y ≡ bs → f ≡ all_noted f bs
 untold f t n y bs e k = ap (λ b. all_noted f (breaks_if b n y)) (sym e) ∙ ap (all_noted f) k
 
--- the second edge of two or more
-pub second-is : (edges : List Edge) (e : Edge) → 2 ≤ length edges → e ≡ get_or edges 1 e → second_edge edges ≡ Some e
-second-is [] e h i = absurd (omega arith)
-second-is (c ∷ []) e h i = absurd (omega arith)
-second-is (c ∷ d ∷ rest) e h i = ap Some (sym i)
+-- the step of a loop over edges
+pub any-found : (P : Edge → Bool) (x : Edge) (rest : List Edge) (b : Bool) → list_any P (x ∷ rest) ≡ b → P x ≡ true → true ≡ b
+any-found P x rest b h e = ap (λ t. t || list_any P rest) (sym e) ∙ h
+
+pub any-then : (P : Edge → Bool) (x : Edge) (rest : List Edge) (b : Bool) → list_any P (x ∷ rest) ≡ b → P x ≡ false → list_any P rest ≡ b
+any-then P x rest b h e = ap (λ t. t || list_any P rest) (sym e) ∙ h
+
+-- two edges, and another number of them
+pub two-are : (edges : List Edge) (c e : Edge) → length edges ≡ 2 → c ≡ get_or edges 0 c → e ≡ get_or edges 1 e → edges ≡ c ∷ e ∷ []
+two-are [] c e h i j = absurd (omega arith)
+two-are (a ∷ []) c e h i j = absurd (omega arith)
+two-are (a ∷ b ∷ []) c e h i j = ap₂ (λ (x y : Edge). x ∷ y ∷ []) (sym i) (sym j)
+two-are (a ∷ b ∷ d ∷ rest) c e h i j = absurd (omega arith)
+
+pub none-of-others : (l : Look) (edges : List Edge) → (length edges ≡ 2 → ⊥) → None ≡ reset_edge l edges
+none-of-others l [] h = refl
+none-of-others l (a ∷ []) h = refl
+none-of-others l (a ∷ b ∷ []) h = absurd (h refl)
+none-of-others l (a ∷ b ∷ d ∷ rest) h = refl
 
 -- ---- edges of resets
 
@@ -286,13 +294,20 @@ clocked-amid n c m x r us front bs back p e h = record {
 }
 
 module _ (l : Look) (edges : List Edge) (t : StmtTree) where
+  -- what the pair of its edges breaks, and what its reset does
+  abbrev pair : List Broken
+  pair = breaks_if (lacks_reset l edges) 317 (first_edge edges)
+
+  abbrev reset_breaks : Option q.ResetForm → List Broken
+  reset_breaks f = reset_rules l (first_edge edges) (reset_edge l edges) f
+
   -- what a process breaks, by whether its event has its form
   abbrev rules_at : Bool → List Broken
-  rules_at b = event_rules l edges ++ (done l (cond b clocked neither) t).broken ++ reset_rules l (first_edge edges) (cond b (second_edge edges) None) (cond b (reset_form l t) None)
+  rules_at b = event_rules l edges ++ (done l (cond b clocked neither) t).broken ++ breaks_if (b && lacks_reset l edges) 317 (first_edge edges) ++ reset_breaks (cond b (reset_form l t) None)
 
   -- what its reset tells of its drivers
   abbrev reset_if : Bool → Option ℕ × Stmt
-  reset_if b = (option_and_then (λ (e : Edge). meant_clock l (meaning l e.name)) (cond b (second_edge edges) None), reset_branch l (cond b (reset_form l t) None))
+  reset_if b = (reset_signal l edges, reset_branch l (cond b (reset_form l t) None))
 
   -- a process with what it notes
   abbrev IsProcess : ℕ → Noted → Clocked → Noted → Bool → Type 0
@@ -300,26 +315,36 @@ module _ (l : Look) (edges : List Edge) (t : StmtTree) where
 
   -- an event with its form, and one without it
   pub formed-process : (c m : ℕ) (f g h : Noted) (p : Clocked) → m ≡ c → has_form edges ≡ true → g ≡ all_noted f (event_rules l edges)
-      → IsClocked (length l.entries) m (body_without l t (reset_form l t)) (reset_with l (second_edge_signal l edges) t) (reset_gives l (reset_form l t)) (done l clocked t).broken p
-      → h ≡ all_noted g ((done l clocked t).broken ++ reset_rules l (first_edge edges) (second_edge edges) (reset_form l t)) → IsProcess c f p h (has_form edges)
-  formed-process c m f g h p same e i k j = subst (IsProcess c f p h) (sym e) (
-    clocked-amid (length l.entries) c m (body_without l t (reset_form l t)) (reset_with l (second_edge_signal l edges) t) (reset_gives l (reset_form l t)) (event_rules l edges) (done l clocked t).broken
-        (reset_rules l (first_edge edges) (second_edge edges) (reset_form l t)) p same k,
-    then-noted f g h (event_rules l edges) ((done l clocked t).broken ++ reset_rules l (first_edge edges) (second_edge edges) (reset_form l t)) i j
-        ∙ ap (all_noted f) (sym (append_assoc (event_rules l edges) (done l clocked t).broken (reset_rules l (first_edge edges) (second_edge edges) (reset_form l t)))),
-  )
+      → IsClocked (length l.entries) m (body_without l t (reset_form l t)) (reset_with l (reset_signal l edges) t) (reset_gives l (reset_form l t)) (done l clocked t).broken p
+      → h ≡ all_noted g ((done l clocked t).broken ++ pair ++ reset_breaks (reset_form l t)) → IsProcess c f p h (has_form edges)
+  formed-process c m f g h p same e i k j =
+      let event = event_rules l edges in
+      let body = (done l clocked t).broken in
+      let last = reset_breaks (reset_form l t) in
+      let us = reset_gives l (reset_form l t) in
+      let r = reset_with l (reset_signal l edges) t in
+      let x = body_without l t (reset_form l t) in
+      subst (IsProcess c f p h) (sym e) (
+        clocked-amid (length l.entries) c c x r us [] (event ++ body ++ pair) last p refl (clocked-amid (length l.entries) c m x r us event body pair p same k),
+        then-noted f g h event (body ++ pair ++ last) i j ∙ ap (all_noted f) (sym (append_assoc event (body ++ pair) last) ∙ ap (λ bs. bs ++ last) (sym (append_assoc event body pair))),
+      )
 
-  pub formless-process : (c : ℕ) (f g h : Noted) (p : Clocked) → has_form edges ≡ false → g ≡ all_noted f (event_rules l edges) → p.clock ≡ c → p.given.items ≡ []
-      → h ≡ all_noted g (done l neither t).broken → IsProcess c f p h (has_form edges)
-  formless-process c f g h p e i k none j = subst (IsProcess c f p h) (sym e) (
-    record {
-      clock = k;
-      body = record { stmt = λ b. absurd (tells b); sizes = λ b. absurd (tells b) };
-      reset = λ b. absurd (tells b);
-      given = subst (AreGiven (length l.entries) []) (sym none) tt;
-    },
-    then-noted f g h (event_rules l edges) (done l neither t).broken i j ∙ ap (all_noted f) (sym (append-nil (event_rules l edges ++ (done l neither t).broken))),
-  )
+  pub formless-process : (c : ℕ) (f g h i : Noted) (p : Clocked) → has_form edges ≡ false → g ≡ all_noted f (event_rules l edges) → p.clock ≡ c → p.given.items ≡ []
+      → h ≡ all_noted g (done l neither t).broken → i ≡ all_noted h (reset_breaks None) → IsProcess c f p i (has_form edges)
+  formless-process c f g h i p e j k none d n =
+      let event = event_rules l edges in
+      let body = (done l neither t).broken in
+      subst (IsProcess c f p i) (sym e) (
+        record {
+          clock = k;
+          body = record { stmt = λ b. absurd (tells b); sizes = λ b. absurd (tells b) };
+          reset = λ b. absurd (tells b);
+          given = subst (AreGiven (length l.entries) []) (sym none) tt;
+        },
+        then-noted f h i (event ++ body) (reset_breaks None) (then-noted f g h event body j d) n ∙ ap (λ bs. all_noted f (bs ++ reset_breaks None)) (sym (append-nil (event ++ body))),
+      )
     where
-      tells : (event_rules l edges ++ (done l neither t).broken) ++ [] ≡ [] → ⊥
-      tells b = no-form-breaks l edges e (none_of_both (event_rules l edges) (done l neither t).broken (none_of_both (event_rules l edges ++ (done l neither t).broken) [] b).0).0
+      tells : ((event_rules l edges ++ (done l neither t).broken) ++ []) ++ reset_breaks None ≡ [] → ⊥
+      tells b =
+          let front = (none_of_both ((event_rules l edges ++ (done l neither t).broken) ++ []) (reset_breaks None) b).0 in
+          no-form-breaks l edges e (none_of_both (event_rules l edges) (done l neither t).broken (none_of_both (event_rules l edges ++ (done l neither t).broken) [] front).0).0

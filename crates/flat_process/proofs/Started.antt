@@ -203,6 +203,7 @@ module _ (pins : List ResetPin) (d : Design) (e : u.Design) (zs : List u.Start) 
     assigns = h.assigns;
     combs = h.combs;
     clocked = h.clocked;
+    declared = h.declared;
     process_resets = h.process_resets;
     outputs = h.outputs;
     starts = λ k. ap (λ ys. start_at ys k) i ∙ start-behind s v d.entries.items k (subst (λ m. s < m) (sym as-many) inside)

@@ -1,19 +1,20 @@
 -- Processes, side by side with the definition's.
-use Rattle.std.specs.Prelude.{◌≡◌, ℕ, Bool, true, false, not, ◌==◌, List, [], length, Option, Some, None, option_map, option_and_then, Vec}
-use Rattle.std.specs.Option.{option_map_or}
+use Rattle.std.specs.Prelude.{◌≡◌, ℕ, Bool, true, cond, ◌&&◌, ◌||◌, List, [], length, Option, Some, None, is_some, is_none, option_map, Box, Vec}
+use Rattle.std.specs.List.{list_any}
 use Rattle.std.specs.Global.{Global}
 use Rattle.verilog_ast.specs.declared.Edge.{Edge}
-use Rattle.verilog_reading.specs.StmtTree.{StmtTree}
+use Rattle.verilog_ast.specs.declared.Stmt as s
+use Rattle.verilog_reading.specs.ExprTree.{ExprTree}
+use Rattle.verilog_reading.specs.StmtTree.{StmtTree, null, stmt_tree_of}
 use Rattle.flat_meaning.specs.Flat.{Stmt}
 use Rattle.flat_form.specs.View.{stmt_of, reset_of}
 use Rattle.flat_form.specs.declared.flat.FStmt.{FStmt}
 use Rattle.flat_unfolding.specs.Outcome.{Broken}
 use Rattle.flat_unfolding.specs.Names as n
-use Rattle.flat_unfolding.specs.Names.{meaning, width_at}
 use Rattle.flat_unfolding.specs.Widths.{stmt_keeps_sizes}
 use Rattle.flat_unfolding.specs.Statements.{clocked, done}
 use Rattle.flat_unfolding.specs.Resets as q
-use Rattle.flat_unfolding.specs.Processes.{clock_of, second_edge, meant_clock, reset_branch}
+use Rattle.flat_unfolding.specs.Processes.{is_wide, is_clock_falling, are_two, reset_edge, reset_branch}
 use Rattle.flat_unfolding.specs.Design as u
 use Rattle.flat_statements.specs.Statements.{IsDone}
 use Rattle.flat_process.specs.declared.reset.Given.{Given}
@@ -21,22 +22,31 @@ use Rattle.flat_process.specs.declared.always.Clocked.{Clocked}
 use Rattle.flat_process.specs.declared.always.ResetForm.{ResetForm}
 use Rattle.flat_process.specs.Resets.{AreGiven, AreGivenIf}
 
--- whether the clock has several bits
-abbrev pub is_wide_clock : n.Look → List Edge → Bool
-is_wide_clock l edges = option_map_or (λ s. not (width_at l.entries s == 1)) (clock_of l edges) false
+-- whether an edge has several bits, or the clock's falls
+abbrev pub breaks_edges : n.Look → List Edge → Bool
+breaks_edges l edges = list_any (is_wide l) edges || is_clock_falling l edges
+
+-- whether there are two edges of which not exactly one names a reset
+abbrev pub lacks_reset : n.Look → List Edge → Bool
+lacks_reset l edges = are_two edges && is_none (reset_edge l edges)
 
 -- a body, where none of these rules is broken
 pub record IsBody (x : Stmt) (bs : List Broken) (r : FStmt) : Type 0 where
   pub stmt : bs ≡ [] → stmt_of r ≡ x
   pub sizes : bs ≡ [] → stmt_keeps_sizes r ≡ true
 
--- the signal of the second edge, if there is one
-abbrev pub second_edge_signal : n.Look → List Edge → Option ℕ
-second_edge_signal l edges = option_and_then (λ (e : Edge). meant_clock l (meaning l e.name)) (second_edge edges)
-
--- what the reset of a process tells of its drivers, where its event has its form and its second edge this signal
+-- what the reset of a process tells of its drivers, where its event has its form and its reset's edge this signal
 abbrev pub reset_with : n.Look → Option ℕ → StmtTree → Option ℕ × Stmt
 reset_with l edge body = (edge, reset_branch l (q.reset_form l body))
+
+-- what stands in the other branch
+abbrev pub other_tree : Option (Box s.Stmt Global) → StmtTree
+other_tree None = null
+other_tree (Some z) = stmt_tree_of z.value
+
+-- what reset form with this condition leaves of a body: its other branch, or all of it
+abbrev pub left_tree : n.Look → ExprTree → (other all : StmtTree) → StmtTree
+left_tree l c z all = cond (is_some (q.reset_signals l c)) z all
 
 -- a clocked process in a design of so many signals: its clock, its body and what its reset tells where none of these rules is broken, and what its reset gives
 pub record IsClocked (n c : ℕ) (x : Stmt) (r : Option ℕ × Stmt) (us : List u.Given) (bs : List Broken) (p : Clocked) : Type 0 where

@@ -1,14 +1,14 @@
 //! Processes: their events, latches and resets.
-ghost use Rattle.std.specs.Prelude.{◌≡◌, ℕ, ◌++◌, ◌∷◌, [], true, false, not, ◌||◌, ◌==◌, List, Option, Some, None, is_some, is_none, length, map, flat_map, unwrap_or, IfOk, IfErr};
+ghost use Rattle.std.specs.Prelude.{◌≡◌, ℕ, ◌++◌, ◌∷◌, [], true, false, not, ◌&&◌, ◌||◌, ◌==◌, List, Option, Some, None, is_some, is_none, option_copied, length, map, flat_map, unwrap_or, IfOk, IfErr};
 ghost use Rattle.std.specs.Option.{option_map_or};
-ghost use Rattle.std.specs.List.{list_all};
+ghost use Rattle.std.specs.List.{list_all, list_any};
 ghost use Rattle.refusals.specs.Numbers.{HasNumberIn, unfolding_numbers};
 ghost use Rattle.cdc_base.specs.declared.signal.ResetPin.{ResetPin};
+ghost use Rattle.verilog_reading.specs.ExprTree.{tree_of};
 ghost use Rattle.verilog_reading.specs.StmtTree.{StmtTree, stmt_tree_of};
 ghost use Rattle.flat_meaning.specs.Flat.{Stmt as FlatStmt};
 ghost use Rattle.flat_unfolding.specs.Outcome.{Broken, breaks_if, judged, by_number};
 ghost use Rattle.flat_unfolding.specs.Names as n;
-ghost use Rattle.flat_unfolding.specs.Names.{meaning};
 ghost use Rattle.flat_unfolding.specs.Statements.{clocked as clocked_kind, of_wires, done};
 ghost use Rattle.flat_unfolding.specs.Reads.{latch_rule};
 ghost use Rattle.flat_unfolding.specs.Resets as q;
@@ -16,17 +16,19 @@ ghost use Rattle.flat_unfolding.specs.Resets.{reset_form as reset_form_of, reset
 ghost use Rattle.flat_unfolding.specs.Design as u;
 ghost use Rattle.flat_unfolding.specs.Design.{Stage, look_of};
 ghost use Rattle.flat_unfolding.specs.Processes as w;
-ghost use Rattle.flat_unfolding.specs.Processes.{always_item, edge_rules, event_rules, clocked_rules, clocked_body, body_without, reset_of, reset_gives, form_of, second_edge, meant_clock};
-ghost use Rattle.flat_unfolding.specs.Formed.{IsStmtFormed};
+ghost use Rattle.flat_unfolding.specs.Processes.{always_item, edge_rules, event_rules, clocked_rules, clocked_body, body_without, reset_of, reset_gives, form_of};
+ghost use Rattle.flat_unfolding.specs.Formed.{IsFormed, IsStmtFormed};
 ghost use Rattle.flat_names.specs.Noting.{all_noted};
 ghost use Rattle.flat_names.specs.Looks.{Shows, IsFit};
 ghost use Rattle.flat_names.specs.Designs.{IsPin, ShowsDesign, ShowsStage, Ends, Meets, signal_of};
 ghost use Rattle.flat_statements.specs.Statements.{IsDone};
 ghost use Rattle.flat_process.specs.Assigns.{fresh};
 ghost use Rattle.flat_process.specs.Resets.{ArePins};
-ghost use Rattle.flat_process.specs.Processes.{is_wide_clock, IsBody, second_edge_signal, reset_with, IsClocked, IsForm, IsFormIf};
+ghost use Rattle.flat_process.specs.Processes.{breaks_edges, lacks_reset, IsBody, reset_with, IsClocked, other_tree, left_tree, IsForm, IsFormIf};
 
-use crate::reset::{Given, keep_given, peeled, reset_branch, reset_signals};
+use crate::reset::{
+    Given, is_reset, keep_given, peeled, reset_branch, reset_signals, tested_signals,
+};
 use cdc_base::{Name, NoMemory, Place, Stop};
 use flat_form::flat::{FStmt, FlatClocked, FlatComb, FlatReset};
 use flat_form::memory::push;
@@ -36,7 +38,7 @@ use flat_names::scope::{Look, Meaning, Names};
 use flat_statements::latch::first_latch;
 use flat_statements::statement::{Mode, statement};
 use std::alloc::Global;
-use verilog_ast::{Edge, EdgeKind, Event, Stmt};
+use verilog_ast::{Edge, EdgeKind, Event, Expr, Stmt};
 
 /// `always`: a process of wires, or one with a clock.
 pub fn add_process(
@@ -175,6 +177,7 @@ fn clocked_process(
         process_with_form(look, edges, clock, body, faults)
     } else {
         let body = statement(look, body, Mode::Neither, faults)?;
+        note_reset(look, edges, &None, faults)?;
         Ok(Clocked {
             clock,
             body,
@@ -187,13 +190,23 @@ fn clocked_process(
     }
 }
 
-/// Whether an event is one rising edge, or a rising edge and one more edge.
+/// Whether an event is one rising edge, or two edges of which one rises at least.
 fn has_form(edges: &[Edge]) -> bool
     ensures { result ≡ w.has_form edges.now }
 {
     match edges {
         [clock] => clock.kind == EdgeKind::Pos,
-        [clock, second] => clock.kind == EdgeKind::Pos && second.kind != EdgeKind::Level,
+        [one, other] => are_edges(one.kind, other.kind),
+        _ => false,
+    }
+}
+
+fn are_edges(one: EdgeKind, other: EdgeKind) -> bool
+    ensures { result ≡ (w.is_an_edge one && w.is_an_edge other && (w.is_rising one || w.is_rising other)) }
+{
+    match (one, other) {
+        (EdgeKind::Pos, EdgeKind::Pos | EdgeKind::Neg) => true,
+        (EdgeKind::Neg, EdgeKind::Pos) => true,
         _ => false,
     }
 }
@@ -208,7 +221,7 @@ fn first_edge(edges: &[Edge]) -> &str
     }
 }
 
-/// Notes where an event hasn't its form, an edge is that of no signal, or the clock has several bits.
+/// Notes where an event hasn't its form, an edge is that of no signal or of several bits, or the clock's edge falls.
 fn note_event(look: &Look, edges: &[Edge], faults: &mut Faults) -> Result<(), NoMemory>
     ensures { (l : n.Look) → Shows look.now l → IsFit l → IfOk result (λ _. faults.new ≡ all_noted faults.old (event_rules l edges.now)) }
 {
@@ -220,9 +233,16 @@ fn note_event(look: &Look, edges: &[Edge], faults: &mut Faults) -> Result<(), No
 }
 
 fn breaks_event(look: &Look, edges: &[Edge]) -> bool
-    ensures { (l : n.Look) → Shows look.now l → IsFit l → result ≡ (not (w.has_form edges.now) || is_wide_clock l edges.now) }
+    ensures { (l : n.Look) → Shows look.now l → IsFit l → result ≡ (not (w.has_form edges.now) || breaks_edges l edges.now) }
 {
-    !has_form(edges) || has_wide_clock(look, edges)
+    !has_form(edges) || have_fault(look, edges)
+}
+
+/// Whether an edge has several bits, or the clock's falls.
+fn have_fault(look: &Look, edges: &[Edge]) -> bool
+    ensures { (l : n.Look) → Shows look.now l → IsFit l → result ≡ breaks_edges l edges.now }
+{
+    has_wide_edge(look, edges) || is_clock_falling(look, edges)
 }
 
 fn note_edges(look: &Look, edges: &[Edge], faults: &mut Faults) -> Result<(), NoMemory>
@@ -249,22 +269,52 @@ fn note_edge(look: &Look, first: &str, name: &Name, faults: &mut Faults) -> Resu
 fn clock_of(look: &Look, edges: &[Edge]) -> Option<u32>
     ensures { (l : n.Look) → Shows look.now l → result ≡ w.clock_of l edges.now }
 {
-    edge_signal(look, edges.first()?)
+    edge_signal(look, clock_edge(look, edges)?)
 }
 
-/// The signal of the second edge, if there is one.
-fn second_signal(look: &Look, edges: &[Edge]) -> Option<u32>
-    ensures { (l : n.Look) → Shows look.now l → result ≡ second_edge_signal l edges.now }
+/// The signal of the reset's edge, if there is one.
+fn reset_signal(look: &Look, edges: &[Edge]) -> Option<u32>
+    ensures { (l : n.Look) → Shows look.now l → result ≡ w.reset_signal l edges.now }
+{
+    edge_signal(look, reset_edge(look, edges)?)
+}
+
+/// The clock's edge: of two edges the one beside the reset's, else the first.
+fn clock_edge<'a>(look: &Look, edges: &'a [Edge]) -> Option<&'a Edge>
+    ensures { (l : n.Look) → Shows look.now l → option_copied result ≡ w.clock_edge l edges.now }
 {
     match edges {
-        [_, second, ..] => edge_signal(look, second),
+        [one, other] if names_reset(look, one) && !names_reset(look, other) => Some(other),
+        _ => edges.first(),
+    }
+}
+
+/// The reset's edge: of two edges the one that names a reset, where the other one doesn't.
+fn reset_edge<'a>(look: &Look, edges: &'a [Edge]) -> Option<&'a Edge>
+    ensures { (l : n.Look) → Shows look.now l → option_copied result ≡ w.reset_edge l edges.now }
+{
+    match edges {
+        [one, other] => match (names_reset(look, one), names_reset(look, other)) {
+            (true, false) => Some(one),
+            (false, true) => Some(other),
+            _ => None,
+        },
         _ => None,
+    }
+}
+
+fn names_reset(look: &Look, edge: &Edge) -> bool
+    ensures { (l : n.Look) → Shows look.now l → result ≡ w.names_reset l edge.now }
+{
+    match edge_signal(look, edge) {
+        Some(sig) => is_reset(look, sig),
+        None => false,
     }
 }
 
 /// The signal that an edge names.
 fn edge_signal(look: &Look, edge: &Edge) -> Option<u32>
-    ensures { (l : n.Look) → Shows look.now l → result ≡ meant_clock l (meaning l edge.now.name) }
+    ensures { (l : n.Look) → Shows look.now l → result ≡ w.edge_signal l edge.now }
 {
     match look.meaning(&edge.name) {
         Some(Meaning::Signal(sig)) => Some(sig),
@@ -272,11 +322,33 @@ fn edge_signal(look: &Look, edge: &Edge) -> Option<u32>
     }
 }
 
-fn has_wide_clock(look: &Look, edges: &[Edge]) -> bool
-    ensures { (l : n.Look) → Shows look.now l → IsFit l → result ≡ is_wide_clock l edges.now }
+fn has_wide_edge(look: &Look, edges: &[Edge]) -> bool
+    ensures { (l : n.Look) → Shows look.now l → IsFit l → result ≡ list_any (w.is_wide l) edges.now }
 {
-    match clock_of(look, edges) {
+    for edge in edges {
+        if is_wide(look, edge) {
+            return true;
+        }
+    }
+    false
+}
+
+/// Whether the signal of an edge has several bits.
+fn is_wide(look: &Look, edge: &Edge) -> bool
+    ensures { (l : n.Look) → Shows look.now l → IsFit l → result ≡ w.is_wide l edge.now }
+{
+    match edge_signal(look, edge) {
         Some(sig) => look.width(sig) != 1,
+        None => false,
+    }
+}
+
+/// Whether the clock's edge falls, where the other one is known to be a reset's.
+fn is_clock_falling(look: &Look, edges: &[Edge]) -> bool
+    ensures { (l : n.Look) → Shows look.now l → result ≡ w.is_clock_falling l edges.now }
+{
+    match clock_edge(look, edges) {
+        Some(clock) => reset_edge(look, edges).is_some() && clock.kind != EdgeKind::Pos,
         None => false,
     }
 }
@@ -290,19 +362,21 @@ fn process_with_form(
     faults: &mut Faults,
 ) -> Result<Clocked, NoMemory>
     ensures { (pins : List ResetPin) (l : n.Look) → Shows look.now l → IsFit l → ArePins pins look.now l → IsStmtFormed (stmt_tree_of body.now)
-        → IfOk result (λ p. IsClocked (length l.entries) clock (body_without l (stmt_tree_of body.now) (reset_form_of l (stmt_tree_of body.now))) (reset_with l (second_edge_signal l edges.now) (stmt_tree_of body.now))
+        → IfOk result (λ p. IsClocked (length l.entries) clock (body_without l (stmt_tree_of body.now) (reset_form_of l (stmt_tree_of body.now))) (reset_with l (w.reset_signal l edges.now) (stmt_tree_of body.now))
         (reset_gives l (reset_form_of l (stmt_tree_of body.now))) (done l clocked_kind (stmt_tree_of body.now)).broken p
-        × (faults.new ≡ all_noted faults.old ((done l clocked_kind (stmt_tree_of body.now)).broken ++ reset_rules l (w.first_edge edges.now) (second_edge edges.now) (reset_form_of l (stmt_tree_of body.now))))) }
+        × (faults.new ≡ all_noted faults.old ((done l clocked_kind (stmt_tree_of body.now)).broken ++ breaks_if (lacks_reset l edges.now) 317 (w.first_edge edges.now)
+        ++ reset_rules l (w.first_edge edges.now) (w.reset_edge l edges.now) (reset_form_of l (stmt_tree_of body.now))))) }
 {
     let whole = statement(look, body, Mode::Clocked, faults)?;
+    note_pair(look, edges, faults)?;
     let form = reset_form(look, body)?;
     note_reset(look, edges, &form, faults)?;
-    let edge = second_signal(look, edges);
+    let edge = reset_signal(look, edges);
     Ok(with_reset(look.alloc, clock, edge, whole, form))
 }
 
-/// A body in reset form: the signals of its condition, its first branch, what that gives where it has its form, and the
-/// other branch.
+/// A body in reset form: the signals of its resets, its first branch, what that gives where it has its form, and what is
+/// left of the body.
 #[derive(Drop)]
 struct ResetForm {
     signals: Vec<u32>,
@@ -315,18 +389,16 @@ fn reset_form(look: &Look, body: &Stmt) -> Result<Option<ResetForm>, NoMemory>
     ensures { (pins : List ResetPin) (l : n.Look) → Shows look.now l → IsFit l → ArePins pins look.now l → IsStmtFormed (stmt_tree_of body.now)
         → IfOk result (λ o. IsFormIf l (reset_form_of l (stmt_tree_of body.now)) o) }
 {
-    let Stmt::If { cond, yes, other } = peeled(body) else {
+    let stmt = peeled(body);
+    let Stmt::If { cond, yes, other } = stmt else {
         return Ok(None);
     };
-    let Some(signals) = reset_signals(look, cond)? else {
+    let Some(signals) = tested_signals(look, cond)? else {
         return Ok(None);
     };
     let branch = branch_body(look, yes)?;
     let given = reset_branch(look, yes)?;
-    let rest = match other {
-        Some(other) => branch_body(look, other)?,
-        None => FStmt::Null,
-    };
+    let rest = rest_body(look, stmt, cond, other)?;
     Ok(Some(ResetForm {
         signals,
         branch,
@@ -335,7 +407,32 @@ fn reset_form(look: &Look, body: &Stmt) -> Result<Option<ResetForm>, NoMemory>
     }))
 }
 
-/// A branch of a body in reset form. What it breaks is noted with the whole body.
+/// What is left of a body in reset form: its other branch where the condition tests resets alone, else all of it.
+fn rest_body(
+    look: &Look,
+    stmt: &Stmt,
+    cond: &Expr,
+    other: &Option<Box<Stmt>>,
+) -> Result<FStmt, NoMemory>
+    ensures { (l : n.Look) → Shows look.now l → IsFit l → IsFormed (tree_of cond.now) → IsStmtFormed (stmt_tree_of stmt.now) → IsStmtFormed (other_tree other.now)
+        → IfOk result (λ r. IsDone (done l clocked_kind (left_tree l (tree_of cond.now) (other_tree other.now) (stmt_tree_of stmt.now))) r) }
+{
+    match reset_signals(look, cond)? {
+        Some(_) => other_body(look, other),
+        None => branch_body(look, stmt),
+    }
+}
+
+fn other_body(look: &Look, other: &Option<Box<Stmt>>) -> Result<FStmt, NoMemory>
+    ensures { (l : n.Look) → Shows look.now l → IsFit l → IsStmtFormed (other_tree other.now) → IfOk result (λ r. IsDone (done l clocked_kind (other_tree other.now)) r) }
+{
+    match other {
+        Some(other) => branch_body(look, other),
+        None => Ok(FStmt::Null),
+    }
+}
+
+/// A part of a body in reset form. What it breaks is noted with the whole body.
 fn branch_body(look: &Look, branch: &Stmt) -> Result<FStmt, NoMemory>
     ensures { (l : n.Look) → Shows look.now l → IsFit l → IsStmtFormed (stmt_tree_of branch.now) → IfOk result (λ r. IsDone (done l clocked_kind (stmt_tree_of branch.now)) r) }
 {
@@ -343,7 +440,24 @@ fn branch_body(look: &Look, branch: &Stmt) -> Result<FStmt, NoMemory>
     statement(look, branch, Mode::Clocked, &mut unheard)
 }
 
-/// Notes where a second edge isn't that of the reset, or where the reset's branch hasn't its form.
+/// Notes two edges of which not exactly one names a reset.
+fn note_pair(look: &Look, edges: &[Edge], faults: &mut Faults) -> Result<(), NoMemory>
+    ensures { (l : n.Look) → Shows look.now l → IfOk result (λ _. faults.new ≡ all_noted faults.old (breaks_if (lacks_reset l edges.now) 317 (w.first_edge edges.now))) }
+{
+    if lack_reset(look, edges) {
+        faults.note(Rule::ResetForm, first_edge(edges))?;
+    }
+    Ok(())
+}
+
+fn lack_reset(look: &Look, edges: &[Edge]) -> bool
+    ensures { (l : n.Look) → Shows look.now l → result ≡ lacks_reset l edges.now }
+{
+    edges.len() == 2 && reset_edge(look, edges).is_none()
+}
+
+/// Notes where the reset's edge isn't that of the signals that reset form tests, or where the first branch hasn't its
+/// form.
 fn note_reset(
     look: &Look,
     edges: &[Edge],
@@ -351,7 +465,7 @@ fn note_reset(
     faults: &mut Faults,
 ) -> Result<(), NoMemory>
     ensures { (pins : List ResetPin) (l : n.Look) (f : Option q.ResetForm) → Shows look.now l → ArePins pins look.now l → IsFormIf l f form.now
-        → IfOk result (λ _. faults.new ≡ all_noted faults.old (reset_rules l (w.first_edge edges.now) (second_edge edges.now) f)) }
+        → IfOk result (λ _. faults.new ≡ all_noted faults.old (reset_rules l (w.first_edge edges.now) (w.reset_edge l edges.now) f)) }
 {
     if breaks_reset(look, edges, form) {
         faults.note(Rule::ResetForm, first_edge(edges))?;
@@ -361,37 +475,28 @@ fn note_reset(
 
 fn breaks_reset(look: &Look, edges: &[Edge], form: &Option<ResetForm>) -> bool
     ensures { (pins : List ResetPin) (l : n.Look) (f : Option q.ResetForm) → Shows look.now l → ArePins pins look.now l → IsFormIf l f form.now
-        → breaks_if result 317 (w.first_edge edges.now) ≡ reset_rules l (w.first_edge edges.now) (second_edge edges.now) f }
+        → breaks_if result 317 (w.first_edge edges.now) ≡ reset_rules l (w.first_edge edges.now) (w.reset_edge l edges.now) f }
 {
     match form {
         Some(form) => breaks_form(look, edges, form),
-        None => has_second(edges),
-    }
-}
-
-fn has_second(edges: &[Edge]) -> bool
-    ensures { result ≡ is_some (second_edge edges.now) }
-{
-    match edges {
-        [_, _, ..] => true,
-        _ => false,
+        None => reset_edge(look, edges).is_some(),
     }
 }
 
 fn breaks_form(look: &Look, edges: &[Edge], form: &ResetForm) -> bool
     ensures { (pins : List ResetPin) (l : n.Look) (f : q.ResetForm) → Shows look.now l → ArePins pins look.now l → IsForm l f form.now
-        → result ≡ (not (option_map_or (is_edge_of_reset l f.signals) (second_edge edges.now) true) || is_none f.given) }
+        → result ≡ (not (option_map_or (is_edge_of_reset l f.signals) (w.reset_edge l edges.now) true) || is_none f.given) }
 {
-    !fits_second(look, edges, form.signals.as_slice()) || form.given.is_none()
+    !fits_edge(look, edges, form.signals.as_slice()) || form.given.is_none()
 }
 
-/// Whether a second edge is that of the reset with these signals.
-fn fits_second(look: &Look, edges: &[Edge], signals: &[u32]) -> bool
-    ensures { (pins : List ResetPin) (l : n.Look) → Shows look.now l → ArePins pins look.now l → result ≡ option_map_or (is_edge_of_reset l signals.now) (second_edge edges.now) true }
+/// Whether the reset's edge, if there is one, is that of these signals.
+fn fits_edge(look: &Look, edges: &[Edge], signals: &[u32]) -> bool
+    ensures { (pins : List ResetPin) (l : n.Look) → Shows look.now l → ArePins pins look.now l → result ≡ option_map_or (is_edge_of_reset l signals.now) (w.reset_edge l edges.now) true }
 {
-    match edges {
-        [_, second, ..] => is_edge_of(look, second, signals),
-        _ => true,
+    match reset_edge(look, edges) {
+        Some(edge) => is_edge_of(look, edge, signals),
+        None => true,
     }
 }
 
@@ -433,7 +538,7 @@ fn is_active_edge(kind: EdgeKind, reset: Reset) -> bool
     }
 }
 
-/// The process of a body, which leaves out the reset's branch where it has reset form.
+/// The process of a body, which keeps what reset form leaves of it.
 fn with_reset(
     alloc: Global,
     clock: u32,

@@ -1,5 +1,5 @@
-//! Resets of clocked processes: the form `if (reset) constants else rest`.
-ghost use Rattle.std.specs.Prelude.{◌≡◌, ℕ, ◌+◌, ◌-◌, ◌^◌, ◌/◌, ◌<◌, ◌≤◌, ◌==◌, ◌++◌, ◌∷◌, [], true, false, not, List, length, map, is_some, option_map, IfOk};
+//! Resets of clocked processes: the form `if (reset) constants else rest`, also with a clear beside the reset.
+ghost use Rattle.std.specs.Prelude.{◌≡◌, ℕ, ◌+◌, ◌-◌, ◌^◌, ◌/◌, ◌<◌, ◌≤◌, ◌==◌, ◌++◌, ◌∷◌, [], true, false, not, List, length, map, option_map, IfOk};
 ghost use Rattle.std.specs.Option.{option_map_or};
 ghost use Rattle.cdc_base.specs.declared.signal.ResetPin.{ResetPin};
 ghost use Rattle.verilog_reading.specs.ExprTree.{tree_of, trees_of, target_tree_of, target_trees_of};
@@ -10,7 +10,7 @@ ghost use Rattle.flat_unfolding.specs.Names as n;
 ghost use Rattle.flat_unfolding.specs.Names.{width_at};
 ghost use Rattle.flat_unfolding.specs.Expressions.{Term};
 ghost use Rattle.flat_unfolding.specs.Targets.{Aim};
-ghost use Rattle.flat_unfolding.specs.Resets.{peeled as peeled_of, names_in, all_names_in, signals_among, is_one_reset, is_test as is_test_of, at_level, reset_signals as reset_signals_of, has_variable_index as has_variable_index_of, has_variable_index_in, row_given as row_given_of, rows_given as rows_given_of, branch_given};
+ghost use Rattle.flat_unfolding.specs.Resets.{peeled as peeled_of, names_in, all_names_in, signals_among, is_reset as is_reset_of, are_resets as are_resets_of, is_test as is_test_of, at_level, reset_signals as reset_signals_of, is_one_bit as is_one_bit_of, is_or as is_or_of, both_signals as both_signals_of, tested_signals as tested_signals_of, has_variable_index as has_variable_index_of, has_variable_index_in, row_given as row_given_of, rows_given as rows_given_of, branch_given};
 ghost use Rattle.flat_unfolding.specs.Design as u;
 ghost use Rattle.flat_unfolding.specs.Formed.{IsFormed, IsTargetFormed, AreTargetsFormed, IsStmtFormed, AreRowsFormed};
 ghost use Rattle.flat_names.specs.Looks.{Shows, IsFit};
@@ -24,13 +24,13 @@ use flat_form::bits::{bits, low_bits, shifted_left, shifted_right};
 use flat_form::flat::FTarget;
 use flat_form::memory::push;
 use flat_form::value::{assigned_value, own_value};
-use flat_names::design::{Design, Entry, Reset};
+use flat_names::design::{Design, Entry};
 use flat_names::expr::resolve;
 use flat_names::fault::{Faults, Order};
 use flat_names::resolved::Resolved;
 use flat_names::scope::{Look, Meaning};
 use flat_targets::target::{Assigned, Fixed, fixed_target};
-use verilog_ast::{Expr, Stmt, Target};
+use verilog_ast::{BinaryOp, Expr, Stmt, Target};
 
 /// A value that a reset gives to bits of a register.
 #[derive(Clone, Copy, Debug, Drop)]
@@ -75,11 +75,11 @@ impl Signals {
         }
     }
 
-    /// Whether there is no other name, and the signals resolve to one reset.
-    fn are_one_reset(&self, look: &Look) -> bool
-        ensures { (pins : List ResetPin) (l : n.Look) → Shows look.now l → ArePins pins look.now l → result ≡ option_map_or (is_one_reset l) (signals_of self.now) false }
+    /// Whether there is no other name, and the signals resolve to resets.
+    fn are_resets(&self, look: &Look) -> bool
+        ensures { (l : n.Look) → Shows look.now l → result ≡ option_map_or (are_resets_of l) (signals_of self.now) false }
     {
-        !self.has_others && common_reset(look, self.numbers.as_slice()).is_some()
+        !self.has_others && are_resets(look, self.numbers.as_slice())
     }
 }
 
@@ -128,35 +128,108 @@ fn add_names_of(look: &Look, exprs: &[Expr], signals: &mut Signals) -> Result<()
     Ok(())
 }
 
-/// The one reset that all these signals resolve to.
-fn common_reset(look: &Look, signals: &[u32]) -> Option<Reset>
-    ensures { (pins : List ResetPin) (l : n.Look) → Shows look.now l → ArePins pins look.now l → is_some result ≡ is_one_reset l signals.now }
+/// Whether a signal resolves to a reset.
+pub fn is_reset(look: &Look, sig: u32) -> bool
+    ensures { (l : n.Look) → Shows look.now l → result ≡ is_reset_of l sig }
 {
-    let (first, others) = signals.split_first()?;
-    let reset = look.reset(*first)?;
-    for sig in others {
-        if look.reset(*sig)? != reset {
-            return None;
-        }
-    }
-    Some(reset)
+    look.reset(sig).is_some()
 }
 
-/// The signals of a condition that tests one reset alone: it is false at the inactive level and true at the active one.
-/// `None` where the condition is another one.
+/// Whether these are one signal or more, each of which resolves to a reset.
+fn are_resets(look: &Look, signals: &[u32]) -> bool
+    ensures { (l : n.Look) → Shows look.now l → result ≡ are_resets_of l signals.now }
+{
+    for sig in signals {
+        if !is_reset(look, *sig) {
+            return false;
+        }
+    }
+    !signals.is_empty()
+}
+
+/// The signals of a condition that tests resets alone: it is false at their inactive levels and true at their active
+/// ones. `None` where the condition is another one.
 pub fn reset_signals(look: &Look, cond: &Expr) -> Result<Option<Vec<u32>>, NoMemory>
-    ensures { (pins : List ResetPin) (l : n.Look) → Shows look.now l → IsFit l → ArePins pins look.now l → IsFormed (tree_of cond.now) → IfOk result (λ o. option_map (λ v. v.items) o ≡ reset_signals_of l (tree_of cond.now)) }
+    ensures { (l : n.Look) → Shows look.now l → IsFit l → IsFormed (tree_of cond.now) → IfOk result (λ o. option_map (λ v. v.items) o ≡ reset_signals_of l (tree_of cond.now)) }
 {
     let mut signals = Signals {
         numbers: Vec::new(look.alloc),
         has_others: false,
     };
     add_names(look, cond, &mut signals)?;
-    if signals.are_one_reset(look) && is_test(look, cond)? {
+    if signals.are_resets(look) && is_test(look, cond)? {
         Ok(Some(signals.numbers))
     } else {
         Ok(None)
     }
+}
+
+/// The signals of the greatest conditions over resets alone of which a condition is made by `||`, or by `|` of bits.
+/// `None` where there is none.
+#[cycle(tested_signals)]
+pub fn tested_signals(look: &Look, cond: &Expr) -> Result<Option<Vec<u32>>, NoMemory>
+    ensures { (l : n.Look) → Shows look.now l → IsFit l → IsFormed (tree_of cond.now) → IfOk result (λ o. option_map (λ v. v.items) o ≡ tested_signals_of l (tree_of cond.now)) }
+{
+    match cond {
+        Expr::Paren(inner) => tested_signals(look, inner),
+        Expr::Binary { op, a, b } => {
+            if let Some(signals) = reset_signals(look, cond)? {
+                return Ok(Some(signals));
+            }
+            if !is_or(look, *op, a, b)? {
+                return Ok(None);
+            }
+            let left = tested_signals(look, a)?;
+            let right = tested_signals(look, b)?;
+            both_signals(left, right)
+        }
+        _ => reset_signals(look, cond),
+    }
+}
+
+/// The signals of both operands, or of the one that has some.
+fn both_signals(
+    left: Option<Vec<u32>>,
+    right: Option<Vec<u32>>,
+) -> Result<Option<Vec<u32>>, NoMemory>
+    ensures { (l : n.Look) → IfOk result (λ o. option_map (λ v. v.items) o ≡ both_signals_of l (option_map (λ v. v.items) left) (option_map (λ v. v.items) right)) }
+{
+    let Some(mut signals) = left else {
+        return Ok(right);
+    };
+    if let Some(more) = right {
+        push_all(&mut signals, more.as_slice())?;
+    }
+    Ok(Some(signals))
+}
+
+fn push_all(signals: &mut Vec<u32>, more: &[u32]) -> Result<(), NoMemory>
+    ensures { IfOk result (λ _. signals.new.items ≡ signals.old.items ++ more.now) }
+{
+    match signals.extend_from_slice(more) {
+        Ok(()) => Ok(()),
+        Err(_) => Err(NoMemory),
+    }
+}
+
+/// Whether an operator is `||`, or `|` of two bits.
+fn is_or(look: &Look, op: BinaryOp, a: &Expr, b: &Expr) -> Result<bool, NoMemory>
+    ensures { (l : n.Look) → Shows look.now l → IsFit l → IsFormed (tree_of a.now) → IsFormed (tree_of b.now) → IfOk result (λ r. r ≡ is_or_of l op (tree_of a.now) (tree_of b.now)) }
+{
+    match op {
+        BinaryOp::LogicOr => Ok(true),
+        BinaryOp::Or => Ok(is_one_bit(look, a)? && is_one_bit(look, b)?),
+        _ => Ok(false),
+    }
+}
+
+/// Whether an expression breaks no rule and has one bit.
+fn is_one_bit(look: &Look, expr: &Expr) -> Result<bool, NoMemory>
+    ensures { (l : n.Look) → Shows look.now l → IsFit l → IsFormed (tree_of expr.now) → IfOk result (λ r. r ≡ is_one_bit_of l (tree_of expr.now)) }
+{
+    let mut unheard = Faults::new(look.alloc, Order::Other);
+    let expr = resolve(look, expr, &mut unheard)?;
+    Ok(expr.is_sound && expr.width() == 1)
 }
 
 /// Whether a condition over resets is false while they are inactive, and true while they are active.

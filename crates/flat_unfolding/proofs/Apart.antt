@@ -1,12 +1,12 @@
 -- Clocked processes that assign one signal: which bits they may assign, and their clock.
-use Rattle.std.proofs.Common.{◌≡◌, ℕ, ◌+◌, ◌≤◌, Bool, true, false, cond, not, ◌&&◌, ◌||◌, ◌==◌, List, [], ◌∷◌, map, Option, None, refl, sym, ap, subst, ◌∙◌, arith, rules, eqb-true, le_refl}
+use Rattle.std.proofs.Common.{◌≡◌, ℕ, ◌≤◌, Bool, true, false, cond, not, ◌&&◌, ◌||◌, ◌==◌, List, [], ◌∷◌, map, Option, None, refl, sym, ap, subst, ◌∙◌, arith, rules, eqb-true, le_refl}
 use Rattle.std.specs.Prelude.{All}
 use Rattle.std.proofs.lemmas.Bool.{or_parts}
 use Rattle.std.proofs.lemmas.List.Elements.{All-cons, All-nil}
 use Rattle.flat_meaning.specs.Flat.{Stmt, Null, assigns}
 use Rattle.flat_meaning.specs.Assigned.{may_assign}
 use Rattle.flat_meaning.specs.Design.{once, times_processed}
-use Rattle.flat_unfolding.specs.Drivers.{Process, processes, drives, may_drive, times_driven, is_same_signal, have_same_edges, is_driven_apart, have_other_edges}
+use Rattle.flat_unfolding.specs.Drivers.{Process, processes, drives, times_driven, is_same_signal, have_same_edges, is_driven_apart, have_other_edges}
 
 -- what may be assigned behind the reset may be assigned by the process
 pub fewer_bodies : (wid : ℕ → ℕ) (s i : ℕ) (ps : List (ℕ × Stmt)) (rs : List (Option ℕ × Stmt)) → times_processed wid s i (map (λ (p : ℕ × Stmt). p.1) ps) ≤ times_driven wid (processes ps rs) s i

@@ -183,7 +183,7 @@ added_declares : (d : Design) (s : Stage) (fs : List Entry) (names : Names) (t :
     → AreNamed (s.design.entries ++ fs) names → AreFresh (length d.entries) names → IsDeclaring d s → IsDeclaring d t
 added_declares d s fs names t e a p n r h =
     let es = s.design.entries in
-    let g = good_then (refused_if (nat_lt 65536 (length es + length fs)) 601 None []) _ t e in
+    let g = good_then (refused_if (nat_lt 1048576 (length es + length fs)) 601 None []) _ t e in
     subst (IsDeclaring d) (good_is _ t g.2) record {
       same = ap (λ (x : Design). record x { entries = es ++ fs }) h.same;
       grows = grows_on d.entries es (es ++ fs) h.grows (grows_behind es fs);

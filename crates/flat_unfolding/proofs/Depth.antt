@@ -11,7 +11,7 @@ use Rattle.flat_unfolding.specs.Design.{Design, Stage, look_of}
 use Rattle.flat_unfolding.specs.Parameters.{Overrides, parameters}
 use Rattle.flat_unfolding.specs.Declarations.{declarations}
 use Rattle.flat_unfolding.specs.Instances.{override_rules, overrides_of, connection_rules, links_of, connected, leaning_of, is_short}
-use Rattle.flat_unfolding.specs.Unfolding.{module_named, Visit, instance_of, instance_item, item_of, item, header_values, visit}
+use Rattle.flat_unfolding.specs.Unfolding.{module_named, Visit, instance_of, instance_item, item_of, item, header_values, with_resets, visit}
 use Rattle.flat_unfolding.specs.Laws.{DepthLaw}
 use Rattle.flat_unfolding.proofs.Names.{AllIn, AreDistinct, no_more_than, found_is_in}
 
@@ -76,7 +76,7 @@ module _ (modules : List ModuleTree) where
   same_visit (suc n) prefix visiting m o l overrides ports d =
       then_same (parameters overrides m (record { names = []; design = d })) _ _ (λ s.
       then_same (declarations prefix m s) _ _ (λ t.
-      then_same (header_values m (ports t)) _ _ (λ u.
+      then_same (header_values m (ports (with_resets (length d.entries) t))) _ _ (λ u.
       each_same (item modules visiting prefix (visit modules (suc n))) (item modules visiting prefix (visit modules n))
       (λ a i. same_item visiting o prefix (visit modules (suc n)) (visit modules n)
       (λ inner k p. same_visit n inner (k.name ∷ visiting) k p (let j : length modules < n + length (k.name ∷ visiting) = omega (arith, l) in j)) a i.place i.body)

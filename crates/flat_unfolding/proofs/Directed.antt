@@ -164,7 +164,7 @@ module _ (ds : List DeclTree) (s : Stage) (h : KnowsInputs ds s) (named : AreNam
   signal_knows : (at : Site) (r : Option Range) → found_in s.names d.name ≡ None → (t : Stage) → add_signal s at d r ≡ good t → KnowsInputs more t
   signal_knows at r new t e =
       let es = s.design.entries in let fs = entry at d.kind r (is_plain_port d.kind && not at.in_header) d.name ∷ [] in
-      let g = good_then (refused_if (nat_lt 65536 (length es + 1)) 601 None []) _ t e in
+      let g = good_then (refused_if (nat_lt 1048576 (length es + 1)) 601 None []) _ t e in
       subst (KnowsInputs more) (good_is _ t g.2) (further_knows fs ((d.name, a_signal (length es)) ∷ []) (λ i. new)
       (λ x n f o. fresh x n (bytes_eq d.name x) f (one_direction x d inward o).2) (λ x f. none_other x d (rest x (bytes_eq d.name x) f)))
     where
@@ -186,7 +186,7 @@ module _ (ds : List DeclTree) (s : Stage) (h : KnowsInputs ds s) (named : AreNam
   memory_knows : (at : Site) (r : Option Range) (n : ℕ) → is_inner (direction_of d.kind) ≡ true → (t : Stage) → add_memory s at d r n ≡ good t → KnowsInputs more t
   memory_knows at r n i t e =
       let es = s.design.entries in let xs = word_names d.name 0 n in
-      let g = good_then (refused_if (nat_lt 65536 (length es + length (map (entry at d.kind r false) xs))) 601 None []) _ t e in
+      let g = good_then (refused_if (nat_lt 1048576 (length es + length (map (entry at d.kind r false) xs))) 601 None []) _ t e in
       subst (KnowsInputs more) (good_is _ t g.2) (further_knows (map (entry at d.kind r false) xs) (taken_names xs ++ ((d.name, a_memory (record { first = length es; words = n })) ∷ []))
       (λ j. absurd (search (rules, i, j))) (λ x m f o. absurd (let z = none_inner x d i in search (rules, sym z ∙ o))) (λ x f. none_inner x d i))
 

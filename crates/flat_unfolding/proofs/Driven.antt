@@ -81,6 +81,34 @@ module _ (wid : ℕ → ℕ) (may : ℕ → Bool) where
       none_timed no_targets h = refl
       none_timed (target t ts) h = let a = never_timed t h.0 in let b = none_timed ts h.1 in omega arith
 
+-- what is no target of an assignment is not driven by it
+module _ (bits : ℕ → ℕ) (x i : ℕ) where
+  mutual
+    untargeted : (t : Target) → is_target t x ≡ false → times_in bits x i t ≡ 0
+    untargeted (Whole s) h = ap (λ b. once (b && is_within 0 (bits s) i)) h
+    untargeted (Part s at w) h = ap (λ b. once (b && is_within at w i)) h
+    untargeted (Pick s e) h = refl
+    untargeted (Group ts) h = all_untargeted ts h
+
+    all_untargeted : (ts : Targets) → are_targets ts x ≡ false → all_times_in bits x i ts ≡ 0
+    all_untargeted no_targets h = refl
+    all_untargeted (target t ts) h =
+        let k = or_parts (is_target t x) (are_targets ts x) h in
+        let a = untargeted t k.0 in let b = all_untargeted ts k.1 in omega arith
+
+  unassigned : (xs : List (Target × Expr)) → list_any (λ (a : Target × Expr). is_target a.0 x) xs ≡ false → times_assigned bits x i xs ≡ 0
+  unassigned [] h = refl
+  unassigned (a ∷ xs) h =
+      let k = or_parts (is_target a.0 x) (list_any (λ (b : Target × Expr). is_target b.0 x) xs) h in
+      let p = untargeted a.0 k.0 in let q = unassigned xs k.1 in omega arith
+
+  pub is_assigned : (xs : List (Target × Expr)) → 1 ≤ times_assigned bits x i xs → list_any (λ (a : Target × Expr). is_target a.0 x) xs ≡ true
+  is_assigned xs l = go (list_any (λ (a : Target × Expr). is_target a.0 x) xs) refl
+    where
+      go : (b : Bool) → list_any (λ (a : Target × Expr). is_target a.0 x) xs ≡ b → b ≡ true
+      go true e = refl
+      go false e = let z = unassigned xs e in absurd (omega (arith, z, l))
+
 -- ---- counts
 
 once_true : (b : Bool) → b ≡ true → once b ≡ 1

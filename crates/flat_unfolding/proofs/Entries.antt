@@ -5,14 +5,14 @@ use Rattle.flat_unfolding.specs.Names.{Range, span, width_of, Look, Entry, width
 use Rattle.flat_unfolding.specs.Parameters.{is_wide, bounds_read, range_read}
 use Rattle.verilog_reading.specs.SourceTree.{Bounds}
 use Rattle.flat_unfolding.specs.Declarations.{added}
-use Rattle.flat_unfolding.specs.Design.{Stage, change_entry}
+use Rattle.flat_unfolding.specs.Design.{Stage, change_entry, change_from}
 use Rattle.flat_unfolding.specs.Laws.{Kept, kept, StandsBehind}
 use Rattle.flat_unfolding.proofs.Steps.{good_is, good_then, not_refused, not_broken, none_of_both}
 
--- every signal has 64 bits at most, and there are 65,536 at most
+-- every signal has 64 bits at most, and there are 1,048,576 at most
 pub record Fine (es : List Entry) : Type 0 where
   pub narrow : (s : ℕ) → width_at es s ≤ 64
-  pub few : length es ≤ 65536
+  pub few : length es ≤ 1048576
 
 -- a change that keeps what is kept of each signal
 abbrev pub KeepsEntry : (Entry → Entry) → Type 0
@@ -38,8 +38,18 @@ stands_itself es = ([], go (map kept es))
     go [] = refl
     go (k ∷ ks) = ap (λ ls. k ∷ ls) (go ks)
 
+-- what a change of one entry keeps, a change of many keeps
+pub from_keeps : (P : List Entry → Type 0) (f : Entry → Entry) → ((n : ℕ) (es : List Entry) → P es → P (change_entry f n es))
+    → (s more : ℕ) (es : List Entry) → P es → P (change_from f s more es)
+from_keeps P f h s zero es p = p
+from_keeps P f h s (suc more) es p = from_keeps P f h (suc s) more (change_entry f s es) (h s es p)
+
+-- a change of the reset that a signal resolves to, and of nothing else
+abbrev pub OnlyResets : (Entry → Entry) → Type 0
+OnlyResets f = (e : Entry) → f e ≡ record e { reset = (f e).reset }
+
 pub none_are_fine : Fine []
-none_are_fine = record { narrow = λ s. let h : 0 ≤ 64 = omega arith in h; few = let h : 0 ≤ 65536 = omega arith in h }
+none_are_fine = record { narrow = λ s. let h : 0 ≤ 64 = omega arith in h; few = let h : 0 ≤ 1048576 = omega arith in h }
 
 -- ---- a change that keeps ranges
 
@@ -58,7 +68,7 @@ same_length f (suc t) (e ∷ es) = ap suc (same_length f t es)
 pub change_keeps : (f : Entry → Entry) → ((e : Entry) → (f e).range ≡ e.range) → (t : ℕ) (es : List Entry) → Fine es → Fine (change_entry f t es)
 change_keeps f h t es p = record {
   narrow = λ s. subst (λ w. w ≤ 64) (sym (same_width f h t es s)) (p.narrow s);
-  few = subst (λ n. n ≤ 65536) (sym (same_length f t es)) p.few;
+  few = subst (λ n. n ≤ 1048576) (sym (same_length f t es)) p.few;
 }
 
 -- ---- further entries
@@ -76,8 +86,8 @@ pub added_keeps : (s : Stage) (fs : List Entry) (names : Names) (t : Stage) → 
     → Fine s.design.entries → Fine t.design.entries
 added_keeps s fs names t e h p =
     let es = s.design.entries in
-    let g = good_then (refused_if (nat_lt 65536 (length es + length fs)) 601 None []) _ t e in
-    let m = ltb-false 65536 (length es + length fs) (not_refused _ 601 None [] g.0 g.1) in
+    let g = good_then (refused_if (nat_lt 1048576 (length es + length fs)) 601 None []) _ t e in
+    let m = ltb-false 1048576 (length es + length fs) (not_refused _ 601 None [] g.0 g.1) in
     let n = length_of_both es fs in
     subst (λ (u : Stage). Fine u.design.entries) (good_is _ t g.2) (record { narrow = narrow_behind es fs p.narrow h; few = omega arith })
 
@@ -116,7 +126,7 @@ pub added_sound : (s : Stage) (fs : List Entry) (names : Names) (t : Stage) → 
     → (before : List Entry) → Sound before s.design.entries → Sound before t.design.entries
 added_sound s fs names t e h before p =
     let es = s.design.entries in
-    let g = good_then (refused_if (nat_lt 65536 (length es + length fs)) 601 None []) _ t e in
+    let g = good_then (refused_if (nat_lt 1048576 (length es + length fs)) 601 None []) _ t e in
     record {
       fine = λ k. added_keeps s fs names t e h (p.fine k);
       behind = (

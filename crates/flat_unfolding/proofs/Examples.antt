@@ -16,7 +16,8 @@ use Rattle.verilog_reading.specs.SourceTree.{BodyTree, ModuleTree, assign, decl,
 use Rattle.flat_meaning.specs.Flat as f
 use Rattle.flat_meaning.specs.Design.{Flat}
 use Rattle.flat_unfolding.specs.Outcome.{Outcome, good, refused}
-use Rattle.flat_unfolding.proofs.Sources.{v, plain, sized, unsized, bit, pair, to, to_bit, to_pair, blocking, later, rows, range, down_to_zero, wire, wire_with, reg, reg_with, memory, parameter_of, parameter, localparam, of_wires, on, at_clock, at_clock_or, instance_of, port_item, port, input, output, a_module, an_old_module, top_m, h, h_reset, refused_at, one_bit, ranged, starts_as}
+use Rattle.flat_unfolding.specs.Unfolding.{unfolded}
+use Rattle.flat_unfolding.proofs.Sources.{v, plain, sized, unsized, bit, pair, to, to_bit, to_pair, blocking, later, rows, range, down_to_zero, wire, wire_with, reg, reg_with, memory, parameter_of, parameter, localparam, of_wires, on, at_clock, at_clock_or, instance_of, port_item, port, input, output, a_module, an_old_module, top_m, h, h_reset, with_stub, refused_at, one_bit, ranged, starts_as}
 
 -- ---- modules, names, places
 
@@ -315,6 +316,76 @@ with_reset : h_reset (reg_with (down_to_zero 3) "r" (plain 5)
 unfolding keyword_of is_left_out
 with_reset = refl
 
+-- with the reset e: reg r; always @(negedge e or posedge ca) if (!e) r <= 0; else r <= d; assign q = r; the edges may come in either order
+reset_edge_first : h_reset (reg None "r"
+    ∷ always (event.Edges (on edge.Neg "e" ∷ on edge.Pos "ca" ∷ []))
+    (either (unary u.LogicNot (v "e")) (later (to "r") (plain 0)) (later (to "r") (v "d")))
+    ∷ assign (to "q") (v "r") ∷ [])
+    ≡ good (record {
+      signals = one_bit "ca" 1 Input ∷ one_bit "cb" 1 Input ∷ one_bit "d" 1 Input ∷ one_bit "e" 1 Input ∷ ranged "v" 1 3 Input
+          ∷ one_bit "q" 1 Wire ∷ ranged "o" 1 7 Wire ∷ starts_as 1 0 (one_bit "r" 2 Register) ∷ [];
+      assigns = (f.Whole 5, f.Read 7 0 1) ∷ [];
+      combs = [];
+      clocked = (0, f.Set false (f.Whole 7) (f.Read 2 0 1)) ∷ [];
+      outputs = 5 ∷ 6 ∷ [];
+    })
+unfolding keyword_of is_left_out
+reset_edge_first = refl
+
+-- with the reset e: reg r; always @(posedge ca or negedge e) if (!e || d) r <= 0; else r <= v[0]; assign q = r;
+-- d clears the register beside the reset, so that the body keeps the `if`; the start value is known
+clear_beside_reset : h_reset (reg None "r"
+    ∷ at_clock_or "ca" (on edge.Neg "e")
+    (either (binary b.LogicOr (unary u.LogicNot (v "e")) (v "d")) (later (to "r") (plain 0)) (later (to "r") (bit "v" (plain 0))))
+    ∷ assign (to "q") (v "r") ∷ [])
+    ≡ good (record {
+      signals = one_bit "ca" 1 Input ∷ one_bit "cb" 1 Input ∷ one_bit "d" 1 Input ∷ one_bit "e" 1 Input ∷ ranged "v" 1 3 Input
+          ∷ one_bit "q" 1 Wire ∷ ranged "o" 1 7 Wire ∷ starts_as 1 0 (one_bit "r" 2 Register) ∷ [];
+      assigns = (f.Whole 5, f.Read 7 0 1) ∷ [];
+      combs = [];
+      clocked = (
+        0,
+        f.If (f.Binary f.logical_or (f.Unary f.logical_not (f.Number 1 1)) (f.Read 2 0 1))
+            (f.Set false (f.Whole 7) (f.Number 32 0)) (f.Set false (f.Whole 7) (f.Read 4 0 1)),
+      ) ∷ [];
+      outputs = 5 ∷ 6 ∷ [];
+    })
+unfolding keyword_of is_left_out
+clear_beside_reset = refl
+
+-- with the reset e: reg r; always @(posedge ca or negedge d) if (!d) r <= 0; else r <= v[0]; of two edges one is a reset's
+edge_of_no_reset : h_reset (reg None "r"
+    ∷ at_clock_or "ca" (on edge.Neg "d")
+    (either (unary u.LogicNot (v "d")) (later (to "r") (plain 0)) (later (to "r") (bit "v" (plain 0)))) ∷ []) ≡ refused_at 317 3 "ca"
+unfolding keyword_of is_left_out
+edge_of_no_reset = refl
+
+-- module n(input c, d, output b); reg r, x; always @(posedge c) r <= d;
+-- always @(posedge c or negedge r) if (!r) x <= 0; else x <= d; assign b = x & r; endmodule
+-- module m(input c, d, output q); n u(c, d, q); endmodule
+-- with the reset u.r, active low: the register resets as its printed name says, and reads as 1 elsewhere
+reset_of_an_instance : unfolded (
+    a_module "n" [] (input "c" ∷ input "d" ∷ output "b" ∷ []) (
+    reg None "r"
+    ∷ reg None "x"
+    ∷ at_clock "c" (later (to "r") (v "d"))
+    ∷ at_clock_or "c" (on edge.Neg "r") (either (unary u.LogicNot (v "r")) (later (to "x") (plain 0)) (later (to "x") (v "d")))
+    ∷ assign (to "b") (binary b.And (v "x") (v "r"))
+    ∷ [])
+    ∷ a_module "m" [] (input "c" ∷ input "d" ∷ output "q" ∷ []) (instance_of "n" "u" (v "c" ∷ v "d" ∷ v "q" ∷ []) ∷ [])
+    ∷ []) (codes "m") (record { name = codes "u.r"; high = false } ∷ []) []
+    ≡ good (record {
+      signals = one_bit "c" 1 Input ∷ one_bit "d" 1 Input ∷ one_bit "q" 1 Wire ∷ one_bit "u.c" 1 Wire ∷ one_bit "u.d" 1 Wire ∷ one_bit "u.b" 1 Wire
+          ∷ one_bit "u.r" 2 Register ∷ starts_as 1 0 (one_bit "u.x" 3 Register) ∷ [];
+      assigns = (f.Whole 3, f.Read 0 0 1) ∷ (f.Whole 4, f.Read 1 0 1) ∷ (f.Whole 2, f.Read 5 0 1)
+          ∷ (f.Whole 5, f.Binary f.bitwise_and (f.Read 7 0 1) (f.Number 1 1)) ∷ [];
+      combs = [];
+      clocked = (3, f.Set false (f.Whole 6) (f.Read 4 0 1)) ∷ (3, f.Set false (f.Whole 7) (f.Read 4 0 1)) ∷ [];
+      outputs = 2 ∷ [];
+    })
+unfolding keyword_of is_left_out
+reset_of_an_instance = refl
+
 -- ---- memories
 
 -- wire [0-1:0] M [0:3]; E319 comes before E307
@@ -501,3 +572,31 @@ leaning_override = refl
 fault_inside : with_value (assign (to "b") (v "Z") ∷ []) (binary b.Add (sized 4 15) (sized 4 2)) ≡ refused_at 305 3 "Z"
 unfolding keyword_of is_left_out
 fault_inside = refl
+
+-- ---- free signals
+
+-- module n(input a, output b); endmodule
+-- nothing drives u.b, which the constraints name: it comes from outside, and may be read
+stub : with_stub []
+    ≡ good (record {
+      signals = one_bit "d" 1 Input ∷ one_bit "q" 1 Wire ∷ one_bit "u.a" 1 Wire ∷ one_bit "u.b" 1 Input ∷ [];
+      assigns = (f.Whole 2, f.Read 0 0 1) ∷ (f.Whole 1, f.Read 3 0 1) ∷ [];
+      combs = [];
+      clocked = [];
+      outputs = 1 ∷ [];
+    })
+unfolding keyword_of is_left_out
+stub = refl
+
+-- module n(input a, output b); assign b = ~a; endmodule
+-- what has a driver stays a wire
+named_but_driven : with_stub (assign (to "b") (unary u.Not (v "a")) ∷ [])
+    ≡ good (record {
+      signals = one_bit "d" 1 Input ∷ one_bit "q" 1 Wire ∷ one_bit "u.a" 1 Wire ∷ one_bit "u.b" 1 Wire ∷ [];
+      assigns = (f.Whole 2, f.Read 0 0 1) ∷ (f.Whole 1, f.Read 3 0 1) ∷ (f.Whole 3, f.Unary f.complement (f.Read 2 0 1)) ∷ [];
+      combs = [];
+      clocked = [];
+      outputs = 1 ∷ [];
+    })
+unfolding keyword_of is_left_out
+named_but_driven = refl

@@ -13,6 +13,7 @@ pub mod Terms
 pub mod Aims
 pub mod Stmts
 pub mod Grown
+pub mod Free
 pub mod Stages
 pub mod Declared
 pub mod Ports

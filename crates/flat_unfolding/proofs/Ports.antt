@@ -1,5 +1,5 @@
 -- What instances give their ports, and what becomes of the ports of the top.
-use Rattle.std.proofs.Common.{◌≡◌, ℕ, zero, suc, ◌+◌, ◌≤◌, Bool, true, false, not, ◌&&◌, List, [], ◌∷◌, ◌++◌, length, Option, Some, None, refl, sym, ap, ap₂, subst, ◌∙◌, arith, rules}
+use Rattle.std.proofs.Common.{◌≡◌, ℕ, zero, suc, ◌+◌, ◌-◌, ◌≤◌, Bool, true, false, not, ◌&&◌, List, [], ◌∷◌, ◌++◌, length, Option, Some, None, refl, sym, ap, ap₂, subst, ◌∙◌, arith, rules}
 use Rattle.std.specs.Prelude.{All, flat_map, filter_map, option_map}
 use Rattle.std.specs.List.{cons_option}
 use Rattle.std.proofs.lemmas.List.Elements.{All-head, All-cons, All-nil, All-tail, All-push}
@@ -15,12 +15,14 @@ use Rattle.flat_unfolding.specs.Expressions.{as_constant, read}
 use Rattle.flat_unfolding.specs.Targets.{is_input, first_pick}
 use Rattle.flat_unfolding.specs.Parameters.{Override, overridable}
 use Rattle.flat_unfolding.specs.Declarations.{header_of}
-use Rattle.flat_unfolding.specs.Instances.{Joint, if_among, ordered_joints, named_joint, joints, joint_rules, override_rules, override, overrides_of, port_direction, Link, into, out_of, linked_at, linked_to, linked, connection_rules, links_of, into_port, out_of_port, connect_one, connect_all, connected}
+use Rattle.flat_unfolding.specs.Instances.{Joint, if_among, ordered_joints, named_joint, joints, joint_rules, override_rules, override, overrides_of, port_direction, Link, into, out_of, linked_at, linked_to, linked, connection_rules, links_of, resolving_to, into_port, out_of_port, connect_one, connect_all, connected}
 use Rattle.flat_unfolding.specs.Design.{Design, no_design, assigned, Stage, look_of, with_design, change_entry}
-use Rattle.flat_unfolding.specs.Unfolding.{top_input, directed_port, top_port, top_ports}
+use Rattle.flat_unfolding.specs.Signals.{from_outside}
+use Rattle.flat_unfolding.specs.Unfolding.{declared_reset, with_resets, directed_port, top_port, top_ports}
 use Rattle.flat_unfolding.specs.Formed.{IsFormed, IsFormedIf, AreConnsFormed}
 use Rattle.flat_unfolding.specs.Sized.{IsSized, IsTargetSized}
 use Rattle.flat_unfolding.proofs.Steps.{none_of_both, some_is}
+use Rattle.flat_unfolding.proofs.Entries.{from_keeps, OnlyResets}
 use Rattle.flat_unfolding.proofs.Known.{reg_at, top_at, IsNamed, AreNamed, StandsIf, stands}
 use Rattle.flat_unfolding.proofs.Terms.{IsWide, size_wide}
 use Rattle.flat_unfolding.proofs.Grown.{told, told_same, expr_agrees, target_agrees, Grows, grows_on, names_on, all_on}
@@ -131,6 +133,49 @@ pub record IsOpened (d : Design) (t : Stage) : Type 0 where
 abbrev pub OpensPorts : ModuleTree → Design → (Stage → Stage) → Type 0
 OpensPorts m d ports = (t : Stage) → IsDesign d → IsDeclaring d t → KnowsPorts m t → IsOpened d (ports t)
 
+module _ (f : Entry → Entry) (only : OnlyResets f) where
+  reset_grows : (n : ℕ) (es : List Entry) → Grows es (change_entry f n es)
+  reset_grows n es s h = record {
+    width = told_same (λ (e : Entry). width_of e.range) 0 f (λ e. ap (λ (x : Entry). width_of x.range) (only e)) n es s;
+    reg = told_same (λ (e : Entry). e.is_reg) false f (λ e. ap (λ (x : Entry). x.is_reg) (only e)) n es s;
+    is_open = told_same (λ (e : Entry). e.is_open) false f (λ e. ap (λ (x : Entry). x.is_open) (only e)) n es s;
+    top = told_same (λ (e : Entry). e.is_top_input) false f (λ e. ap (λ (x : Entry). x.is_top_input) (only e)) n es s;
+  }
+
+  reset_entries : (n : ℕ) (es : List Entry) → All IsEntry es → All IsEntry (change_entry f n es)
+  reset_entries n [] h = h
+  reset_entries zero (e ∷ es) h =
+      let i = All-head IsEntry e es h in
+      All-cons IsEntry (f e) es (subst IsEntry (sym (only e)) (record { narrow = i.narrow; input = i.input; top = i.top })) (All-tail IsEntry e es h)
+  reset_entries (suc n) (e ∷ es) h = All-cons IsEntry e (change_entry f n es) (All-head IsEntry e es h) (reset_entries n es (All-tail IsEntry e es h))
+
+-- a module whose signals become the resets that they are declared as is declared as before
+pub resets_declare : (m : ModuleTree) (d : Design) (n : ℕ) (s : Stage)
+    → IsDeclaring d s → KnowsPorts m s → IsDeclaring d (with_resets n s) × KnowsPorts m (with_resets n s)
+resets_declare m d n s h k =
+    from_keeps (λ es. IsDeclaring d (over es) × KnowsPorts m (over es)) f one n (length s.design.entries - n) s.design.entries (h, k)
+  where
+    f : Entry → Entry
+    f = declared_reset s.design.pins
+
+    over : List Entry → Stage
+    over es = with_design s (record s.design { entries = es })
+
+    one : (i : ℕ) (es : List Entry) → IsDeclaring d (over es) × KnowsPorts m (over es)
+        → IsDeclaring d (over (change_entry f i es)) × KnowsPorts m (over (change_entry f i es))
+    one i es p =
+        let fs = change_entry f i es in
+        let g = reset_grows f (λ e. refl) i es in
+        let declaring : IsDeclaring d (over fs) = record {
+          same = ap (λ (x : Design). record x { entries = fs }) p.0.same;
+          grows = grows_on d.entries es fs p.0.grows g;
+          entries = reset_entries f (λ e. refl) i es p.0.entries;
+          names = names_on es fs s.names g p.0.names;
+          fresh = p.0.fresh;
+          plain = λ q l. told_same (λ (e : Entry). e.is_top_input) false f (λ e. refl) i es q ∙ p.0.plain q l;
+        } in
+        (declaring, λ x q a b. told_same (λ (e : Entry). e.is_reg) false f (λ e. refl) i es q ∙ p.1 x q a b)
+
 module _ (m : ModuleTree) (start : Design) (own : Names) (fresh : AreFresh (length start.entries) own) where
   -- while ports are connected
   pub record IsLinking (d : Design) : Type 0 where
@@ -139,21 +184,6 @@ module _ (m : ModuleTree) (start : Design) (own : Names) (fresh : AreFresh (leng
     pub grows : Grows start.entries d.entries
     pub plain : (n : ℕ) → length start.entries ≤ n → top_at d.entries n ≡ false
     pub inputs : (x : Text) (n : ℕ) → meaning_in own x ≡ Some (a_signal n) → port_direction m x ≡ Some inward → reg_at d.entries n ≡ false
-
-  reset_grows : (r : Option ResetPin) (n : ℕ) (es : List Entry) → Grows es (change_entry (λ (a : Entry). record a { reset = r }) n es)
-  reset_grows r n es s h = record {
-    width = told_same (λ (e : Entry). width_of e.range) 0 (λ (a : Entry). record a { reset = r }) (λ e. refl) n es s;
-    reg = told_same (λ (e : Entry). e.is_reg) false (λ (a : Entry). record a { reset = r }) (λ e. refl) n es s;
-    is_open = told_same (λ (e : Entry). e.is_open) false (λ (a : Entry). record a { reset = r }) (λ e. refl) n es s;
-    top = told_same (λ (e : Entry). e.is_top_input) false (λ (a : Entry). record a { reset = r }) (λ e. refl) n es s;
-  }
-
-  reset_entries : (r : Option ResetPin) (n : ℕ) (es : List Entry) → All IsEntry es → All IsEntry (change_entry (λ (a : Entry). record a { reset = r }) n es)
-  reset_entries r n [] h = h
-  reset_entries r zero (e ∷ es) h =
-      let i = All-head IsEntry e es h in
-      All-cons IsEntry (record e { reset = r }) es (record { narrow = i.narrow; input = i.input; top = i.top }) (All-tail IsEntry e es h)
-  reset_entries r (suc n) (e ∷ es) h = All-cons IsEntry e (change_entry (λ (a : Entry). record a { reset = r }) n es) (All-head IsEntry e es h) (reset_entries r n es (All-tail IsEntry e es h))
 
   further : (d : Design) (t : Target) (e : Expr) → IsLinking d → IsAssignIn d.entries (t, e) → IsLinking (assigned d t e)
   further d t e h a = record {
@@ -176,15 +206,15 @@ module _ (m : ModuleTree) (start : Design) (own : Names) (fresh : AreFresh (leng
   into_links d x e r (Some (a_memory p)) j i k h = h
   into_links d x e r (Some no_value) j i k h = h
   into_links d x e r (Some (a_signal n)) j i k h =
-      let es = d.entries in let fs = change_entry (λ (a : Entry). record a { reset = r }) n es in
-      let g = reset_grows r n es in
+      let es = d.entries in let f = resolving_to r in let fs = change_entry f n es in
+      let g = reset_grows f (λ a. refl) n es in
       let c : Design = record d { entries = fs } in
       let linking : IsLinking c = record {
-        design = design_on d fs g (reset_entries r n es h.design.entries) h.design;
+        design = design_on d fs g (reset_entries f (λ a. refl) n es h.design.entries) h.design;
         names = names_on es fs own g h.names;
         grows = grows_on start.entries es fs h.grows g;
-        plain = λ q l. told_same (λ (e : Entry). e.is_top_input) false (λ (a : Entry). record a { reset = r }) (λ e. refl) n es q ∙ h.plain q l;
-        inputs = λ y q a b. told_same (λ (e : Entry). e.is_reg) false (λ (a : Entry). record a { reset = r }) (λ e. refl) n es q ∙ h.inputs y q a b;
+        plain = λ q l. told_same (λ (e : Entry). e.is_top_input) false f (λ e. refl) n es q ∙ h.plain q l;
+        inputs = λ y q a b. told_same (λ (e : Entry). e.is_reg) false f (λ e. refl) n es q ∙ h.inputs y q a b;
       } in
       let l = meant_fresh (length start.entries) own x n fresh j in
       further c (Whole n) e linking
@@ -221,7 +251,7 @@ input_at [] n h = absurd (search (rules, h))
 input_at (e ∷ es) zero h = ap is_input h
 input_at (e ∷ es) (suc n) h = input_at es n h
 
-module _ (resets : List ResetPin) (own : Names) where
+module _ (own : Names) where
   -- nothing is driven yet
   pub record IsTopping (d : Design) : Type 0 where
     pub entries : All IsEntry d.entries
@@ -231,27 +261,28 @@ module _ (resets : List ResetPin) (own : Names) where
     pub no_combs : d.combs ≡ []
     pub no_clocked : d.clocked ≡ []
 
-  top_named : (n : ℕ) (es : List Entry) (m : Meaning) → IsNamed es m → IsNamed (change_entry (top_input resets) n es) m
+  top_named : (n : ℕ) (es : List Entry) (m : Meaning) → IsNamed es m → IsNamed (change_entry from_outside n es) m
   top_named n es (a_param p) h = h
-  top_named n es (a_signal s) h = subst (λ w. 1 ≤ w) (sym (told_same (λ (e : Entry). width_of e.range) 0 (top_input resets) (λ e. refl) n es s)) h
+  top_named n es (a_signal s) h = subst (λ w. 1 ≤ w) (sym (told_same (λ (e : Entry). width_of e.range) 0 from_outside (λ e. refl) n es s)) h
   top_named n es (a_memory m) h = (
     h.0,
     λ i l.
         let w = h.1 i l in (
-          subst (λ x. 1 ≤ x) (sym (told_same (λ (e : Entry). width_of e.range) 0 (top_input resets) (λ e. refl) n es (m.first + i))) w.0,
-          told_same (λ (e : Entry). e.is_reg) false (top_input resets) (λ e. refl) n es (m.first + i) ∙ w.1,
-          told_same (λ (e : Entry). e.is_open) false (top_input resets) (λ e. refl) n es (m.first + i) ∙ w.2,
+          subst (λ x. 1 ≤ x) (sym (told_same (λ (e : Entry). width_of e.range) 0 from_outside (λ e. refl) n es (m.first + i))) w.0,
+          told_same (λ (e : Entry). e.is_reg) false from_outside (λ e. refl) n es (m.first + i) ∙ w.1,
+          told_same (λ (e : Entry). e.is_open) false from_outside (λ e. refl) n es (m.first + i) ∙ w.2,
         ),
   )
   top_named n es no_value h = tt
 
-  inward_tops : (d : Design) (s : ℕ) → direction_at d.entries s ≡ inward → IsTopping d → IsTopping (record d { entries = change_entry (top_input resets) s d.entries })
+  inward_tops : (d : Design) (s : ℕ) → direction_at d.entries s ≡ inward → IsTopping d
+      → IsTopping (record d { entries = change_entry from_outside s d.entries })
   inward_tops d s e h =
-      let es = d.entries in let fs = change_entry (top_input resets) s es in
+      let es = d.entries in let fs = change_entry from_outside s es in
       record {
-        entries = change_all is_inward (top_input resets) (λ x i k. record { narrow = k.narrow; input = k.input; top = λ j. i }) s es (input_at es s e) h.entries;
+        entries = change_all is_inward from_outside (λ x i k. record { narrow = k.narrow; input = k.input; top = λ j. i }) s es (input_at es s e) h.entries;
         names = all_on (λ (p : Text × Meaning). IsNamed es p.1) (λ (p : Text × Meaning). IsNamed fs p.1) own (λ p. top_named s es p.1) h.names;
-        outputs = all_on (λ n. 1 ≤ width_at es n) (λ n. 1 ≤ width_at fs n) d.outputs (λ n k. subst (λ w. 1 ≤ w) (sym (told_same (λ (e : Entry). width_of e.range) 0 (top_input resets) (λ e. refl) s es n)) k) h.outputs;
+        outputs = all_on (λ n. 1 ≤ width_at es n) (λ n. 1 ≤ width_at fs n) d.outputs (λ n k. subst (λ w. 1 ≤ w) (sym (told_same (λ (e : Entry). width_of e.range) 0 from_outside (λ e. refl) s es n)) k) h.outputs;
         no_assigns = h.no_assigns;
         no_combs = h.no_combs;
         no_clocked = h.no_clocked;
@@ -267,30 +298,30 @@ module _ (resets : List ResetPin) (own : Names) where
     no_clocked = h.no_clocked;
   }
 
-  side_tops : (d : Design) (s : ℕ) (side : Direction) → direction_at d.entries s ≡ side → 1 ≤ width_at d.entries s → IsTopping d → IsTopping (directed_port resets d s side)
+  side_tops : (d : Design) (s : ℕ) (side : Direction) → direction_at d.entries s ≡ side → 1 ≤ width_at d.entries s → IsTopping d → IsTopping (directed_port d s side)
   side_tops d s inward e w h = inward_tops d s e h
   side_tops d s inner e w h = output_tops d s w h
   side_tops d s outward e w h = output_tops d s w h
 
-  port_tops : (d : Design) (o : Option Meaning) → StandsIf d.entries o → IsTopping d → IsTopping (top_port resets d o)
+  port_tops : (d : Design) (o : Option Meaning) → StandsIf d.entries o → IsTopping d → IsTopping (top_port d o)
   port_tops d None i h = h
   port_tops d (Some (a_param p)) i h = h
   port_tops d (Some (a_memory p)) i h = h
   port_tops d (Some no_value) i h = h
   port_tops d (Some (a_signal s)) i h = side_tops d s (direction_at d.entries s) refl i h
 
-pub tops : (resets : List ResetPin) (xs : List Text) (s : Stage) → IsTopping resets s.names s.design → IsTopping resets (top_ports resets xs s).names (top_ports resets xs s).design
-tops resets [] s h = h
-tops resets (x ∷ xs) s h = tops resets xs (with_design s (top_port resets s.design (meaning_in s.names x))) (port_tops resets s.names s.design (meaning_in s.names x) (stands s.design.entries s.names x h.names) h)
+pub tops : (xs : List Text) (s : Stage) → IsTopping s.names s.design → IsTopping (top_ports xs s).names (top_ports xs s).design
+tops [] s h = h
+tops (x ∷ xs) s h = tops xs (with_design s (top_port s.design (meaning_in s.names x))) (port_tops s.names s.design (meaning_in s.names x) (stands s.design.entries s.names x h.names) h)
 
 none_is : {A : Type 0} (P : A → Type 0) (xs : List A) → xs ≡ [] → All P xs
 none_is P xs e = subst (All P) (sym e) (All-nil P)
 
-pub top_opens : (m : ModuleTree) (resets : List ResetPin) (xs : List Text) → OpensPorts m no_design (top_ports resets xs)
+pub top_opens : (m : ModuleTree) (resets : List ResetPin) (xs : List Text) → OpensPorts m (no_design resets) (top_ports xs)
 top_opens m resets xs t a h i =
-    let s = declared_stage no_design t a h in
-    let u = top_ports resets xs t in
-    let l = tops resets xs t (record {
+    let s = declared_stage (no_design resets) t a h in
+    let u = top_ports xs t in
+    let l = tops xs t (record {
       entries = h.entries;
       names = h.names;
       outputs = s.design.outputs;

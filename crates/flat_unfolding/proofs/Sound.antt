@@ -14,13 +14,13 @@ use Rattle.flat_meaning.specs.Deps.{AllIn, none, span}
 use Rattle.flat_meaning.specs.Law.{MayBe, MayRead}
 use Rattle.flat_meaning.specs.Design.{Flat, size_in, kind_in, kind_is_variable, is_variable, once, times_in, all_times_in, times_assigned, times_processed}
 use Rattle.flat_meaning.specs.Sound.{inside, DrivesWires, AllDriveWires, IsSoundAssign, IsSoundComb, IsSoundClocked, IsSound}
-use Rattle.flat_unfolding.specs.Outcome.{good}
+use Rattle.flat_unfolding.specs.Outcome.{Text, good}
 use Rattle.flat_unfolding.specs.Names.{Entry, width_at}
 use Rattle.flat_unfolding.specs.Targets.{first_pick, first_pick_in}
 use Rattle.flat_form.specs.Uses.{stmt_reads}
 use Rattle.flat_unfolding.specs.Reads.{early, is_latch}
 use Rattle.flat_unfolding.specs.Design.{Design}
-use Rattle.flat_unfolding.specs.Signals.{is_register, kind_of, signals_from, flat_design}
+use Rattle.flat_unfolding.specs.Signals.{is_register, with_free, kind_of, signals_from, flat_design}
 use Rattle.flat_unfolding.specs.Drivers.{assigned_by, bodies, all_drivers, is_read, is_from_outside, driven_once}
 use Rattle.flat_unfolding.specs.Sized.{IsTargetSized, AreTargetsSized, IsStmtSized}
 use Rattle.flat_unfolding.specs.Laws.{SoundLaw, IsWellClocked, WellClockedLaw}
@@ -32,9 +32,10 @@ use Rattle.flat_unfolding.proofs.Grown.{is_declared_at, has_bits, all_on, expr_a
 use Rattle.flat_unfolding.proofs.Stages.{IsEntry, words_of, drivable_at, IsAssignIn, IsCombIn, IsClockedIn, IsDesign}
 use Rattle.flat_unfolding.proofs.Alike.{either, no_latch_on}
 use Rattle.flat_unfolding.proofs.Fit.{fits, good as good_bits, stmt_fits, early_read, stmt_reads_in}
-use Rattle.flat_unfolding.proofs.Driven.{assigned_is, never_timed, counted, registered, unregistered, among, any_front, all_and, all_swap, only, timed, clocked_counts, unclocked_counts, not_undriven, few_drivers, few_bodies, few_processes, one_clock}
+use Rattle.flat_unfolding.proofs.Driven.{assigned_is, never_timed, is_assigned, counted, registered, unregistered, among, any_front, all_and, all_swap, only, timed, clocked_counts, unclocked_counts, not_undriven, few_drivers, few_bodies, few_processes, one_clock}
 use Rattle.flat_unfolding.proofs.Apart.{HasClock}
-use Rattle.flat_unfolding.proofs.Visits.{signal_widths}
+use Rattle.flat_unfolding.proofs.Free.{free_width, driven_top, assigned_driven, processed_driven}
+use Rattle.flat_unfolding.proofs.Visits.{flat_widths}
 use Rattle.flat_unfolding.proofs.Visited.{flat_agrees, reached}
 
 -- ---- kinds
@@ -90,9 +91,13 @@ not_outside Wire e = refl
 both_false : (a b : Bool) → a ≡ false → b ≡ false → (a || b) ≡ false
 both_false a b h k = ap₂ (λ p q. p || q) h k
 
-module _ (d : Design) (h : IsDesign d) (u : Unit {0}) (ok : driven_once (flat_design d) d.resets ≡ good u) where
+module _ (named : List Text) (d : Design) (h : IsDesign d) (u : Unit {0}) (ok : driven_once (flat_design (with_free named d)) d.resets ≡ good u) where
   abbrev f : Flat
-  f = flat_design d
+  f = flat_design (with_free named d)
+
+  -- the signals, of which the free ones come from outside
+  abbrev signals : List Entry
+  signals = (with_free named d).entries
 
   abbrev wid : ℕ → ℕ
   wid = width_at d.entries
@@ -101,16 +106,19 @@ module _ (d : Design) (h : IsDesign d) (u : Unit {0}) (ok : driven_once (flat_de
   flat = size_in f
 
   agree : (s : ℕ) → 1 ≤ wid s → flat s ≡ wid s
-  agree = flat_agrees d
+  agree = flat_agrees named d
 
   same : (s : ℕ) → flat s ≡ wid s
-  same s = signal_widths d 0 d.entries s
+  same s = flat_widths named d s
 
-  -- a signal of the design is variable where it is a register or a top input
-  varies : (s : ℕ) → 1 ≤ flat s → is_variable f s ≡ (is_register d s || top_at d.entries s)
+  declared : (s : ℕ) → 1 ≤ wid s → s < length signals
+  declared s l = is_declared_at signals s (subst (λ w. 1 ≤ w) (sym (free_width named d s)) l)
+
+  -- a signal of the design is variable where it is a register or comes from outside
+  varies : (s : ℕ) → 1 ≤ flat s → is_variable f s ≡ (is_register d s || top_at signals s)
   varies s l =
       let z : 0 + s ≡ s = omega arith in
-      signals_vary d 0 d.entries s (is_declared_at d.entries s (subst (λ w. 1 ≤ w) (same s) l)) ∙ ap (λ k. is_register d k || top_at d.entries s) z
+      signals_vary (with_free named d) 0 signals s (declared s (subst (λ w. 1 ≤ w) (same s) l)) ∙ ap (λ k. is_register d k || top_at signals s) z
 
   -- ---- clocked processes
 
@@ -127,7 +135,7 @@ module _ (d : Design) (h : IsDesign d) (u : Unit {0}) (ok : driven_once (flat_de
         fits = stmt_fits flat (reg_at d.entries) (λ s. false) (λ dn. MayBe (inside f)) (λ dn s at w a b g. readable_now dn s at w a b) (λ x i. true) p.1 b (λ s i e. absurd (search (rules, e)));
         registers = λ s e.
             let t = assigned_is flat (reg_at d.entries) p.1 b s e in
-            varies s t.1 ∙ ap (λ v. v || top_at d.entries s) (m s 0 e);
+            varies s t.1 ∙ ap (λ v. v || top_at signals s) (m s 0 e);
       }
 
   pub all_clocked : All (λ (p : ℕ × Stmt). IsSoundClocked f p.1) d.clocked
@@ -201,8 +209,9 @@ module _ (d : Design) (h : IsDesign d) (u : Unit {0}) (ok : driven_once (flat_de
         fits flat (MayBe (inside f)) (λ s i. true) (λ s at w l n g. readable_now none s at w l n) a.1 v (λ s i e. refl),
         drives_wires (drivable_at d.entries) a.0 t k.1 (λ s i l n.
             let q = m s i in
-            varies s (let x : 1 ≤ flat s = omega (arith, l) in x)
-            ∙ both_false (is_register d s) (top_at d.entries s) (not_registered s i l (let y : 1 ≤ times_assigned flat s i d.assigns = omega (arith, n, q) in y)) (not_top a.0 s i t n).0),
+            let y : 1 ≤ times_assigned flat s i d.assigns = omega (arith, n, q) in
+            let inside = driven_top named d s (assigned_driven d s (is_assigned flat s i d.assigns y)) ∙ (not_top a.0 s i t n).0 in
+            varies s (let x : 1 ≤ flat s = omega (arith, l) in x) ∙ both_false (is_register d s) (top_at signals s) (not_registered s i l y) inside),
       )
 
   all_assigned : All (IsSoundAssign f) d.assigns
@@ -227,6 +236,7 @@ module _ (d : Design) (h : IsDesign d) (u : Unit {0}) (ok : driven_once (flat_de
 
   record IsAmong (b : Stmt) : Type 0 where
     pub counts : (s : ℕ) → assigns b s ≡ true → 1 ≤ assigned_by d.combs s
+    pub assigned : (s i : ℕ) → assigns b s ≡ true → list_any (λ c. assigns c s) d.combs ≡ true
     pub reads : (s i : ℕ) → stmt_reads flat b s i ≡ true → list_any (λ c. stmt_reads flat c s i) d.combs ≡ true
     pub alone : (s i : ℕ) → assigned_by d.combs s ≤ 1 → 1 ≤ times_processed flat s i d.combs → assigns b s ≡ true → may_assign flat b s i ≡ true
 
@@ -249,7 +259,8 @@ module _ (d : Design) (h : IsDesign d) (u : Unit {0}) (ok : driven_once (flat_de
     comb_wires : (s : ℕ) → assigns b s ≡ true → is_variable f s ≡ false
     comb_wires s e =
         let t = assigned_is flat (reg_at d.entries) b body s e in
-        varies s t.1 ∙ both_false (is_register d s) (top_at d.entries s) (comb_unregistered s e) (reg_no_top d.entries h.entries s t.0)
+        let inside = driven_top named d s (processed_driven d s (m.assigned s 0 e)) ∙ reg_no_top d.entries h.entries s t.0 in
+        varies s t.1 ∙ both_false (is_register d s) (top_at signals s) (comb_unregistered s e) inside
 
     comb_covered : (s i : ℕ) → i < flat s → may_assign flat b s i ≡ true → surely flat b (λ x j. false) s i ≡ true
     comb_covered s i l e =
@@ -327,6 +338,7 @@ module _ (d : Design) (h : IsDesign d) (u : Unit {0}) (ok : driven_once (flat_de
   all_among : All IsAmong d.combs
   all_among k b l = record {
     counts = counted d.combs k b l;
+    assigned = among (λ (c : Stmt) (s i : ℕ). assigns c s) d.combs k b l;
     reads = among (λ (c : Stmt) (s i : ℕ). stmt_reads flat c s i) d.combs k b l;
     alone = λ s i p q. only flat s i d.combs p q k b l;
   }
@@ -357,10 +369,12 @@ module _ (d : Design) (h : IsDesign d) (u : Unit {0}) (ok : driven_once (flat_de
       (any_assigned s ps (All-tail (IsClockedIn d.entries) p ps k))
 
   register_size : (s : ℕ) → kind_in f.signals s ≡ Register → 1 ≤ flat s
-  register_size s e = subst (λ w. 1 ≤ w) (sym (same s)) (has_bits d.entries s (register_kind d 0 d.entries s e).0)
+  register_size s e = subst (λ w. 1 ≤ w) (sym (same s ∙ sym (free_width named d s))) (has_bits signals s (register_kind (with_free named d) 0 signals s e).0)
 
   registers_assigned : (s : ℕ) → kind_in f.signals s ≡ Register → 1 ≤ assigned_by (bodies f) s
-  registers_assigned s e = registered d.clocked s (subst (λ n. is_register d n ≡ true) (let z : 0 + s ≡ s = omega arith in z) (register_kind d 0 d.entries s e).1)
+  registers_assigned s e =
+      let r = (register_kind (with_free named d) 0 signals s e).1 in
+      registered d.clocked s (subst (λ n. is_register d n ≡ true) (let z : 0 + s ≡ s = omega arith in z) r)
 
   others_none : (s : ℕ) → kind_in f.signals s ≢ Register → assigned_by (bodies f) s ≡ 0
   others_none s n = unregistered d.clocked s (go (is_register d s) refl)
@@ -368,8 +382,8 @@ module _ (d : Design) (h : IsDesign d) (u : Unit {0}) (ok : driven_once (flat_de
       go : (b : Bool) → is_register d s ≡ b → b ≡ false
       go false e = refl
       go true e =
-          let l = is_declared_at d.entries s (any_assigned s d.clocked h.clocked e) in
-          absurd (n (kind_register d 0 d.entries s l (subst (λ k. is_register d k ≡ true) (let z : s ≡ 0 + s = omega arith in z) e)))
+          let l = declared s (any_assigned s d.clocked h.clocked e) in
+          absurd (n (kind_register (with_free named d) 0 signals s l (subst (λ k. is_register d k ≡ true) (let z : s ≡ 0 + s = omega arith in z) e)))
 
   registers_clock : (s : ℕ) → kind_in f.signals s ≡ Register → All (λ (p : ℕ × Stmt). All (λ (q : ℕ × Stmt). assigns p.1 s ≡ true → assigns q.1 s ≡ true → p.0 ≡ q.0) d.clocked) d.clocked
   registers_clock s e =
@@ -389,13 +403,15 @@ module _ (d : Design) (h : IsDesign d) (u : Unit {0}) (ok : driven_once (flat_de
 -- ---- the laws
 
 pub sound_law : SoundLaw
-sound_law modules formed top resets f e =
-    let r = reached modules formed top resets f e in
-    let g = good_then (driven_once (flat_design r.0) r.0.resets) (λ u. good (flat_design r.0)) f r.2 in
-    subst IsSound (good_is (flat_design r.0) f g.2) (sound r.0 r.1 g.0 g.1)
+sound_law modules formed top resets named f e =
+    let r = reached modules formed top resets named f e in
+    let c = flat_design (with_free named r.0) in
+    let g = good_then (driven_once c r.0.resets) (λ u. good c) f r.2 in
+    subst IsSound (good_is c f g.2) (sound named r.0 r.1 g.0 g.1)
 
 pub well_clocked_law : WellClockedLaw
-well_clocked_law modules formed top resets f e =
-    let r = reached modules formed top resets f e in
-    let g = good_then (driven_once (flat_design r.0) r.0.resets) (λ u. good (flat_design r.0)) f r.2 in
-    subst IsWellClocked (good_is (flat_design r.0) f g.2) (well_clocked r.0 r.1 g.0 g.1)
+well_clocked_law modules formed top resets named f e =
+    let r = reached modules formed top resets named f e in
+    let c = flat_design (with_free named r.0) in
+    let g = good_then (driven_once c r.0.resets) (λ u. good c) f r.2 in
+    subst IsWellClocked (good_is c f g.2) (well_clocked named r.0 r.1 g.0 g.1)

@@ -143,7 +143,7 @@ abbrev pub an_old_module : String → List String → List BodyTree → ModuleTr
 an_old_module x ports bodies = record { place = place 1 1; name = codes x; ansi = false; params = []; ports = map (λ y. record { name = codes y; decl = None }) ports; items = in_lines 2 bodies }
 
 abbrev pub top_m : List ModuleTree → Outcome Flat
-top_m modules = unfolded modules (codes "m") []
+top_m modules = unfolded modules (codes "m") [] []
 
 -- `module m(input ca, cb, d, e, input [3:0] v, output q, output [7:0] o);` and these items
 abbrev pub in_h : List BodyTree → ModuleTree
@@ -154,7 +154,12 @@ h bodies = top_m (in_h bodies ∷ [])
 
 -- the same with the reset `e`, active low
 abbrev pub h_reset : List BodyTree → Outcome Flat
-h_reset bodies = unfolded (in_h bodies ∷ []) (codes "m") (record { name = codes "e"; high = false } ∷ [])
+h_reset bodies = unfolded (in_h bodies ∷ []) (codes "m") (record { name = codes "e"; high = false } ∷ []) []
+
+-- `module m(input d, output q); n u(d, q); endmodule`, where `module n(input a, output b);` has these items and the constraints name `u.b`
+abbrev pub with_stub : List BodyTree → Outcome Flat
+with_stub bodies = unfolded (a_module "n" [] (input "a" ∷ output "b" ∷ []) bodies
+    ∷ a_module "m" [] (input "d" ∷ output "q" ∷ []) (instance_of "n" "u" (v "d" ∷ v "q" ∷ []) ∷ []) ∷ []) (codes "m") [] (codes "u.b" ∷ [])
 
 -- ---- what is expected
 

@@ -1,7 +1,8 @@
 -- Designs that are well sized as they grow, and what the items of a module make of them.
 use Rattle.std.proofs.Common.{◌≡◌, ℕ, zero, suc, ◌<◌, ◌≤◌, Bool, true, false, cond, not, ◌&&◌, ◌||◌, ◌==◌, List, [], ◌∷◌, ◌++◌, length, map, Option, Some, None, refl, sym, ap, ap₂, subst, ◌∙◌, arith, rules, eqb-true}
-use Rattle.std.specs.Prelude.{slice_get, All, is_none, flat_map, unwrap_or, option_map}
+use Rattle.std.specs.Prelude.{slice_get, All, is_some, is_none, flat_map, unwrap_or, option_map}
 use Rattle.std.specs.Option.{option_map_or}
+use Rattle.std.specs.List.{list_any}
 use Rattle.std.proofs.lemmas.Bool.{and_parts}
 use Rattle.std.proofs.lemmas.List.Elements.{All-head, All-tail, All-push}
 use Rattle.cdc_base.specs.declared.fault.Place.{Place}
@@ -23,8 +24,8 @@ use Rattle.flat_unfolding.specs.Expressions.{Term, is_sound, joined, read}
 use Rattle.flat_unfolding.specs.Targets.{is_input, of_wires, takes, first_pick, wire_aim, driven}
 use Rattle.flat_unfolding.specs.Statements.{of_wires as wires, clocked, neither, done, done_all}
 use Rattle.flat_unfolding.specs.Reads.{is_latch, latch_rule}
-use Rattle.flat_unfolding.specs.Resets.{peeled, peeled_rows, reset_signals, ResetForm, branch_given, form_in, reset_form}
-use Rattle.flat_unfolding.specs.Processes.{has_form, first_edge, meant_edge, edge_rules, meant_clock, clock_of, event_rules, edge_kind, form_of, body_without, wires_process, clocked_process, always_item}
+use Rattle.flat_unfolding.specs.Resets.{peeled, peeled_rows, reset_signals, tested_signals, ResetForm, branch_given, form_with, form_in, reset_form}
+use Rattle.flat_unfolding.specs.Processes.{has_form, first_edge, meant_edge, edge_rules, meant_signal, edge_signal, is_wide, names_reset, clock_of, is_clock_falling, event_rules, edge_kind, form_of, pair_rules, body_without, wires_process, clocked_process, always_item}
 use Rattle.flat_unfolding.specs.Starts.{Starts, with_starts, start_of}
 use Rattle.flat_unfolding.specs.Wires.{assign_item, has_terminals, gate_op, is_inverted, gate_value, output_rule, input_rules, count_rule, gate_item}
 use Rattle.flat_unfolding.specs.Design.{Design, Stage, look_of, with_design, assigned}
@@ -275,51 +276,85 @@ module _ (s : Stage) (h : IsStage s) where
     rows_fine (and_rows x (and_rows y rest)) f e = (f, e)
 
   -- the rest of reset form
+  form_fine : (c : ExprTree) (x y all : StmtTree) → IsFine y → IsFine all → (r : ResetForm)
+      → form_with (look_of s) c x y all ≡ Some r → IsFine r.rest
+  form_fine c x y all f g r e = go (tested_signals (look_of s) c) e
+    where
+      rest_is : (b : Bool) → IsFine (cond b y all)
+      rest_is true = f
+      rest_is false = g
+
+      go : (o : Option (List ℕ)) → option_map (λ ss. record {
+        signals = ss;
+        branch = x;
+        given = branch_given (look_of s) x;
+        rest = cond (is_some (reset_signals (look_of s) c)) y all;
+      }) o ≡ Some r → IsFine r.rest
+      go None e = absurd (search (rules, e))
+      go (Some ss) e = subst (λ (q : ResetForm). IsFine q.rest) (some_is _ r e) (rest_is (is_some (reset_signals (look_of s) c)))
+
   rest_fine : (body : StmtTree) → IsFine body → (r : ResetForm) → form_in (look_of s) body ≡ Some r → IsFine r.rest
-  rest_fine (when c x) f r e = go (reset_signals (look_of s) c) e
-    where
-      go : (o : Option (List ℕ)) → option_map (λ ss. record { signals = ss; branch = x; given = branch_given (look_of s) x; rest = null }) o ≡ Some r → IsFine r.rest
-      go None e = absurd (search (rules, e))
-      go (Some ss) e = subst (λ (q : ResetForm). IsFine q.rest) (some_is _ r e) (tt, refl)
-  rest_fine (either c x y) f r e = go (reset_signals (look_of s) c) e
-    where
-      go : (o : Option (List ℕ)) → option_map (λ ss. record { signals = ss; branch = x; given = branch_given (look_of s) x; rest = y }) o ≡ Some r → IsFine r.rest
-      go None e = absurd (search (rules, e))
-      go (Some ss) e =
-          let p = none_of_both ((read (look_of s) c).broken ++ (done (look_of s) clocked x).broken) (done (look_of s) clocked y).broken f.1 in
-          subst (λ (q : ResetForm). IsFine q.rest) (some_is _ r e) (f.0.2, p.1)
+  rest_fine (when c x) f r e = form_fine c x null (when c x) (tt, refl) f r e
+  rest_fine (either c x y) f r e =
+      let p = none_of_both ((read (look_of s) c).broken ++ (done (look_of s) clocked x).broken) (done (look_of s) clocked y).broken f.1 in
+      form_fine c x y (either c x y) (f.0.2, p.1) f r e
   rest_fine body f r e = absurd (search (rules, e))
 
   body_sized : (body : StmtTree) → IsFine body → (o : Option ResetForm) → ((r : ResetForm) → o ≡ Some r → IsFine r.rest) → IsStmtSized (width_at es) (reg_at es) (body_without (look_of s) body o)
   body_sized body f None r = done_sized (look_of s) words known clocked body f.0 f.1
   body_sized body f (Some q) r = let i = r q refl in done_sized (look_of s) words known clocked q.rest i.0 i.1
 
-  -- the clock has one bit
-  clock_one : (edges : List Edge) → event_rules (look_of s) edges ≡ [] → (has_form edges ≡ true) × (width_at es (unwrap_or (clock_of (look_of s) edges) 0) ≡ 1)
-  clock_one [] e = absurd (search (rules, e))
-  clock_one (x ∷ edges) e =
-      let wrong = option_map_or (λ n. not (width_at es n == 1)) (clock_of (look_of s) (x ∷ edges)) false in
-      let p = none_of_both (flat_map (edge_rules (look_of s) (first_edge (x ∷ edges))) (x ∷ edges)) _ e in
-      let q = none_of_both (edge_rules (look_of s) x.name x) (flat_map (edge_rules (look_of s) x.name) edges) p.0 in
-      let b = neither_holds (not (has_form (x ∷ edges))) wrong (not_broken (not (has_form (x ∷ edges)) || wrong) 316 _ p.1) in
-      (not_true (has_form (x ∷ edges)) b.0, go (meaning (look_of s) x.name) refl q.0 b.1)
-    where
-      neither_holds : (a b : Bool) → (a || b) ≡ false → (a ≡ false) × (b ≡ false)
-      neither_holds false b e = (refl, e)
-      neither_holds true b e = absurd (search (rules, e))
+  neither_holds : (a b : Bool) → (a || b) ≡ false → (a ≡ false) × (b ≡ false)
+  neither_holds false b e = (refl, e)
+  neither_holds true b e = absurd (search (rules, e))
 
-      go : (o : Option Meaning) → meaning (look_of s) x.name ≡ o → meant_edge (look_of s) x.name x o ≡ [] → option_map_or (λ n. not (width_at es n == 1)) (meant_clock (look_of s) o) false ≡ false
-          → width_at es (unwrap_or (meant_clock (look_of s) o) 0) ≡ 1
+  -- an edge that breaks no rule names a signal of one bit
+  edge_one : (first : Text) (x : Edge) → edge_rules (look_of s) first x ≡ [] → is_wide (look_of s) x ≡ false
+      → width_at es (unwrap_or (edge_signal (look_of s) x) 0) ≡ 1
+  edge_one first x = go (meaning (look_of s) x.name) refl
+    where
+      go : (o : Option Meaning) → meaning (look_of s) x.name ≡ o → meant_edge (look_of s) first x o ≡ []
+          → option_map_or (λ n. not (width_at es n == 1)) (meant_signal (look_of s) o) false ≡ false
+          → width_at es (unwrap_or (meant_signal (look_of s) o) 0) ≡ 1
       go None m e w = let u = not_broken (is_none (meaning (look_of s) x.name)) 305 x.name e in absurd (search (rules, sym (ap is_none m) ∙ u))
       go (Some (a_signal n)) m e w = eqb-true (width_at es n) 1 (not_true (width_at es n == 1) w)
       go (Some (a_param q)) m e w = absurd (search (rules, e))
       go (Some (a_memory q)) m e w = absurd (search (rules, e))
       go (Some no_value) m e w = absurd (search (rules, e))
 
+  -- so the clock has one bit, whichever edge is its
+  edges_one : (first : Text) (edges : List Edge) → has_form edges ≡ true → flat_map (edge_rules (look_of s) first) edges ≡ []
+      → list_any (is_wide (look_of s)) edges ≡ false
+      → width_at es (unwrap_or (clock_of (look_of s) edges) 0) ≡ 1
+  edges_one first [] f e w = absurd (search (rules, f))
+  edges_one first (x ∷ []) f e w = edge_one first x (none_of_both _ [] e).0 (neither_holds (is_wide (look_of s) x) false w).0
+  edges_one first (x ∷ y ∷ []) f e w =
+      let p = none_of_both (edge_rules (look_of s) first x) (edge_rules (look_of s) first y ++ []) e in
+      let q = neither_holds (is_wide (look_of s) x) (is_wide (look_of s) y || false) w in
+      go (names_reset (look_of s) x && not (names_reset (look_of s) y)) (edge_one first x p.0 q.0)
+      (edge_one first y (none_of_both (edge_rules (look_of s) first y) [] p.1).0 (neither_holds (is_wide (look_of s) y) false q.1).0)
+    where
+      go : (b : Bool) → width_at es (unwrap_or (edge_signal (look_of s) x) 0) ≡ 1 → width_at es (unwrap_or (edge_signal (look_of s) y) 0) ≡ 1
+          → width_at es (unwrap_or (edge_signal (look_of s) (cond b y x)) 0) ≡ 1
+      go true h k = k
+      go false h k = h
+  edges_one first (x ∷ y ∷ z ∷ edges) f e w = absurd (search (rules, f))
+
+  clock_one : (edges : List Edge) → event_rules (look_of s) edges ≡ []
+      → (has_form edges ≡ true) × (width_at es (unwrap_or (clock_of (look_of s) edges) 0) ≡ 1)
+  clock_one edges e =
+      let wrong = list_any (is_wide (look_of s)) edges || is_clock_falling (look_of s) edges in
+      let p = none_of_both (flat_map (edge_rules (look_of s) (first_edge edges)) edges) _ e in
+      let a = neither_holds (not (has_form edges)) wrong (not_broken (not (has_form edges) || wrong) 316 _ p.1) in
+      let b = neither_holds (list_any (is_wide (look_of s)) edges) (is_clock_falling (look_of s) edges) a.1 in
+      let f = not_true (has_form edges) a.0 in
+      (f, edges_one (first_edge edges) edges f p.0 b.0)
+
   clocked_next : (p : Place) (edges : List Edge) (body : StmtTree) (t : Stage) → IsStmtFormed body → clocked_process s p edges body ≡ good t → IsNext s t
   clocked_next p edges body t f = judged_next by_number p _ s _ t (λ b.
       let look = look_of s in
-      let q = none_of_both (event_rules look edges ++ (done look (edge_kind look edges) body).broken) _ b in
+      let o = none_of_both (event_rules look edges ++ (done look (edge_kind look edges) body).broken ++ pair_rules look edges) _ b in
+      let q = none_of_both (event_rules look edges ++ (done look (edge_kind look edges) body).broken) (pair_rules look edges) o.0 in
       let r = none_of_both (event_rules look edges) (done look (edge_kind look edges) body).broken q.0 in
       let c = clock_one edges r.0 in
       let i : (done look clocked body).broken ≡ [] = ap (λ b. (done look (cond b clocked neither) body).broken) (sym c.0) ∙ r.1 in

@@ -1,5 +1,5 @@
 -- What visits make of a design that is well sized, and the flat design that comes of it.
-use Rattle.std.proofs.Common.{◌≡◌, ℕ, zero, suc, ◌≤◌, Bool, true, false, cond, List, [], ◌∷◌, ◌++◌, length, map, Option, Some, None, refl, subst, rules, find, bytes_eq}
+use Rattle.std.proofs.Common.{◌≡◌, ℕ, zero, suc, ◌≤◌, Bool, true, false, cond, List, [], ◌∷◌, ◌++◌, length, map, Option, Some, None, refl, sym, subst, rules, find, bytes_eq}
 use Rattle.std.specs.Prelude.{All, codes, flat_map, filter_map}
 use Rattle.std.specs.List.{cons_option, list_any}
 use Rattle.std.proofs.lemmas.List.Elements.{All-head, All-cons, All-nil, All-tail, All-push, All-append}
@@ -17,9 +17,9 @@ use Rattle.flat_unfolding.specs.Declarations.{header_of, header_decls, declarati
 use Rattle.flat_unfolding.specs.Instances.{override_rules, overrides_of, connection_rules, links_of, connected, leaning_of, is_short}
 use Rattle.flat_unfolding.specs.Design.{Design, no_design, Stage, look_of}
 use Rattle.flat_unfolding.specs.Drivers.{driven_once}
-use Rattle.flat_unfolding.specs.Signals.{signal_of, signals_from, flat_design}
+use Rattle.flat_unfolding.specs.Signals.{with_free, signal_of, signals_from, flat_design}
 use Rattle.flat_unfolding.specs.Starts.{initial_starts, so_far}
-use Rattle.flat_unfolding.specs.Unfolding.{module_named, declared_value, Visit, instance_of, instance_item, item_of, item, header_values, visit, top_ports, modules_differ, finished, from_top, unfolded}
+use Rattle.flat_unfolding.specs.Unfolding.{module_named, declared_value, Visit, instance_of, instance_item, item_of, item, header_values, with_resets, visit, top_ports, modules_differ, finished, from_top, unfolded}
 use Rattle.flat_unfolding.specs.Formed.{IsParamFormed, IsDeclFormed, IsPortFormed, IsBodyFormed, IsModuleFormed, IsSourceFormed}
 use Rattle.flat_unfolding.specs.Sized.{IsSized, IsTargetSized, IsStmtSized, any, IsSizedFlat}
 use Rattle.flat_unfolding.specs.Laws.{SizesLaw}
@@ -27,11 +27,12 @@ use Rattle.flat_unfolding.proofs.Steps.{good_is, good_then, judged_is, none_of_b
 use Rattle.flat_unfolding.proofs.Terms.{IsWide}
 use Rattle.flat_unfolding.proofs.Known.{reg_at, top_at, IsNamed}
 use Rattle.flat_unfolding.proofs.Grown.{told_none, width_some, Grows, grows_itself, grows_on, names_on, all_on, expr_agrees, target_agrees, stmt_agrees}
-use Rattle.flat_unfolding.proofs.Stages.{IsEntry, drivable_at, IsAssignIn, IsCombIn, IsClockedIn, IsDesign, IsStage, IsNext, stays, assign_next, gate_next, always_next, starts_next, value_next}
+use Rattle.flat_unfolding.proofs.Stages.{words_of, drivable_at, IsAssignIn, IsCombIn, IsClockedIn, IsDesign, IsStage, IsNext, stays, assign_next, gate_next, always_next, starts_next, value_next}
 use Rattle.flat_unfolding.proofs.Declared.{IsDeclaring, AreWide, parameter_declares, declarations_declare}
 use Rattle.flat_unfolding.proofs.Directed.{declarations_know_ports}
-use Rattle.flat_unfolding.proofs.Ports.{links_fine, overrides_fine, OpensPorts, connected_opens, top_opens}
-use Rattle.flat_unfolding.proofs.Visits.{signal_widths}
+use Rattle.flat_unfolding.proofs.Ports.{links_fine, overrides_fine, OpensPorts, resets_declare, connected_opens, top_opens}
+use Rattle.flat_unfolding.proofs.Free.{free_width}
+use Rattle.flat_unfolding.proofs.Visits.{flat_widths}
 
 -- ---- steps over what is well formed
 
@@ -138,7 +139,8 @@ module _ (modules : List ModuleTree) (formed : IsSourceFormed modules) where
       let first : Stage = record { names = []; design = d } in
       let a = good_then (parameters overrides m first) _ e q in
       let b = good_then (declarations prefix m a.0) _ e a.2 in
-      let c = good_then (header_values m (ports b.0)) _ e b.2 in
+      let r = with_resets (length d.entries) b.0 in
+      let c = good_then (header_values m (ports r)) _ e b.2 in
       let begun : IsDeclaring d first = record {
         same = refl;
         grows = grows_itself d.entries;
@@ -149,10 +151,11 @@ module _ (modules : List ModuleTree) (formed : IsSourceFormed modules) where
       } in
       let fa = each_all IsParamIn (IsDeclaring d) (parameter overrides) (λ s q t w. parameter_declares d overrides o s q t w.1) first (params_of m) a.0 (params_formed m f) a.1 begun in
       let fb = declarations_declare d prefix m a.0 b.0 b.1 fa in
-      let opened = k b.0 h fb (declarations_know_ports d prefix m a.0 b.0 b.1 fa) in
-      let fo : IsBehind d (ports b.0) = record { stage = opened.stage; grows = opened.grows } in
+      let fr = resets_declare m d (length d.entries) b.0 fb (declarations_know_ports d prefix m a.0 b.0 b.1 fa) in
+      let opened = k r h fr.0 fr.1 in
+      let fo : IsBehind d (ports r) = record { stage = opened.stage; grows = opened.grows } in
       let fc = each_all IsDeclFormed (IsBehind d) (λ s (x : DeclTree). declared_value s m.place x) (λ s x t w z y. next_behind d s t (value_next s y.stage m.place x.name x.init x.kind t w.2 z) y)
-      (ports b.0) (header_decls m) c.0 (ports_formed m.ports f.ports) c.1 fo in
+      (ports r) (header_decls m) c.0 (ports_formed m.ports f.ports) c.1 fo in
       let fi = each_all (λ (x : ItemTree). IsBodyFormed x.body) (IsBehind d) (item modules visiting prefix (visit modules n))
       (λ s x t w z y. next_behind d s t (item_next visiting prefix (visit modules n) (visit_sizes n) s y.stage x.place x.body w t z) y) c.0 m.items e f.items c.2 fc in
       (fi.stage.design, fi.grows)
@@ -160,37 +163,40 @@ module _ (modules : List ModuleTree) (formed : IsSourceFormed modules) where
       none_beyond : (es : List Entry) (i : ℕ) → length es ≤ i → top_at es i ≡ false
       none_beyond es i l = told_none (λ (e : Entry). e.is_top_input) false es i l
 
-no_design_is : IsDesign no_design
-no_design_is = record { entries = All-nil _; assigns = All-nil _; combs = All-nil _; clocked = All-nil _; outputs = All-nil _ }
+no_design_is : (resets : List ResetPin) → IsDesign (no_design resets)
+no_design_is resets = record { entries = All-nil _; assigns = All-nil _; combs = All-nil _; clocked = All-nil _; outputs = All-nil _ }
 
 -- what an unfolding was before its drivers were tried
-pub reached : (modules : List ModuleTree) → IsSourceFormed modules → (top : Text) (resets : List ResetPin) (f : Flat) → unfolded modules top resets ≡ good f → (d : Design) × IsDesign d × (finished d ≡ good f)
-reached modules formed top resets f e =
-    let g = good_then (modules_differ modules) (λ u. from_top modules resets top (module_named top modules)) f e in
+pub reached : (modules : List ModuleTree) → IsSourceFormed modules → (top : Text) (resets : List ResetPin) (named : List Text) (f : Flat)
+    → unfolded modules top resets named ≡ good f → (d : Design) × IsDesign d × (finished named d ≡ good f)
+reached modules formed top resets named f e =
+    let g = good_then (modules_differ modules) (λ u. from_top modules resets named top (module_named top modules)) f e in
     go (module_named top modules) (found_formed modules formed top modules formed) g.2
   where
-    go : (o : Option ModuleTree) → ((m : ModuleTree) → o ≡ Some m → IsModuleFormed m) → from_top modules resets top o ≡ good f → (d : Design) × IsDesign d × (finished d ≡ good f)
+    go : (o : Option ModuleTree) → ((m : ModuleTree) → o ≡ Some m → IsModuleFormed m) → from_top modules resets named top o ≡ good f → (d : Design) × IsDesign d × (finished named d ≡ good f)
     go None k e = absurd (search (rules, e))
     go (Some m) k e =
-        let g = good_then (visit modules (length modules) [] (m.name ∷ []) m [] (top_ports resets (header_of m)) no_design) (λ (s : Stage). finished s.design) f e in
-        let v = visit_sizes modules formed (length modules) [] (m.name ∷ []) m [] (top_ports resets (header_of m)) no_design g.0 g.1 (k m refl) (All-nil (λ (q : Text × Override). IsWide (size q.1.value))) (top_opens m resets (header_of m)) no_design_is in
+        let g = good_then (visit modules (length modules) [] (m.name ∷ []) m [] (top_ports (header_of m)) (no_design resets)) (λ (s : Stage). finished named s.design) f e in
+        let v = visit_sizes modules formed (length modules) [] (m.name ∷ []) m [] (top_ports (header_of m)) (no_design resets) g.0 g.1 (k m refl) (All-nil (λ (q : Text × Override). IsWide (size q.1.value))) (top_opens m resets (header_of m)) (no_design_is resets) in
         (g.0.design, v.0, g.2)
 
 -- ---- the flat design
 
-pub flat_agrees : (d : Design) (s : ℕ) → 1 ≤ width_at d.entries s → size_in (flat_design d) s ≡ width_at d.entries s
-flat_agrees d s h = signal_widths d 0 d.entries s
+pub flat_agrees : (named : List Text) (d : Design) (s : ℕ) → 1 ≤ width_at d.entries s → size_in (flat_design (with_free named d)) s ≡ width_at d.entries s
+flat_agrees named d s h = flat_widths named d s
 
-signals_sized : (d : Design) (n : ℕ) (es : List Entry) → All IsEntry es → All (λ (x : Signal). (1 ≤ x.width) × (x.width ≤ 64)) (signals_from d n es)
+signals_sized : (d : Design) (n : ℕ) (es : List Entry) → ((s : ℕ) → width_at es s ≤ 64)
+    → All (λ (x : Signal). (1 ≤ x.width) × (x.width ≤ 64)) (signals_from d n es)
 signals_sized d n [] h = All-nil _
 signals_sized d n (e ∷ es) h =
-    All-cons (λ (x : Signal). (1 ≤ x.width) × (x.width ≤ 64)) (signal_of d n e) (signals_from d (suc n) es) (width_some e.range, (All-head IsEntry e es h).narrow) (signals_sized d (suc n) es (All-tail IsEntry e es h))
+    All-cons (λ (x : Signal). (1 ≤ x.width) × (x.width ≤ 64)) (signal_of d n e) (signals_from d (suc n) es) (width_some e.range, h 0)
+    (signals_sized d (suc n) es (λ s. h (suc s)))
 
-pub flat_sized : (d : Design) → IsDesign d → IsSizedFlat (flat_design d)
-flat_sized d h =
-    let wid = width_at d.entries in let flat = size_in (flat_design d) in let agree = flat_agrees d in
+pub flat_sized : (named : List Text) (d : Design) → IsDesign d → IsSizedFlat (flat_design (with_free named d))
+flat_sized named d h =
+    let wid = width_at d.entries in let c = with_free named d in let flat = size_in (flat_design c) in let agree = flat_agrees named d in
     record {
-      signals = signals_sized d 0 d.entries h.entries;
+      signals = signals_sized c 0 c.entries (λ s. subst (λ w. w ≤ 64) (sym (free_width named d s)) (words_of d.entries h.entries s));
       assigns = all_on (IsAssignIn d.entries) (λ (a : Target × Expr). IsTargetSized flat any a.0 × IsSized flat a.1) d.assigns
           (λ a k. (target_agrees wid flat agree (drivable_at d.entries) any (λ s l e. refl) a.0 k.0, expr_agrees wid flat agree a.1 k.2)) h.assigns;
       combs = all_on (IsCombIn d.entries) (IsStmtSized flat any) d.combs (λ body k. stmt_agrees wid flat agree (reg_at d.entries) any (λ s l e. refl) body k.0) h.combs;
@@ -198,7 +204,8 @@ flat_sized d h =
     }
 
 pub sizes_law : SizesLaw
-sizes_law modules formed top resets f e =
-    let r = reached modules formed top resets f e in
-    let g = good_then (driven_once (flat_design r.0) r.0.resets) (λ u. good (flat_design r.0)) f r.2 in
-    subst IsSizedFlat (good_is (flat_design r.0) f g.2) (flat_sized r.0 r.1)
+sizes_law modules formed top resets named f e =
+    let r = reached modules formed top resets named f e in
+    let c = flat_design (with_free named r.0) in
+    let g = good_then (driven_once c r.0.resets) (λ u. good c) f r.2 in
+    subst IsSizedFlat (good_is c f g.2) (flat_sized named r.0 r.1)

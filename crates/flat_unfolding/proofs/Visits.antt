@@ -1,5 +1,5 @@
 -- What visits keep: the limits of signals.
-use Rattle.std.proofs.Common.{◌≡◌, ℕ, zero, suc, ◌≤◌, false, not, ◌&&◌, List, [], ◌∷◌, ◌++◌, length, map, Option, Some, None, refl, sym, ap, subst, rules}
+use Rattle.std.proofs.Common.{◌≡◌, ℕ, zero, suc, ◌-◌, ◌≤◌, false, not, ◌&&◌, List, [], ◌∷◌, ◌++◌, length, map, Option, Some, None, refl, sym, ap, subst, ◌∙◌, rules}
 use Rattle.std.specs.Prelude.{codes}
 use Rattle.std.specs.List.{list_any}
 use Rattle.cdc_base.specs.declared.fault.Place.{Place}
@@ -27,31 +27,33 @@ use Rattle.flat_unfolding.specs.Wires.{assign_item, gate_item}
 use Rattle.flat_unfolding.specs.Processes.{always_item}
 use Rattle.flat_unfolding.specs.Parameters.{range_read, Overrides, parameter_order, parameter, params_of, parameters}
 use Rattle.flat_unfolding.specs.Declarations.{is_plain_port, declaration_order, Site, again, range_rule, array_read, declaration_rules, entry, declared_again, add_declared, declaration, header_of, header_decls, sites, header_twice, has_direction, directed, declarations}
-use Rattle.flat_unfolding.specs.Instances.{override_rules, overrides_of, Link, into, out_of, connection_rules, links_of, into_port, out_of_port, connect_one, connect_all, connected, leaning_of, is_short}
+use Rattle.flat_unfolding.specs.Instances.{override_rules, overrides_of, Link, into, out_of, connection_rules, links_of, resolving_to, into_port, out_of_port, connect_one, connect_all, connected, leaning_of, is_short}
 use Rattle.flat_unfolding.specs.Drivers.{driven_once}
-use Rattle.flat_unfolding.specs.Signals.{signals_from, flat_design}
-use Rattle.flat_unfolding.specs.Unfolding.{module_named, value_item, declared_value, Visit, instance_of, instance_item, item_of, item, header_values, visit, top_input, directed_port, top_port, top_ports, modules_differ, finished, from_top}
+use Rattle.flat_unfolding.specs.Signals.{from_outside, with_free, signals_from, flat_design}
+use Rattle.flat_unfolding.specs.Unfolding.{module_named, value_item, declared_value, Visit, instance_of, instance_item, item_of, item, header_values, declared_reset, with_resets, visit, directed_port, top_port, top_ports, modules_differ, finished, from_top}
 use Rattle.flat_unfolding.specs.Laws.{OneDriverLaw, LimitsLaw, NumbersLaw}
 use Rattle.flat_unfolding.proofs.Steps.{good_is, good_then, judged_is, none_of_both, each_keeps}
-use Rattle.flat_unfolding.proofs.Entries.{Fine, none_are_fine, range_narrow, narrow_entries, Sound, sound_itself, change_sound, added_sound}
+use Rattle.flat_unfolding.proofs.Entries.{Fine, change_keeps, none_are_fine, from_keeps, range_narrow, narrow_entries, Sound, sound_itself, change_sound, added_sound}
 use Rattle.flat_unfolding.proofs.OneDriver.{one_driver}
+use Rattle.flat_unfolding.proofs.Free.{free_keeps, free_width}
 
 -- a design that is accepted had its drivers tried
-pub tried : (d : Design) (f : Flat) → finished d ≡ good f → (u : Unit {0}) × (driven_once f d.resets ≡ good u)
-tried d f e =
-    let g = good_then (driven_once (flat_design d) d.resets) (λ u. good (flat_design d)) f e in
+pub tried : (named : List Text) (d : Design) (f : Flat) → finished named d ≡ good f → (u : Unit {0}) × (driven_once f d.resets ≡ good u)
+tried named d f e =
+    let g = good_then (driven_once (flat_design (with_free named d)) d.resets) (λ u. good (flat_design (with_free named d))) f e in
     (g.0, subst (λ x. driven_once x d.resets ≡ good g.0) (good_is _ f g.2) g.1)
 
-from_top_tried : (modules : List ModuleTree) (resets : List ResetPin) (top : Text) (o : Option ModuleTree) (f : Flat) → from_top modules resets top o ≡ good f
+from_top_tried : (modules : List ModuleTree) (resets : List ResetPin) (named : List Text) (top : Text) (o : Option ModuleTree) (f : Flat)
+    → from_top modules resets named top o ≡ good f
     → (rs : List (Option ℕ × Stmt)) × (u : Unit {0}) × (driven_once f rs ≡ good u)
-from_top_tried modules resets top None f e = absurd (search (rules, e))
-from_top_tried modules resets top (Some m) f e =
-    let g = good_then (visit modules (length modules) [] (m.name ∷ []) m [] (top_ports resets (header_of m)) no_design) (λ (s : Stage). finished s.design) f e in let t = tried g.0.design f g.2 in (g.0.design.resets, t.0, t.1)
+from_top_tried modules resets named top None f e = absurd (search (rules, e))
+from_top_tried modules resets named top (Some m) f e =
+    let g = good_then (visit modules (length modules) [] (m.name ∷ []) m [] (top_ports (header_of m)) (no_design resets)) (λ (s : Stage). finished named s.design) f e in let t = tried named g.0.design f g.2 in (g.0.design.resets, t.0, t.1)
 
 pub one_driver_law : OneDriverLaw
-one_driver_law modules top resets f e =
-    let g = good_then (modules_differ modules) (λ u. from_top modules resets top (module_named top modules)) f e in
-    let h = from_top_tried modules resets top (module_named top modules) f g.2 in
+one_driver_law modules top resets named f e =
+    let g = good_then (modules_differ modules) (λ u. from_top modules resets named top (module_named top modules)) f e in
+    let h = from_top_tried modules resets named top (module_named top modules) f g.2 in
     one_driver f h.0 h.1 h.2
 
 -- ---- what a step makes of signals that are sound over those before
@@ -91,7 +93,7 @@ module _ (before : List Entry) where
   -- ---- ports
 
   into_keeps : (d : Design) (v : Expr) (r : Option ResetPin) (m : Option Meaning) → Sound before d.entries → Sound before (into_port d v r m).entries
-  into_keeps d v r (Some (a_signal s)) h = change_sound (λ (a : Entry). record a { reset = r }) (λ a. refl) s before d.entries h
+  into_keeps d v r (Some (a_signal s)) h = change_sound (resolving_to r) (λ a. refl) s before d.entries h
   into_keeps d v r m h = h
 
   out_keeps : (d : Design) (g : Target) (m : Option Meaning) → Sound before d.entries → Sound before (out_of_port d g m).entries
@@ -106,17 +108,22 @@ module _ (before : List Entry) where
   all_keep names d [] h = h
   all_keep names d (l ∷ ls) h = all_keep names (connect_one names d l) ls (one_keeps names d l h)
 
-  side_keeps : (resets : List ResetPin) (d : Design) (s : ℕ) (side : Direction) → Sound before d.entries → Sound before (directed_port resets d s side).entries
-  side_keeps resets d s inward h = change_sound (top_input resets) (λ a. refl) s before d.entries h
-  side_keeps resets d s side h = h
+  side_keeps : (d : Design) (s : ℕ) (side : Direction) → Sound before d.entries → Sound before (directed_port d s side).entries
+  side_keeps d s inward h = change_sound from_outside (λ a. refl) s before d.entries h
+  side_keeps d s side h = h
 
-  port_keeps : (resets : List ResetPin) (d : Design) (m : Option Meaning) → Sound before d.entries → Sound before (top_port resets d m).entries
-  port_keeps resets d (Some (a_signal s)) h = side_keeps resets d s (direction_at d.entries s) h
-  port_keeps resets d m h = h
+  port_keeps : (d : Design) (m : Option Meaning) → Sound before d.entries → Sound before (top_port d m).entries
+  port_keeps d (Some (a_signal s)) h = side_keeps d s (direction_at d.entries s) h
+  port_keeps d m h = h
 
-  top_keeps : (resets : List ResetPin) (xs : List Text) (s : Stage) → SoundStage s → SoundStage (top_ports resets xs s)
-  top_keeps resets [] s h = h
-  top_keeps resets (x ∷ xs) s h = top_keeps resets xs (with_design s (top_port resets s.design (meaning_in s.names x))) (port_keeps resets s.design (meaning_in s.names x) h)
+  top_keeps : (xs : List Text) (s : Stage) → SoundStage s → SoundStage (top_ports xs s)
+  top_keeps [] s h = h
+  top_keeps (x ∷ xs) s h = top_keeps xs (with_design s (top_port s.design (meaning_in s.names x))) (port_keeps s.design (meaning_in s.names x) h)
+
+  resets_keep : (n : ℕ) (s : Stage) → SoundStage s → SoundStage (with_resets n s)
+  resets_keep n s h =
+      let d = s.design in let f = declared_reset d.pins in
+      from_keeps (Sound before) f (λ i es. change_sound f (λ a. refl) i before es) n (length d.entries - n) d.entries h
 
   -- ---- parameters and declarations
 
@@ -189,10 +196,12 @@ visit_keeps modules (suc n) before prefix visiting m overrides ports k d e q h =
     let first : Stage = record { names = []; design = d } in
     let a = good_then (parameters overrides m first) _ e q in
     let b = good_then (declarations prefix m a.0) _ e a.2 in
-    let c = good_then (header_values m (ports b.0)) _ e b.2 in
+    let r = with_resets (length d.entries) b.0 in
+    let c = good_then (header_values m (ports r)) _ e b.2 in
     let fa = each_keeps (SoundStage before) (parameter overrides) (parameter_keeps before overrides) first (params_of m) a.0 a.1 h in
     let fb = declarations_keep before prefix m a.0 b.0 b.1 fa in
-    let fc = each_keeps (SoundStage before) (λ s (x : DeclTree). declared_value s m.place x) (λ s x t. value_keeps before s m.place x.name x.init x.kind t) (ports b.0) (header_decls m) c.0 c.1 (k b.0 fb) in
+    let fc = each_keeps (SoundStage before) (λ s (x : DeclTree). declared_value s m.place x) (λ s x t. value_keeps before s m.place x.name x.init x.kind t)
+    (ports r) (header_decls m) c.0 c.1 (k r (resets_keep before (length d.entries) b.0 fb)) in
     each_keeps (SoundStage before) (item modules visiting prefix (visit modules n)) (λ s x t. item_keeps modules visiting prefix (visit modules n) (visit_keeps modules n) before s x.place x.body t)
     c.0 m.items e c.2 fc
 
@@ -203,29 +212,35 @@ signal_widths d n [] s = refl
 signal_widths d n (e ∷ es) zero = refl
 signal_widths d n (e ∷ es) (suc s) = signal_widths d (suc n) es s
 
+pub flat_widths : (named : List Text) (d : Design) (s : ℕ) → size_in (flat_design (with_free named d)) s ≡ width_at d.entries s
+flat_widths named d s = signal_widths (with_free named d) 0 (with_free named d).entries s ∙ free_width named d s
+
 signal_count : (d : Design) (n : ℕ) (es : List Entry) → length (signals_from d n es) ≡ length es
 signal_count d n [] = refl
 signal_count d n (e ∷ es) = ap suc (signal_count d (suc n) es)
 
 abbrev IsLimited : Flat → Type 0
-IsLimited f = AreWords (size_in f) × (length f.signals ≤ 65536)
+IsLimited f = AreWords (size_in f) × (length f.signals ≤ 1048576)
 
-limited : (d : Design) (f : Flat) → finished d ≡ good f → Fine d.entries → IsLimited f
-limited d f e h =
-    let g = good_then (driven_once (flat_design d) d.resets) (λ u. good (flat_design d)) f e in
-    subst IsLimited (good_is (flat_design d) f g.2)
-    ((λ s. subst (λ w. w ≤ 64) (sym (signal_widths d 0 d.entries s)) (h.narrow s)), subst (λ n. n ≤ 65536) (sym (signal_count d 0 d.entries)) h.few)
+limited : (named : List Text) (d : Design) (f : Flat) → finished named d ≡ good f → Fine d.entries → IsLimited f
+limited named d f e h =
+    let c = with_free named d in
+    let g = good_then (driven_once (flat_design c) d.resets) (λ u. good (flat_design c)) f e in
+    let k = free_keeps Fine (λ n es. change_keeps from_outside (λ x. refl) n es) named d h in
+    subst IsLimited (good_is (flat_design c) f g.2)
+    ((λ s. subst (λ w. w ≤ 64) (sym (signal_widths c 0 c.entries s)) (k.narrow s)), subst (λ n. n ≤ 1048576) (sym (signal_count c 0 c.entries)) k.few)
 
-top_limited : (modules : List ModuleTree) (resets : List ResetPin) (top : Text) (o : Option ModuleTree) (f : Flat) → from_top modules resets top o ≡ good f → IsLimited f
-top_limited modules resets top None f e = absurd (search (rules, e))
-top_limited modules resets top (Some m) f e =
-    let g = good_then (visit modules (length modules) [] (m.name ∷ []) m [] (top_ports resets (header_of m)) no_design) (λ (s : Stage). finished s.design) f e in
-    limited g.0.design f g.2 ((visit_keeps modules (length modules) [] [] (m.name ∷ []) m [] (top_ports resets (header_of m)) (top_keeps [] resets (header_of m)) no_design g.0 g.1 (sound_itself [])).fine none_are_fine)
+top_limited : (modules : List ModuleTree) (resets : List ResetPin) (named : List Text) (top : Text) (o : Option ModuleTree) (f : Flat)
+    → from_top modules resets named top o ≡ good f → IsLimited f
+top_limited modules resets named top None f e = absurd (search (rules, e))
+top_limited modules resets named top (Some m) f e =
+    let g = good_then (visit modules (length modules) [] (m.name ∷ []) m [] (top_ports (header_of m)) (no_design resets)) (λ (s : Stage). finished named s.design) f e in
+    limited named g.0.design f g.2 ((visit_keeps modules (length modules) [] [] (m.name ∷ []) m [] (top_ports (header_of m)) (top_keeps [] (header_of m)) (no_design resets) g.0 g.1 (sound_itself [])).fine none_are_fine)
 
 pub limits_law : LimitsLaw
-limits_law modules top resets f e =
-    let g = good_then (modules_differ modules) (λ u. from_top modules resets top (module_named top modules)) f e in
-    top_limited modules resets top (module_named top modules) f g.2
+limits_law modules top resets named f e =
+    let g = good_then (modules_differ modules) (λ u. from_top modules resets named top (module_named top modules)) f e in
+    top_limited modules resets named top (module_named top modules) f g.2
 
 pub numbers_law : NumbersLaw
 numbers_law modules n prefix visiting m overrides links d e h =

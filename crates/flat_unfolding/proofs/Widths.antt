@@ -402,4 +402,4 @@ well_sized d h k =
     }
 
 pub well_sized_law : WellSizedLaw
-well_sized_law modules formed top resets d e k = well_sized d (sizes_law modules formed top resets (flat_of d) e) k
+well_sized_law modules formed top resets named d e k = well_sized d (sizes_law modules formed top resets named (flat_of d) e) k

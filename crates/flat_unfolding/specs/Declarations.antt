@@ -112,9 +112,9 @@ entry at kind r is_open x = record {
   reset = None;
 }
 
--- E601: a design has 65,536 signals at most
+-- E601: a design has 1,048,576 signals at most
 abbrev pub added : Stage → List Entry → Names → Outcome Stage
-added s es names = then_ (refused_if (nat_lt 65536 (length s.design.entries + length es)) 601 None [])
+added s es names = then_ (refused_if (nat_lt 1048576 (length s.design.entries + length es)) 601 None [])
     (λ u. good (record { names = s.names ++ names; design = record s.design { entries = s.design.entries ++ es } }))
 
 -- the printed names of words are taken, and stand for nothing

@@ -1,5 +1,6 @@
 -- The design as it grows.
 use Rattle.std.specs.Prelude.{ℕ, zero, suc, false, List, [], ◌∷◌, ◌++◌, Option}
+use Rattle.cdc_base.specs.declared.signal.ResetPin.{ResetPin}
 use Rattle.flat_meaning.specs.Flat.{Expr, Target, Stmt}
 use Rattle.flat_unfolding.specs.Names.{Names, Entry, Look}
 
@@ -16,18 +17,20 @@ pub record Given : Type 0 where
   pub value : ℕ
 
 pub record Design : Type 0 where
+  -- the resets of the constraints
+  pub pins : List ResetPin
   pub entries : List Entry
   pub assigns : List (Target × Expr)
   pub combs : List Stmt
   pub clocked : List (ℕ × Stmt)
-  -- for each clocked process the signal of its second edge, and the first branch of its reset form, or nothing
+  -- for each clocked process the signal of its reset's edge, and the first branch of its reset form, or nothing
   pub resets : List (Option ℕ × Stmt)
   pub outputs : List ℕ
   pub starts : List Start
   pub givens : List Given
 
-abbrev pub no_design : Design
-no_design = record { entries = []; assigns = []; combs = []; clocked = []; resets = []; outputs = []; starts = []; givens = [] }
+abbrev pub no_design : List ResetPin → Design
+no_design resets = record { pins = resets; entries = []; assigns = []; combs = []; clocked = []; resets = []; outputs = []; starts = []; givens = [] }
 
 -- a module that is visited: its names, and the design so far
 pub record Stage : Type 0 where
@@ -49,3 +52,8 @@ abbrev pub change_entry : (Entry → Entry) → ℕ → List Entry → List Entr
 change_entry f s [] = []
 change_entry f zero (e ∷ es) = f e ∷ es
 change_entry f (suc s) (e ∷ es) = e ∷ change_entry f s es
+
+-- so many entries from number s on after a change
+abbrev pub change_from : (Entry → Entry) → (s more : ℕ) → List Entry → List Entry
+change_from f s zero es = es
+change_from f s (suc more) es = change_from f (suc s) more (change_entry f s es)

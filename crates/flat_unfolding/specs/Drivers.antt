@@ -33,7 +33,7 @@ all_drivers f s i = drivers f s i + once (is_clocked f s)
 
 -- ---- clocked processes of one signal
 
--- a clocked process as far as drivers go: its clock, the signal of its second edge, the first branch of its reset form, and its body
+-- a clocked process as far as drivers go: its clock, the signal of its reset's edge, the first branch of its reset form, and its body
 pub record Process : Type 0 where
   pub clock : ℕ
   pub edge : Option ℕ

@@ -1,6 +1,6 @@
 -- Instances: overrides of parameters and connections of ports.
 use Rattle.std.specs.Prelude.{ℕ, Bool, false, cond, not, ◌&&◌, ◌||◌, nat_lt, List, [], ◌∷◌, ◌++◌, length, map, filter, filter_map, flat_map, Option, Some, None, bytes_eq, option_map, option_and_then}
-use Rattle.std.specs.Option.{option_map_or}
+use Rattle.std.specs.Option.{option_map_or, option_or}
 use Rattle.cdc_base.specs.declared.fault.Place.{Place}
 use Rattle.cdc_base.specs.declared.signal.ResetPin.{ResetPin}
 use Rattle.cdc_base.specs.Words.{is_in}
@@ -114,9 +114,14 @@ connection_rules look m given = joint_rules m.name (header_of m) given ++ flat_m
 abbrev pub links_of : Look → ModuleTree → ConnsTree → List Link
 links_of look m given = filter_map (λ (j : Joint). (linked look m j).link) (joints (header_of m) given)
 
--- a connection is an assignment in the port's direction, before the items of the instance's module; `names` are those of the instance's module
+-- an entry that resolves to a reset, unless it is one
+abbrev pub resolving_to : Option ResetPin → Entry → Entry
+resolving_to r a = record a { reset = option_or a.reset r }
+
+-- a connection is an assignment in the port's direction, before the items of the instance's module; `names` are those of the instance's module.
+-- A port that is no declared reset itself resolves to the one that is connected
 abbrev pub into_port : Design → Expr → Option ResetPin → Option Meaning → Design
-into_port d e r (Some (a_signal s)) = assigned (record d { entries = change_entry (λ (a : Entry). record a { reset = r }) s d.entries }) (Whole s) e
+into_port d e r (Some (a_signal s)) = assigned (record d { entries = change_entry (resolving_to r) s d.entries }) (Whole s) e
 into_port d e r m = d
 
 abbrev pub out_of_port : Design → Target → Option Meaning → Design

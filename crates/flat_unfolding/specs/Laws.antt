@@ -32,13 +32,13 @@ FirstIsToldLaw = (order : Order) (b : Broken) (bs : List Broken) → All (λ (c 
 
 -- no bit of the flat design has two drivers
 abbrev pub OneDriverLaw : Type 0
-OneDriverLaw = (modules : List ModuleTree) (top : Text) (resets : List ResetPin) (f : Flat) → unfolded modules top resets ≡ good f
+OneDriverLaw = (modules : List ModuleTree) (top : Text) (resets : List ResetPin) (named : List Text) (f : Flat) → unfolded modules top resets named ≡ good f
     → (s i : ℕ) → i < size_in f s → drivers f s i ≤ 1
 
--- a signal of the flat design has 64 bits at most, and there are 65,536 signals at most
+-- a signal of the flat design has 64 bits at most, and there are 1,048,576 signals at most
 abbrev pub LimitsLaw : Type 0
-LimitsLaw = (modules : List ModuleTree) (top : Text) (resets : List ResetPin) (f : Flat) → unfolded modules top resets ≡ good f
-    → AreWords (size_in f) × (length f.signals ≤ 65536)
+LimitsLaw = (modules : List ModuleTree) (top : Text) (resets : List ResetPin) (named : List Text) (f : Flat) → unfolded modules top resets named ≡ good f
+    → AreWords (size_in f) × (length f.signals ≤ 1048576)
 
 -- the bound on the depth of visits is no rule: with a greater one the unfolding is the same
 abbrev pub DepthLaw : Type 0
@@ -66,11 +66,11 @@ NumbersLaw = (modules : List ModuleTree) (n : ℕ) (prefix : Text) (visiting : L
 
 -- each word of the flat design has 1 to 64 bits, numbers fit in theirs, and what is selected lies in its signal
 abbrev pub SizesLaw : Type 0
-SizesLaw = (modules : List ModuleTree) → IsSourceFormed modules → (top : Text) (resets : List ResetPin) (f : Flat) → unfolded modules top resets ≡ good f → IsSizedFlat f
+SizesLaw = (modules : List ModuleTree) → IsSourceFormed modules → (top : Text) (resets : List ResetPin) (named : List Text) (f : Flat) → unfolded modules top resets named ≡ good f → IsSizedFlat f
 
 -- the flat design keeps the rules that the law of elaboration rests on
 abbrev pub SoundLaw : Type 0
-SoundLaw = (modules : List ModuleTree) → IsSourceFormed modules → (top : Text) (resets : List ResetPin) (f : Flat) → unfolded modules top resets ≡ good f → IsSound f
+SoundLaw = (modules : List ModuleTree) → IsSourceFormed modules → (top : Text) (resets : List ResetPin) (named : List Text) (f : Flat) → unfolded modules top resets named ≡ good f → IsSound f
 
 -- what the layers above may rest on: clocked processes assign registers and nothing else, each bit of a register at most one of them, and
 -- those of one register have one clock; a clock has one bit
@@ -82,8 +82,8 @@ pub record IsWellClocked (f : Flat) : Type 0 where
   pub clocks : All (λ (p : ℕ × Stmt). size_in f p.0 ≡ 1) f.clocked
 
 abbrev pub WellClockedLaw : Type 0
-WellClockedLaw = (modules : List ModuleTree) → IsSourceFormed modules → (top : Text) (resets : List ResetPin) (f : Flat) → unfolded modules top resets ≡ good f → IsWellClocked f
+WellClockedLaw = (modules : List ModuleTree) → IsSourceFormed modules → (top : Text) (resets : List ResetPin) (named : List Text) (f : Flat) → unfolded modules top resets named ≡ good f → IsWellClocked f
 
 -- with the widths that it keeps: where each is the size of what it stands for, a flat design that unfolds so is well sized
 abbrev pub WellSizedLaw : Type 0
-WellSizedLaw = (modules : List ModuleTree) → IsSourceFormed modules → (top : Text) (resets : List ResetPin) (flat : f.Flat) → unfolded modules top resets ≡ good (flat_of flat) → KeepsSizes flat → IsWellSized flat
+WellSizedLaw = (modules : List ModuleTree) → IsSourceFormed modules → (top : Text) (resets : List ResetPin) (named : List Text) (flat : f.Flat) → unfolded modules top resets named ≡ good (flat_of flat) → KeepsSizes flat → IsWellSized flat

@@ -1,5 +1,5 @@
 -- What the names of a module stand for, and what is known of the signals that are declared so far.
-use Rattle.std.specs.Prelude.{ℕ, ◌+◌, ◌-◌, min, max, Bool, cond, ◌&&◌, ◌==◌, nat_lt, nat_le, List, [], ◌∷◌, ◌++◌, Option, Some, None, is_some, is_none, slice_get, option_and_then, codes, decimal}
+use Rattle.std.specs.Prelude.{ℕ, ◌+◌, ◌-◌, min, max, Bool, cond, ◌&&◌, ◌==◌, nat_lt, nat_le, List, [], ◌∷◌, ◌++◌, Option, Some, None, is_some, is_none, slice_get, option_and_then, find, bytes_eq, codes, decimal}
 use Rattle.std.specs.Option.{option_map_or}
 use Rattle.cdc_base.specs.declared.fault.Place.{Place}
 use Rattle.cdc_base.specs.declared.signal.ResetPin.{ResetPin}
@@ -81,6 +81,10 @@ pub record Entry : Type 0 where
   pub is_top_input : Bool
   -- the reset that it resolves to
   pub reset : Option ResetPin
+
+-- the reset that a signal of one bit is declared as, by its printed name
+abbrev pub pin_of : List ResetPin → Entry → Option ResetPin
+pin_of pins e = cond (width_of e.range == 1) (find (λ (r : ResetPin). bytes_eq r.name e.printed) pins) None
 
 -- what an expression is read in: `active` tells at which of their levels resets read
 pub record Look : Type 0 where

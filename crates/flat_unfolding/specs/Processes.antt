@@ -1,6 +1,7 @@
 -- `always`: processes of wires and clocked ones.
-use Rattle.std.specs.Prelude.{ℕ, Bool, true, false, cond, not, ◌&&◌, ◌||◌, ◌==◌, List, [], ◌∷◌, ◌++◌, flat_map, Option, Some, None, unwrap_or, option_and_then}
+use Rattle.std.specs.Prelude.{ℕ, Bool, true, false, cond, not, ◌&&◌, ◌||◌, ◌==◌, List, [], ◌∷◌, ◌++◌, flat_map, Option, Some, None, is_some, is_none, unwrap_or, option_and_then}
 use Rattle.std.specs.Option.{option_map_or}
+use Rattle.std.specs.List.{list_any}
 use Rattle.cdc_base.specs.declared.fault.Place.{Place}
 use Rattle.verilog_ast.specs.declared.Edge.{Edge}
 use Rattle.verilog_ast.specs.declared.EdgeKind.{EdgeKind}
@@ -13,7 +14,7 @@ use Rattle.flat_unfolding.specs.Outcome.{Text, Broken, breaks, breaks_if, Outcom
 use Rattle.flat_unfolding.specs.Names.{Meaning, a_signal, Look, meaning, width_at, unknown}
 use Rattle.flat_unfolding.specs.Statements.{of_wires, clocked, neither, Kind, done}
 use Rattle.flat_unfolding.specs.Reads.{latch_rule}
-use Rattle.flat_unfolding.specs.Resets.{ResetForm, reset_form, reset_rules}
+use Rattle.flat_unfolding.specs.Resets.{ResetForm, is_reset, reset_form, reset_rules}
 use Rattle.flat_unfolding.specs.Design.{Given, Stage, look_of, with_design}
 
 abbrev pub is_rising : EdgeKind → Bool
@@ -24,20 +25,20 @@ abbrev pub is_an_edge : EdgeKind → Bool
 is_an_edge edge.Level = false
 is_an_edge k = true
 
--- one `posedge`, or `posedge` followed by one more edge with `posedge` or `negedge`
+-- one `posedge`, or two edges with `posedge` or `negedge`, at least one of them a `posedge`
 abbrev pub has_form : List Edge → Bool
 has_form [] = false
 has_form (c ∷ []) = is_rising c.kind
-has_form (c ∷ e ∷ []) = is_rising c.kind && is_an_edge e.kind
+has_form (c ∷ e ∷ []) = is_an_edge c.kind && is_an_edge e.kind && (is_rising c.kind || is_rising e.kind)
 has_form (c ∷ e ∷ f ∷ rest) = false
 
 abbrev pub first_edge : List Edge → Text
 first_edge [] = []
 first_edge (e ∷ rest) = e.name
 
-abbrev pub second_edge : List Edge → Option Edge
-second_edge (c ∷ e ∷ rest) = Some e
-second_edge edges = None
+abbrev pub are_two : List Edge → Bool
+are_two (c ∷ e ∷ []) = true
+are_two edges = false
 
 module _ (look : Look) where
   -- E305, and E316: the name of an edge is that of a signal
@@ -49,18 +50,42 @@ module _ (look : Look) where
   abbrev pub edge_rules : Text → Edge → List Broken
   edge_rules first e = meant_edge first e (meaning look e.name)
 
-  abbrev pub meant_clock : Option Meaning → Option ℕ
-  meant_clock (Some (a_signal s)) = Some s
-  meant_clock m = None
+  abbrev pub meant_signal : Option Meaning → Option ℕ
+  meant_signal (Some (a_signal s)) = Some s
+  meant_signal m = None
+
+  -- the signal that an edge names
+  abbrev pub edge_signal : Edge → Option ℕ
+  edge_signal e = meant_signal (meaning look e.name)
+
+  abbrev pub is_wide : Edge → Bool
+  is_wide e = option_map_or (λ s. not (width_at look.entries s == 1)) (edge_signal e) false
+
+  abbrev pub names_reset : Edge → Bool
+  names_reset e = option_map_or (is_reset look) (edge_signal e) false
+
+  -- of two edges the one that names a reset, where the other one doesn't
+  abbrev pub reset_edge : List Edge → Option Edge
+  reset_edge (c ∷ e ∷ []) = cond (names_reset e) (cond (names_reset c) None (Some e)) (cond (names_reset c) (Some c) None)
+  reset_edge edges = None
+
+  -- and the clock's: the other one, or the first
+  abbrev pub clock_edge : List Edge → Option Edge
+  clock_edge [] = None
+  clock_edge (c ∷ e ∷ []) = Some (cond (names_reset c && not (names_reset e)) e c)
+  clock_edge (c ∷ rest) = Some c
 
   abbrev pub clock_of : List Edge → Option ℕ
-  clock_of [] = None
-  clock_of (e ∷ rest) = meant_clock (meaning look e.name)
+  clock_of edges = option_and_then edge_signal (clock_edge edges)
 
-  -- E316: the event has its form, and the clock one bit
+  -- the clock's edge rises; where no edge is known to be a reset's, E317 comes
+  abbrev pub is_clock_falling : List Edge → Bool
+  is_clock_falling edges = is_some (reset_edge edges) && option_map_or (λ (c : Edge). not (is_rising c.kind)) (clock_edge edges) false
+
+  -- E316: the event has its form, its edges have one bit, and the clock's rises
   abbrev pub event_rules : List Edge → List Broken
   event_rules edges = flat_map (edge_rules (first_edge edges)) edges
-      ++ breaks_if (not (has_form edges) || option_map_or (λ s. not (width_at look.entries s == 1)) (clock_of edges) false) 316 (first_edge edges)
+      ++ breaks_if (not (has_form edges) || (list_any is_wide edges || is_clock_falling edges)) 316 (first_edge edges)
 
   -- a process whose event has no form is no clocked one
   abbrev pub edge_kind : List Edge → Kind
@@ -69,13 +94,15 @@ module _ (look : Look) where
   abbrev pub form_of : List Edge → StmtTree → Option ResetForm
   form_of edges body = cond (has_form edges) (reset_form look body) None
 
-  abbrev pub second_of : List Edge → Option Edge
-  second_of edges = cond (has_form edges) (second_edge edges) None
+  -- E317: of two edges one alone is a reset's
+  abbrev pub pair_rules : List Edge → List Broken
+  pair_rules edges = breaks_if (has_form edges && (are_two edges && is_none (reset_edge edges))) 317 (first_edge edges)
 
   abbrev pub clocked_rules : List Edge → StmtTree → List Broken
-  clocked_rules edges body = event_rules edges ++ (done look (edge_kind edges) body).broken ++ reset_rules look (first_edge edges) (second_of edges) (form_of edges body)
+  clocked_rules edges body = event_rules edges ++ (done look (edge_kind edges) body).broken ++ pair_rules edges
+      ++ reset_rules look (first_edge edges) (reset_edge edges) (form_of edges body)
 
-  -- the `else` branch of reset form, else the whole
+  -- what reset form leaves, else the whole
   abbrev pub body_without : StmtTree → Option ResetForm → Stmt
   body_without body None = (done look clocked body).stmt
   body_without body (Some f) = (done look clocked f.rest).stmt
@@ -87,16 +114,16 @@ module _ (look : Look) where
   reset_gives None = []
   reset_gives (Some f) = unwrap_or f.given []
 
-  -- what drivers need to know of the reset: the signal of the second edge, and the first branch
+  -- what drivers need to know of the reset: the signal of its edge, and the first branch
   abbrev pub reset_branch : Option ResetForm → Stmt
   reset_branch None = Null
   reset_branch (Some f) = (done look clocked f.branch).stmt
 
-  abbrev pub second_signal : List Edge → Option ℕ
-  second_signal edges = option_and_then (λ (e : Edge). meant_clock (meaning look e.name)) (second_of edges)
+  abbrev pub reset_signal : List Edge → Option ℕ
+  reset_signal edges = option_and_then edge_signal (reset_edge edges)
 
   abbrev pub reset_of : List Edge → StmtTree → Option ℕ × Stmt
-  reset_of edges body = (second_signal edges, reset_branch (form_of edges body))
+  reset_of edges body = (reset_signal edges, reset_branch (form_of edges body))
 
 abbrev pub wires_process : Stage → Place → StmtTree → Outcome Stage
 wires_process s p body = let look = look_of s in let b = done look of_wires body in

@@ -1,14 +1,16 @@
--- Resets of clocked processes: the form `if (reset) constants else rest`.
-use Rattle.std.specs.Prelude.{ℕ, ◌^◌, ◌/◌, ◌%◌, Bool, true, false, cond, not, ◌&&◌, ◌||◌, ◌==◌, List, [], ◌∷◌, ◌++◌, Option, Some, None, is_none, option_map, bytes_eq}
-use Rattle.std.specs.Option.{option_map_or}
+-- Resets of clocked processes: the form `if (reset) constants else rest`, or `if (reset || clear) constants else rest`.
+use Rattle.std.specs.Prelude.{ℕ, ◌^◌, ◌/◌, ◌%◌, Bool, true, false, cond, not, ◌&&◌, ◌||◌, ◌==◌, List, [], ◌∷◌, ◌++◌, Option, Some, None, is_some, is_none, option_map}
+use Rattle.std.specs.Option.{option_map_or, option_or}
 use Rattle.std.specs.List.{list_all}
 use Rattle.cdc_base.specs.declared.signal.ResetPin.{ResetPin}
+use Rattle.verilog_ast.specs.declared.BinaryOp.{BinaryOp}
+use Rattle.verilog_ast.specs.declared.BinaryOp.TheVariants as op
 use Rattle.verilog_ast.specs.declared.Edge.{Edge}
 use Rattle.verilog_ast.specs.declared.EdgeKind.{EdgeKind}
 use Rattle.verilog_ast.specs.declared.EdgeKind.TheVariants as edge
 use Rattle.verilog_reading.specs.ExprTree.{ExprTree, number, name, index, part, unary, binary, choice, join, repeat, paren, ExprTrees, no_trees, and_trees, TargetTree, whole, index_of, part_of, join_of, TargetTrees, no_parts, and_parts}
 use Rattle.verilog_reading.specs.StmtTree.{StmtTree, null, set, when, either, block, StmtTrees, no_rows, and_rows}
-use Rattle.flat_meaning.specs.Flat.{Target, Whole, Part, Pick, Group, Targets, no_targets, target, target_sizes}
+use Rattle.flat_meaning.specs.Flat.{size, Target, Whole, Part, Pick, Group, Targets, no_targets, target, target_sizes}
 use Rattle.flat_unfolding.specs.Outcome.{Text, Broken, breaks_if}
 use Rattle.flat_unfolding.specs.Names.{Meaning, a_param, a_signal, Look, meaning, width_at, reset_at}
 use Rattle.flat_unfolding.specs.Constants.{own_value, assigned_value, both}
@@ -54,15 +56,15 @@ module _ (look : Look) where
       go (Some (a_signal s)) o = option_map (λ ss. s ∷ ss) o
       go m o = None
 
-  abbrev pub resolves_to : ResetPin → ℕ → Bool
-  resolves_to r s = option_map_or (λ (q : ResetPin). bytes_eq q.name r.name) (reset_at look.entries s) false
+  abbrev pub is_reset : ℕ → Bool
+  is_reset s = is_some (reset_at look.entries s)
 
-  -- signals that resolve to one reset
-  abbrev pub is_one_reset : List ℕ → Bool
-  is_one_reset [] = false
-  is_one_reset (s ∷ rest) = option_map_or (λ r. list_all (resolves_to r) rest) (reset_at look.entries s) false
+  -- one signal or more, each of which resolves to a reset
+  abbrev pub are_resets : List ℕ → Bool
+  are_resets [] = false
+  are_resets (s ∷ rest) = is_reset s && list_all is_reset rest
 
-  -- the value of a condition while its reset is at one of its levels
+  -- the value of a condition while its resets are at one of their levels
   abbrev pub at_level : Bool → ExprTree → Option ℕ
   at_level active c = let t = read (record look { active = active }) c in cond (is_sound t) (Some (own_value t.expr)) None
 
@@ -70,13 +72,34 @@ module _ (look : Look) where
   is_test (Some inactive) (Some active) = (inactive == 0) && not (active == 0)
   is_test m n = false
 
-  -- the signals of a condition that names those of one reset alone, is false at its inactive level and true at its active one
+  -- the signals of a condition that names resets alone, is false at their inactive levels and true at their active ones
   abbrev pub reset_signals : ExprTree → Option (List ℕ)
   reset_signals c = go (signals_among (names_in c))
     where
       go : Option (List ℕ) → Option (List ℕ)
       go None = None
-      go (Some ss) = cond (is_one_reset ss && is_test (at_level false c) (at_level true c)) (Some ss) None
+      go (Some ss) = cond (are_resets ss && is_test (at_level false c) (at_level true c)) (Some ss) None
+
+  -- an expression that breaks no rule and has one bit
+  abbrev pub is_one_bit : ExprTree → Bool
+  is_one_bit a = let t = read look a in is_sound t && (size t.expr == 1)
+
+  -- `||`, and `|` of two bits
+  abbrev pub is_or : BinaryOp → (a b : ExprTree) → Bool
+  is_or op.LogicOr a b = true
+  is_or op.Or a b = is_one_bit a && is_one_bit b
+  is_or o a b = false
+
+  abbrev pub both_signals : Option (List ℕ) → Option (List ℕ) → Option (List ℕ)
+  both_signals None m = m
+  both_signals (Some ss) None = Some ss
+  both_signals (Some ss) (Some ts) = Some (ss ++ ts)
+
+  -- the signals of the greatest such conditions that a condition is made of by these operators; nothing where there is none
+  abbrev pub tested_signals : ExprTree → Option (List ℕ)
+  tested_signals (binary o a b) = option_or (reset_signals (binary o a b)) (cond (is_or o a b) (both_signals (tested_signals a) (tested_signals b)) None)
+  tested_signals (paren a) = tested_signals a
+  tested_signals c = reset_signals c
 
   -- ---- the first branch
 
@@ -122,16 +145,20 @@ module _ (look : Look) where
   branch_given (block rows) = rows_given rows
   branch_given s = row_given s
 
--- a process in reset form: the signals of its condition, its first branch, what that gives where it has its form, and its `else`
+-- a process in reset form: the signals of its resets, its first branch, what that gives where it has its form, and what is left of it
 pub record ResetForm : Type 0 where
   pub signals : List ℕ
   pub branch : StmtTree
   pub given : Option (List Given)
   pub rest : StmtTree
 
+-- the `else` is left where the condition tests resets alone, and all of the `if` where it tests something beside them
+abbrev pub form_with : Look → ExprTree → (branch other all : StmtTree) → Option ResetForm
+form_with look c s z all = option_map (λ ss. record { signals = ss; branch = s; given = branch_given look s; rest = cond (is_some (reset_signals look c)) z all }) (tested_signals look c)
+
 abbrev pub form_in : Look → StmtTree → Option ResetForm
-form_in look (when c s) = option_map (λ ss. record { signals = ss; branch = s; given = branch_given look s; rest = null }) (reset_signals look c)
-form_in look (either c s z) = option_map (λ ss. record { signals = ss; branch = s; given = branch_given look s; rest = z }) (reset_signals look c)
+form_in look (when c s) = form_with look c s null (when c s)
+form_in look (either c s z) = form_with look c s z (either c s z)
 form_in look s = None
 
 abbrev pub reset_form : Look → StmtTree → Option ResetForm
@@ -143,7 +170,7 @@ is_active_edge edge.Pos r = r.high
 is_active_edge edge.Neg r = not r.high
 is_active_edge edge.Level r = false
 
--- a second edge is that of the very signal which the condition names
+-- the edge is that of the very signal which the resets' conditions name
 abbrev pub is_edge_of : Look → List ℕ → Edge → Bool
 is_edge_of look signals e = go (meaning look e.name)
   where
@@ -151,7 +178,7 @@ is_edge_of look signals e = go (meaning look e.name)
     go (Some (a_signal s)) = option_map_or (is_active_edge e.kind) (reset_at look.entries s) false && list_all (λ t. t == s) signals
     go m = false
 
--- E317: a second edge wants reset form for its signal, and reset form wants a first branch of constants
+-- E317: a reset's edge wants reset form for its signal, and reset form wants a first branch of constants
 abbrev pub reset_rules : Look → (first : Text) → Option Edge → Option ResetForm → List Broken
 reset_rules look first None None = []
 reset_rules look first (Some e) None = breaks_if true 317 first

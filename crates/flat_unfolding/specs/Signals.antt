@@ -1,20 +1,46 @@
--- The flat design once all modules are visited: the signals' kinds and start values.
-use Rattle.std.specs.Prelude.{ℕ, suc, Bool, true, false, cond, List, [], ◌∷◌, Option, is_some, unwrap_or}
+-- The flat design once all modules are visited: free signals, the signals' kinds and start values.
+use Rattle.std.specs.Prelude.{ℕ, zero, suc, Bool, true, false, cond, not, ◌&&◌, ◌||◌, List, [], ◌∷◌, length, Option, is_some, unwrap_or, slice_get, bytes_eq}
 use Rattle.std.specs.List.{list_any}
 use Rattle.std.specs.Option.{option_map_or}
+use Rattle.cdc_base.specs.declared.signal.ResetPin.{ResetPin}
 use Rattle.cdc_base.specs.declared.signal.Signal.{Signal}
 use Rattle.cdc_base.specs.declared.signal.SigKind.{SigKind}
 use Rattle.cdc_base.specs.declared.signal.SigKind.TheVariants.{Input, Register, Wire}
+use Rattle.cdc_base.specs.Words.{is_in}
 use Rattle.cell_graph.specs.Tree.{number}
-use Rattle.flat_meaning.specs.Flat.{Stmt, assigns}
+use Rattle.flat_meaning.specs.Flat.{Expr, Target, Stmt, is_target, assigns}
 use Rattle.flat_meaning.specs.Design.{Flat}
+use Rattle.flat_unfolding.specs.Outcome.{Text}
 use Rattle.flat_unfolding.specs.Names.{Range, Entry, width_of}
-use Rattle.flat_unfolding.specs.Starts.{known_bit}
-use Rattle.flat_unfolding.specs.Design.{Design}
+use Rattle.flat_unfolding.specs.Starts.{starts_with, known_bit}
+use Rattle.flat_unfolding.specs.Design.{Design, change_entry}
 
 -- a register is what a clocked process assigns
 abbrev pub is_register : Design → ℕ → Bool
 is_register d s = list_any (λ (p : ℕ × Stmt). assigns p.1 s) d.clocked
+
+-- an assignment or a process assigns the signal, or it has a start value
+abbrev pub is_driven : Design → ℕ → Bool
+is_driven d s = list_any (λ (a : Target × Expr). is_target a.0 s) d.assigns || (list_any (λ body. assigns body s) d.combs
+    || (list_any (λ (r : Option ℕ × Stmt). assigns r.1 s) d.resets || (is_register d s || starts_with d.starts s)))
+
+-- the constraints name it, as a reset or otherwise
+abbrev pub is_named : List Text → Design → Entry → Bool
+is_named named d e = is_in named e.printed || list_any (λ (r : ResetPin). bytes_eq r.name e.printed) d.pins
+
+-- a free signal, which a macro drives that isn't Verilog, counts as an input of the top
+abbrev pub is_free : List Text → Design → ℕ → Bool
+is_free named d s = option_map_or (is_named named d) (slice_get d.entries s) false && not (is_driven d s)
+
+abbrev pub from_outside : Entry → Entry
+from_outside e = record e { is_top_input = true }
+
+abbrev pub freed_from : List Text → Design → (s more : ℕ) → List Entry → List Entry
+freed_from named d s zero es = es
+freed_from named d s (suc more) es = freed_from named d (suc s) more (cond (is_free named d s) (change_entry from_outside s es) es)
+
+abbrev pub with_free : List Text → Design → Design
+with_free named d = record d { entries = freed_from named d 0 (length d.entries) d.entries }
 
 abbrev pub kind_of : Entry → (clocked : Bool) → SigKind
 kind_of e true = Register

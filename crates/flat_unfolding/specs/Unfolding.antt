@@ -1,5 +1,5 @@
 -- The unfolding of a source from its top: the flat design, or the first broken rule.
-use Rattle.std.specs.Prelude.{◌≡◌, Result, Ok, Err, ℕ, zero, suc, true, cond, ◌==◌, List, [], ◌∷◌, ◌++◌, length, find, Option, Some, None, bytes_eq, codes}
+use Rattle.std.specs.Prelude.{◌≡◌, Result, Ok, Err, ℕ, zero, suc, ◌-◌, cond, List, [], ◌∷◌, ◌++◌, length, find, Option, Some, None, bytes_eq, codes}
 use Rattle.std.specs.List.{list_any}
 use Rattle.cdc_base.specs.declared.fault.Place.{Place}
 use Rattle.cdc_base.specs.declared.signal.ResetPin.{ResetPin}
@@ -16,7 +16,7 @@ use Rattle.flat_form.specs.View.{flat_of}
 use Rattle.cdc_base.specs.declared.fault.Stop.{Stop}
 use Rattle.cdc_base.specs.declared.fault.Stop.TheVariants.{Refused, Memory}
 use Rattle.flat_unfolding.specs.Outcome.{Text, Outcome, good, bad, then_, each, refused, refused_if, by_number, judged}
-use Rattle.flat_unfolding.specs.Names.{Direction, inward, direction_at, Meaning, a_signal, no_value, is_declared, meaning_in, Entry, width_of, printed_part}
+use Rattle.flat_unfolding.specs.Names.{Direction, inward, direction_at, Meaning, a_signal, no_value, is_declared, meaning_in, Entry, pin_of, printed_part}
 use Rattle.flat_unfolding.specs.Parameters.{Overrides, parameters}
 use Rattle.flat_unfolding.specs.Declarations.{header_of, header_decls, declarations}
 use Rattle.flat_unfolding.specs.Wires.{assign_item, gate_item}
@@ -24,8 +24,8 @@ use Rattle.flat_unfolding.specs.Processes.{always_item}
 use Rattle.flat_unfolding.specs.Starts.{declared_start, initial_item}
 use Rattle.flat_unfolding.specs.Instances.{override_rules, overrides_of, connection_rules, links_of, connected, leaning_of, is_short}
 use Rattle.flat_unfolding.specs.Drivers.{driven_once}
-use Rattle.flat_unfolding.specs.Signals.{flat_design}
-use Rattle.flat_unfolding.specs.Design.{Design, no_design, Stage, look_of, with_design, change_entry}
+use Rattle.flat_unfolding.specs.Signals.{from_outside, with_free, flat_design}
+use Rattle.flat_unfolding.specs.Design.{Design, no_design, Stage, look_of, with_design, change_entry, change_from}
 
 abbrev pub module_named : Text → List ModuleTree → Option ModuleTree
 module_named x modules = find (λ (m : ModuleTree). bytes_eq m.name x) modules
@@ -76,6 +76,14 @@ module _ (modules : List ModuleTree) (visiting : List Text) (prefix : Text) (vis
 abbrev pub header_values : ModuleTree → Stage → Outcome Stage
 header_values m s = each (λ t d. declared_value t m.place d) s (header_decls m)
 
+-- a signal with the printed name of a reset is that reset
+abbrev pub declared_reset : List ResetPin → Entry → Entry
+declared_reset pins e = record e { reset = pin_of pins e }
+
+-- so are the signals from number n on
+abbrev pub with_resets : ℕ → Stage → Stage
+with_resets n s = let d = s.design in with_design s (record d { entries = change_from (declared_reset d.pins) n (length d.entries - n) d.entries })
+
 -- parameters, declarations, then all other items. The number bounds the depth: a chain of modules none of which is inside itself is no longer
 -- than their list, so that 0 isn't met
 abbrev pub visit : List ModuleTree → ℕ → Visit
@@ -83,24 +91,21 @@ visit modules zero prefix visiting m overrides ports d = refused 303 (Some m.pla
 visit modules (suc n) prefix visiting m overrides ports d =
     then_ (parameters overrides m (record { names = []; design = d })) (λ s.
     then_ (declarations prefix m s) (λ t.
-    then_ (header_values m (ports t)) (λ u.
+    then_ (header_values m (ports (with_resets (length d.entries) t))) (λ u.
     each (item modules visiting prefix (visit modules n)) u m.items)))
 
--- the ports of the top: its inputs come from outside, and one of one bit with the name of a reset resolves to it; its outputs in the header's order
-abbrev pub top_input : List ResetPin → Entry → Entry
-top_input resets e = record e { is_top_input = true; reset = cond (width_of e.range == 1) (find (λ (r : ResetPin). bytes_eq r.name e.printed) resets) None }
+-- the ports of the top: its inputs come from outside; its outputs in the header's order
+abbrev pub directed_port : Design → ℕ → Direction → Design
+directed_port d s inward = record d { entries = change_entry from_outside s d.entries }
+directed_port d s side = record d { outputs = d.outputs ++ (s ∷ []) }
 
-abbrev pub directed_port : List ResetPin → Design → ℕ → Direction → Design
-directed_port resets d s inward = record d { entries = change_entry (top_input resets) s d.entries }
-directed_port resets d s side = record d { outputs = d.outputs ++ (s ∷ []) }
+abbrev pub top_port : Design → Option Meaning → Design
+top_port d (Some (a_signal s)) = directed_port d s (direction_at d.entries s)
+top_port d m = d
 
-abbrev pub top_port : List ResetPin → Design → Option Meaning → Design
-top_port resets d (Some (a_signal s)) = directed_port resets d s (direction_at d.entries s)
-top_port resets d m = d
-
-abbrev pub top_ports : List ResetPin → List Text → Stage → Stage
-top_ports resets [] s = s
-top_ports resets (x ∷ rest) s = top_ports resets rest (with_design s (top_port resets s.design (meaning_in s.names x)))
+abbrev pub top_ports : List Text → Stage → Stage
+top_ports [] s = s
+top_ports (x ∷ rest) s = top_ports rest (with_design s (top_port s.design (meaning_in s.names x)))
 
 -- E304: the first module that has the name of one before it
 abbrev pub module_twice : (before : List Text) → List ModuleTree → Option ModuleTree
@@ -117,19 +122,20 @@ modules_differ modules = go (module_twice [] modules)
 abbrev pub checked : Flat → List (Option ℕ × Stmt) → Outcome Flat
 checked f resets = then_ (driven_once f resets) (λ u. good f)
 
-abbrev pub finished : Design → Outcome Flat
-finished d = checked (flat_design d) d.resets
+-- `named` are the names that the constraints have beside their resets'
+abbrev pub finished : (named : List Text) → Design → Outcome Flat
+finished named d = checked (flat_design (with_free named d)) d.resets
 
-abbrev pub from_top : List ModuleTree → List ResetPin → (top : Text) → Option ModuleTree → Outcome Flat
-from_top modules resets top None = refused 301 None top
-from_top modules resets top (Some m) = then_ (visit modules (length modules) [] (m.name ∷ []) m [] (top_ports resets (header_of m)) no_design) (λ s. finished s.design)
+abbrev pub from_top : List ModuleTree → List ResetPin → (named : List Text) → (top : Text) → Option ModuleTree → Outcome Flat
+from_top modules resets named top None = refused 301 None top
+from_top modules resets named top (Some m) = then_ (visit modules (length modules) [] (m.name ∷ []) m [] (top_ports (header_of m)) (no_design resets)) (λ s. finished named s.design)
 
 -- modules of one name, then the top, then its visit, then the drivers
-abbrev pub unfolded : List ModuleTree → (top : Text) → List ResetPin → Outcome Flat
-unfolded modules top resets = then_ (modules_differ modules) (λ u. from_top modules resets top (module_named top modules))
+abbrev pub unfolded : List ModuleTree → (top : Text) → List ResetPin → (named : List Text) → Outcome Flat
+unfolded modules top resets named = then_ (modules_differ modules) (λ u. from_top modules resets named top (module_named top modules))
 
-abbrev pub unfolded_source : Source → (top : Text) → List ResetPin → Outcome Flat
-unfolded_source source top resets = unfolded (source_of source) top resets
+abbrev pub unfolded_source : Source → (top : Text) → List ResetPin → (named : List Text) → Outcome Flat
+unfolded_source source top resets named = unfolded (source_of source) top resets named
 
 -- what flattening may answer: the unfolding, or want of memory
 abbrev pub IsUnfolding : Outcome Flat → Result f.Flat Stop → Type 0

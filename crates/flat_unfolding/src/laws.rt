@@ -12,7 +12,7 @@ pub fn bits_have_one_driver()
     ensures { OneDriverLaw }
 {}
 
-/// A flat design keeps its limits: 64 bits of a signal, and 65,536 signals.
+/// A flat design keeps its limits: 64 bits of a signal, and 1,048,576 signals.
 pub fn limits_are_kept()
     ensures { LimitsLaw }
 {}

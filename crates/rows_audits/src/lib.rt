@@ -5,3 +5,5 @@
 mod audits;
 #[cfg(test)]
 mod cuts;
+#[cfg(test)]
+mod resets;

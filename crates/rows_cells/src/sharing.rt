@@ -175,7 +175,10 @@ fn calls_are_counted(rt: HostRuntime) -> Result<(), Fail> {
     let alloc = rt.alloc();
     let mut graph = Graph::new(alloc, List::new(alloc))?;
     for value in 0..u64::from(MAX_CELLS) {
-        graph.add(Cell::Const { width: 20, value })?;
+        graph.add(Cell::Const {
+            width: 10,
+            value: value % 1_024,
+        })?;
     }
     match graph.add(Cell::Const { width: 1, value: 0 }) {
         Err(Stop::Refused(fault)) => assert_eq!(&rt; fault.number, 602),

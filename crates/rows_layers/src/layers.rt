@@ -14,7 +14,7 @@ use verilog_ast::{ItemBody, Source, Stmt};
 /// The source that a text reads as, of which no more is read than a file may have.
 fn read_source(alloc: Global, text: &str) -> Result<Source, Fail> {
     let bytes = text.as_bytes();
-    let bytes = bytes.get(..bytes.len().min(8_388_608)).unwrap_or(&[]);
+    let bytes = bytes.get(..bytes.len().min(268_435_456)).unwrap_or(&[]);
     let tokens = verilog_lex::lex(alloc, bytes)?;
     Ok(verilog_parse::parse(alloc, tokens.as_slice())?)
 }
@@ -22,7 +22,7 @@ fn read_source(alloc: Global, text: &str) -> Result<Source, Fail> {
 fn flattened(alloc: Global, text: &str, top: &str, resets: &[ResetPin]) -> Result<Flat, Fail> {
     let source = read_source(alloc, text)?;
     let top = Name::from_text(alloc, top)?;
-    Ok(flatten(alloc, &source, &top, resets)?)
+    Ok(flatten(alloc, &source, &top, resets, &[])?)
 }
 
 fn net_of(alloc: Global, text: &str) -> Result<Net, Fail> {

@@ -59,7 +59,7 @@ const TEXTS: [(&str, &str); 13] = [
 /// What the text reads as, printed.
 fn printed(alloc: Global, text: &str) -> Result<List<u8>, Fail> {
     let bytes = text.as_bytes();
-    let bytes = bytes.get(..bytes.len().min(8_388_608)).unwrap_or(&[]);
+    let bytes = bytes.get(..bytes.len().min(268_435_456)).unwrap_or(&[]);
     let tokens = verilog_lex::lex(alloc, bytes)?;
     let source = verilog_parse::parse(alloc, tokens.as_slice())?;
     Ok(verilog_parse::print(alloc, &source)?)

@@ -256,7 +256,7 @@ fn constraint_files(rt: HostRuntime) -> Result<(), Fail> {
     for (more, wanted) in [
         (
             "[[static]]\nname = \"z\"\n",
-            "error E403: no such top input: z\n4",
+            "error E403: no such input or reset: z\n4",
         ),
         (
             "[[static]]\nname = \"ca\"\n",

@@ -14,7 +14,7 @@ fn words_and_reads(rt: HostRuntime) -> Result<(), Fail> {
     for (words, read, wanted) in [
         ("audit net.v", 0, usage),
         ("", 0, usage),
-        ("selftest 501", 0, usage),
+        ("selftest 10001", 0, usage),
         ("--help --help", 0, usage),
         ("version", 1, "cdcaudit 1.0\n0"),
         ("-V", 1, "cdcaudit 1.0\n0"),

@@ -207,10 +207,10 @@ module _ (prefix : Text) where
 
   -- further signals of the module
   pub adds_signals : (s : Stage) (es : List Entry) (more : Names) (xs : List Text) (t : Stage) → added s es more ≡ good t → printed_of es ≡ map text_of xs
-      → ((length s.design.entries + length es ≤ 65536) → All (IsFresh s.names (s.names ++ more)) xs × AreDifferent xs) → Adds prefix s t
+      → ((length s.design.entries + length es ≤ 1048576) → All (IsFresh s.names (s.names ++ more)) xs × AreDifferent xs) → Adds prefix s t
   adds_signals s es more xs t e p h =
-      let g = good_then (refused_if (nat_lt 65536 (length s.design.entries + length es)) 601 None []) _ t e in
-      let n = ltb-false 65536 (length s.design.entries + length es) (not_refused _ 601 None [] g.0 g.1) in
+      let g = good_then (refused_if (nat_lt 1048576 (length s.design.entries + length es)) 601 None []) _ t e in
+      let n = ltb-false 1048576 (length s.design.entries + length es) (not_refused _ 601 None [] g.0 g.1) in
       let f = h (omega arith) in
       subst (Adds prefix s) (good_is _ t g.2) (record {
         more = map text_of xs;

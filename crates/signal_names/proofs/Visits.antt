@@ -1,5 +1,5 @@
 -- Declarations, items and visits keep printed names apart.
-use Rattle.std.proofs.Common.{◌≡◌, ℕ, zero, suc, Bool, true, false, not, ◌&&◌, ◌==◌, cond, List, [], ◌∷◌, ◌++◌, length, map, All, Option, Some, None, refl, sym, ap, subst, ◌∙◌, arith, rules, is_none, bytes_eq, codes, filter, flat_map, find}
+use Rattle.std.proofs.Common.{◌≡◌, ℕ, zero, suc, ◌-◌, Bool, true, false, not, ◌&&◌, ◌==◌, cond, List, [], ◌∷◌, ◌++◌, length, map, All, Option, Some, None, refl, sym, ap, subst, ◌∙◌, arith, rules, is_none, bytes_eq, codes, filter, flat_map, find}
 use Rattle.std.specs.List.{list_all, list_any}
 use Rattle.std.proofs.lemmas.List.Elements.{All-head, All-cons, All-nil, All-tail, All-append, All-map, All-weaker}
 use Rattle.cdc_base.specs.declared.fault.Place.{Place}
@@ -26,11 +26,13 @@ use Rattle.flat_unfolding.specs.Wires.{assign_item, gate_item}
 use Rattle.flat_unfolding.specs.Processes.{always_item}
 use Rattle.flat_unfolding.specs.Parameters.{bounds_read, range_read, Overrides, parameter_order, parameter, params_of, parameters}
 use Rattle.flat_unfolding.specs.Declarations.{is_plain_port, declaration_order, Site, taken_names, again, range_rule, array_read, count_rules, declaration_rules, entry, declared_again, add_declared, declaration, header_of, header_decls, item_decls, decl_in, sites, header_twice, has_direction, directed, declarations}
-use Rattle.flat_unfolding.specs.Instances.{override_rules, overrides_of, Link, into, out_of, connection_rules, links_of, into_port, out_of_port, connect_one, connect_all, connected, leaning_of, is_short}
+use Rattle.flat_unfolding.specs.Instances.{override_rules, overrides_of, Link, into, out_of, connection_rules, links_of, resolving_to, into_port, out_of_port, connect_one, connect_all, connected, leaning_of, is_short}
 use Rattle.flat_unfolding.specs.Drivers.{driven_once}
-use Rattle.flat_unfolding.specs.Signals.{signals_from, flat_design}
-use Rattle.flat_unfolding.specs.Unfolding.{module_named, value_item, declared_value, Visit, instance_of, instance_item, item_of, item, header_values, visit, top_input, directed_port, top_port, top_ports, modules_differ, finished, from_top}
+use Rattle.flat_unfolding.specs.Signals.{from_outside, with_free, signals_from, flat_design}
+use Rattle.flat_unfolding.specs.Unfolding.{module_named, value_item, declared_value, Visit, instance_of, instance_item, item_of, item, header_values, declared_reset, with_resets, visit, directed_port, top_port, top_ports, modules_differ, finished, from_top}
 use Rattle.flat_unfolding.proofs.Steps.{some_is, good_is, good_then, judged_is, not_refused, not_broken, none_of_both, each_keeps}
+use Rattle.flat_unfolding.proofs.Entries.{from_keeps}
+use Rattle.flat_unfolding.proofs.Free.{free_keeps}
 use Rattle.signal_names.specs.Paths.{is_visible, prefix_text, path_text, IsPrinted}
 use Rattle.signal_names.specs.Laws.{IsNamedVisibly, IsModuleVisible, IsSourceVisible, AreDifferent, names_in, AreNames, NamesDiffer}
 use Rattle.signal_names.proofs.Cuts.{in_a_row}
@@ -73,7 +75,7 @@ change_printed f h zero (e ∷ es) = ap (λ x. x ∷ printed_of es) (h e)
 change_printed f h (suc t) (e ∷ es) = ap (λ xs. e.printed ∷ xs) (change_printed f h t es)
 
 into_quiet : (d : Design) (v : Expr) (r : Option ResetPin) (m : Option Meaning) → printed_of (into_port d v r m).entries ≡ printed_of d.entries
-into_quiet d v r (Some (a_signal s)) = change_printed (λ (a : Entry). record a { reset = r }) (λ a. refl) s d.entries
+into_quiet d v r (Some (a_signal s)) = change_printed (resolving_to r) (λ a. refl) s d.entries
 into_quiet d v r m = refl
 
 out_quiet : (d : Design) (g : Target) (m : Option Meaning) → printed_of (out_of_port d g m).entries ≡ printed_of d.entries
@@ -91,19 +93,27 @@ all_quiet names d (l ∷ ls) = all_quiet names (connect_one names d l) ls ∙ on
 connected_quiet : (ls : List Link) (s : Stage) → IsQuiet s (connected ls s)
 connected_quiet ls s = record { names = refl; printed = all_quiet s.names s.design ls }
 
-side_quiet : (resets : List ResetPin) (d : Design) (s : ℕ) (side : Direction) → printed_of (directed_port resets d s side).entries ≡ printed_of d.entries
-side_quiet resets d s inward = change_printed (top_input resets) (λ a. refl) s d.entries
-side_quiet resets d s side = refl
+side_quiet : (d : Design) (s : ℕ) (side : Direction) → printed_of (directed_port d s side).entries ≡ printed_of d.entries
+side_quiet d s inward = change_printed from_outside (λ a. refl) s d.entries
+side_quiet d s side = refl
 
-port_quiet : (resets : List ResetPin) (d : Design) (m : Option Meaning) → printed_of (top_port resets d m).entries ≡ printed_of d.entries
-port_quiet resets d (Some (a_signal s)) = side_quiet resets d s (direction_at d.entries s)
-port_quiet resets d m = refl
+port_quiet : (d : Design) (m : Option Meaning) → printed_of (top_port d m).entries ≡ printed_of d.entries
+port_quiet d (Some (a_signal s)) = side_quiet d s (direction_at d.entries s)
+port_quiet d m = refl
 
-top_quiet : (resets : List ResetPin) (xs : List Text) (s : Stage) → IsQuiet s (top_ports resets xs s)
-top_quiet resets [] s = quiet_itself s
-top_quiet resets (x ∷ xs) s =
-    let t = with_design s (top_port resets s.design (meaning_in s.names x)) in let h = top_quiet resets xs t in
-    record { names = h.names; printed = h.printed ∙ port_quiet resets s.design (meaning_in s.names x) }
+top_quiet : (xs : List Text) (s : Stage) → IsQuiet s (top_ports xs s)
+top_quiet [] s = quiet_itself s
+top_quiet (x ∷ xs) s =
+    let t = with_design s (top_port s.design (meaning_in s.names x)) in let h = top_quiet xs t in
+    record { names = h.names; printed = h.printed ∙ port_quiet s.design (meaning_in s.names x) }
+
+resets_quiet : (n : ℕ) (s : Stage) → IsQuiet s (with_resets n s)
+resets_quiet n s =
+    let d = s.design in let f = declared_reset d.pins in
+    record {
+      names = refl;
+      printed = from_keeps (λ es. printed_of es ≡ printed_of d.entries) f (λ i es h. change_printed f (λ a. refl) i es ∙ h) n (length d.entries - n) d.entries refl;
+    }
 
 -- ---- declarations
 
@@ -344,12 +354,15 @@ module _ (modules : List ModuleTree) (visible : IsSourceVisible modules) where
       let first : Stage = record { names = []; design = d } in
       let a = good_then (parameters overrides m first) _ e k in
       let b = good_then (declarations prefix m a.0) _ e a.2 in
-      let c = good_then (header_values m (ports b.0)) _ e b.2 in
+      let r = with_resets (length d.entries) b.0 in
+      let c = good_then (header_values m (ports r)) _ e b.2 in
       let start : IsNamed prefix before first = record { mine = []; behind = nothing before; below = All-nil (IsBelow prefix []); differ = tt } in
       let fa = each_keeps (IsNamed prefix before) (parameter overrides) (parameter_named prefix before overrides) first (params_of m) a.0 a.1 start in
       let fb = declarations_named prefix before m w a.0 b.0 b.1 fa in
-      let fp = quiet_named prefix before b.0 (ports b.0) (q b.0) fb in
-      let fc = each_keeps (IsNamed prefix before) (λ s (x : DeclTree). declared_value s m.place x) (λ s x t r h. quiet_named prefix before s t (value_quiet s m.place x.name x.init x.kind t r) h) (ports b.0) (header_decls m) c.0 c.1 fp in
+      let fr = quiet_named prefix before b.0 r (resets_quiet (length d.entries) b.0) fb in
+      let fp = quiet_named prefix before r (ports r) (q r) fr in
+      let fc = each_keeps (IsNamed prefix before) (λ s (x : DeclTree). declared_value s m.place x) (λ s x t r h. quiet_named prefix before s t (value_quiet s m.place x.name x.init x.kind t r) h)
+      (ports r) (header_decls m) c.0 c.1 fp in
       let fi = all_steps (λ (x : ItemTree). IsNamedVisibly x.body) (IsNamed prefix before) (item modules visiting prefix (visit modules n))
       (λ s x t r g h. item_named visiting prefix (visit modules n) (visit_named n) before s x.place x.body t r g h) c.0 m.items e w.items c.2 fc in
       record {
@@ -369,19 +382,26 @@ module _ (modules : List ModuleTree) (visible : IsSourceVisible modules) where
   signal_names d n [] = refl
   signal_names d n (e ∷ es) = ap (λ ks. e.printed ∷ ks) (signal_names d (suc n) es)
 
-  finished_named : (d : Design) (f : Flat) → finished d ≡ good f → Grows [] no_design d → AreNames (names_in f)
-  finished_named d f e h =
-      let g = good_then (driven_once (flat_design d) d.resets) (λ u. good (flat_design d)) f e in
-      subst (λ x. AreNames (names_in x)) (good_is (flat_design d) f g.2)
-      (subst AreNames (sym (h.printed) ∙ sym (signal_names d 0 d.entries)) (record { printed = h.names; differ = h.differ }))
+  -- free signals keep their names
+  free_printed : (named : List Text) (d : Design) → printed_of (with_free named d).entries ≡ printed_of d.entries
+  free_printed named d = free_keeps (λ es. printed_of es ≡ printed_of d.entries) (λ n es e. change_printed from_outside (λ a. refl) n es ∙ e) named d refl
 
-  top_named : (resets : List ResetPin) (top : Text) (o : Option ModuleTree) → ((m : ModuleTree) → o ≡ Some m → IsModuleVisible m) → (f : Flat) → from_top modules resets top o ≡ good f → AreNames (names_in f)
-  top_named resets top None w f e = absurd (search (rules, e))
-  top_named resets top (Some m) w f e =
-      let g = good_then (visit modules (length modules) [] (m.name ∷ []) m [] (top_ports resets (header_of m)) no_design) (λ (s : Stage). finished s.design) f e in
-      finished_named g.0.design f g.2 (visit_named (length modules) [] (m.name ∷ []) m [] (top_ports resets (header_of m)) no_design g.0 (w m refl) (top_quiet resets (header_of m)) g.1)
+  finished_named : (resets : List ResetPin) (named : List Text) (d : Design) (f : Flat) → finished named d ≡ good f
+      → Grows [] (no_design resets) d → AreNames (names_in f)
+  finished_named resets named d f e h =
+      let c = with_free named d in
+      let g = good_then (driven_once (flat_design c) d.resets) (λ u. good (flat_design c)) f e in
+      subst (λ x. AreNames (names_in x)) (good_is (flat_design c) f g.2)
+      (subst AreNames (sym (signal_names c 0 c.entries ∙ free_printed named d ∙ h.printed)) (record { printed = h.names; differ = h.differ }))
+
+  top_named : (resets : List ResetPin) (named : List Text) (top : Text) (o : Option ModuleTree) → ((m : ModuleTree) → o ≡ Some m → IsModuleVisible m)
+      → (f : Flat) → from_top modules resets named top o ≡ good f → AreNames (names_in f)
+  top_named resets named top None w f e = absurd (search (rules, e))
+  top_named resets named top (Some m) w f e =
+      let g = good_then (visit modules (length modules) [] (m.name ∷ []) m [] (top_ports (header_of m)) (no_design resets)) (λ (s : Stage). finished named s.design) f e in
+      finished_named resets named g.0.design f g.2 (visit_named (length modules) [] (m.name ∷ []) m [] (top_ports (header_of m)) (no_design resets) g.0 (w m refl) (top_quiet (header_of m)) g.1)
 
 pub names_differ : NamesDiffer
-names_differ modules visible top resets f e =
-    let g = good_then (modules_differ modules) (λ u. from_top modules resets top (module_named top modules)) f e in
-    top_named modules visible resets top (module_named top modules) (found_visible modules visible top modules visible) f g.2
+names_differ modules visible top resets named f e =
+    let g = good_then (modules_differ modules) (λ u. from_top modules resets named top (module_named top modules)) f e in
+    top_named modules visible resets named top (module_named top modules) (found_visible modules visible top modules visible) f g.2

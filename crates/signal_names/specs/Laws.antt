@@ -48,7 +48,8 @@ pub record AreNames (names : List Text) : Type 0 where
 
 -- the names of an unfolding's signals are printed ones that differ
 abbrev pub NamesDiffer : Type 0
-NamesDiffer = (modules : List ModuleTree) → IsSourceVisible modules → (top : Text) (resets : List ResetPin) (f : Flat) → unfolded modules top resets ≡ good f → AreNames (names_in f)
+NamesDiffer = (modules : List ModuleTree) → IsSourceVisible modules → (top : Text) (resets : List ResetPin) (named : List Text) (f : Flat)
+    → unfolded modules top resets named ≡ good f → AreNames (names_in f)
 
 -- a printed name tells its path
 abbrev pub NamesTellPaths : Type 0

@@ -9,7 +9,7 @@ use Rattle.crossings.proofs.find_with.Given as goal
 
 abbrev pub invariant-loop-to : goal.invariant-loop-to
 invariant-loop-to l = record {
-  few : length l.crossings ≤ 2 ^ 20;
+  few : length l.crossings ≤ 2 ^ 22;
   same : l.plain ≡ l.initial.plain;
   all : IsNet l.net → HasNextCells l.net → Fit l.net l.domains → ShowsNet l.net [] l.initial.plain
       → crossings_of l.net l.domains ≡ l.crossings ++ crossings_among l.net l.domains (drop l.to-index l.to-items);

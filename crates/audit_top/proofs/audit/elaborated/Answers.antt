@@ -1,4 +1,4 @@
-use Rattle.std.proofs.Common.{Ok, inl, refl, rules}
+use Rattle.std.proofs.Common.{Ok, inl, refl, ◌∙◌, rules}
 use Rattle.std.specs.Prelude.{IfErr}
 use Rattle.cell_graph.specs.Nets.{HasNextCells, IsNet}
 use Rattle.cell_graph.specs.Shared.{IsShared}
@@ -45,7 +45,7 @@ pub returns-clause-unfolded : goal.returns-clause-unfolded
 returns-clause-unfolded c = λ formed.
     let modules = source_of c.args.source.now in
     let constraints = c.args.constraints.now in
-    let unfolds = rw c.as_slice-resets.ensures at (c.flatten-flat.ensures.exact formed) in
+    let unfolds = rw (c.as_slice-named.ensures ∙ c.in_ok-names.ensures) at (rw c.as_slice-resets.ensures at (c.flatten-flat.ensures.exact formed)) in
     let flat = given_holds (IsFlatOfModules modules constraints) _ (Ok c.in_ok-flat.flat) c.in_ok-flat.ensures.given
     (flat_of_modules modules constraints formed _ unfolds (c.flatten-flat.ensures.sizes formed)) in
     given_holds (IsNetOfModules modules constraints) _ _ c.or_refused-2.ensures.given
@@ -55,7 +55,7 @@ pub returns-in_err-flat-clause-refused : goal.returns-in_err-flat-clause-refused
 returns-in_err-flat-clause-refused c = λ formed.
     let modules = source_of c.args.source.now in
     let constraints = c.args.constraints.now in
-    let unfolds = rw c.as_slice-resets.ensures at (c.flatten-flat.ensures.exact formed) in
+    let unfolds = rw (c.as_slice-named.ensures ∙ c.in_ok-names.ensures) at (rw c.as_slice-resets.ensures at (c.flatten-flat.ensures.exact formed)) in
     let refused : IfErr c.or_refused.result (HasCause (λ status fault. IsDesignRefused modules constraints fault status))
     = caused (λ status fault. IsDesignRefused modules constraints fault status) _ _ _ c.or_refused.ensures.exact (unfolding_cause modules constraints _ unfolds) in
     search rules
@@ -64,7 +64,7 @@ pub returns-clause-refused : goal.returns-clause-refused
 returns-clause-refused c = λ formed.
     let modules = source_of c.args.source.now in
     let constraints = c.args.constraints.now in
-    let unfolds = rw c.as_slice-resets.ensures at (c.flatten-flat.ensures.exact formed) in
+    let unfolds = rw (c.as_slice-named.ensures ∙ c.in_ok-names.ensures) at (rw c.as_slice-resets.ensures at (c.flatten-flat.ensures.exact formed)) in
     let flat = given_holds (IsFlatOfModules modules constraints) _ (Ok c.in_ok-flat.flat) c.in_ok-flat.ensures.given
     (flat_of_modules modules constraints formed _ unfolds (c.flatten-flat.ensures.sizes formed)) in
     caused (λ status fault. IsDesignRefused modules constraints fault status) _ _ _ c.or_refused-2.ensures.exact

@@ -4,4 +4,4 @@ use Rattle.elaborate.proofs.refusal.has_too_many_state_bits.Given as goal
 
 abbrev pub invariant-loop-signal : goal.invariant-loop-signal
 invariant-loop-signal l =
-    (l.bits ≤ 1048576) × (state_bits l.signals ≡ l.bits + state_bits (drop l.signal-index l.signals))
+    (l.bits ≤ 4194304) × (state_bits l.signals ≡ l.bits + state_bits (drop l.signal-index l.signals))

@@ -31,7 +31,7 @@ returns-in_err-add_signal-clause-exact c = λ pins s at sh here placed narrow fr
     let room = c.saturating_sub-room.ensures in let within = c.if-unwrap_or-room.false in
     let counted = signals-counted pins old s.design sh.design in
     let small = depth-small c.args.words deep in
-    let most : length s.design.entries + c.args.words ≤ 65536 = omega (arith, words, len, room, within, counted, small) in
+    let most : length s.design.entries + c.args.words ≤ 1048576 = omega (arith, words, len, room, within, counted, small) in
     let stage = with_words s at x r k in
     let shown = c.loop-k.invariant pins s at sh here placed narrow deep untaken in
     let word = c.as_str-name.ensures.value ∙ c.in_ok-word.ensures ∙ ap (λ y. word_name y k) c.as_str.ensures in
@@ -60,7 +60,7 @@ returns-clause-exact c = λ pins s at sh here placed narrow free deep untaken.
     let room = c.saturating_sub-room.ensures in let within = c.if-unwrap_or-room.false in
     let counted = signals-counted pins old s.design sh.design in
     let small = depth-small c.args.words deep in
-    let most : length s.design.entries + c.args.words ≤ 65536 = omega (arith, words, len, room, within, counted, small) in
+    let most : length s.design.entries + c.args.words ≤ 1048576 = omega (arith, words, len, room, within, counted, small) in
     let few : c.len-2.result < 2 ^ 32 = omega (arith, most, counted, len_2) in
     let first : c.unwrap_or-first.result ≡ c.len-2.result = search (rules, few) in
     let memory : Memory = record { first = c.unwrap_or-first.result; words = c.args.words } in

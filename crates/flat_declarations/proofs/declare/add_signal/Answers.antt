@@ -15,10 +15,10 @@ returns-clause-exact c = λ pins e at sh is placed narrow.
     let old = c.args.design.now in
     let new : Design = record old { signals = c.push.new.items; entries = c.push-2.new.items } in
     let number : c.unwrap_or.result ≡ c.len-number.result = search rules in
-    let few : c.len-number.result < 65536 = search rules in
+    let few : c.len-number.result < 1048576 = search rules in
     let many : c.len-number.result ≡ length old.signals.items = search rules in
     let named : c.in_ok-name.name ≡ at.prefix ++ printed_part own = c.in_ok-name.ensures ∙ c.as_str.ensures.value ∙ c.in_ok-text.ensures ∙ ap (λ p. p ++ printed_part own) is.prefix in
-    adds-shown pins e made new c.unwrap_or.result (number ∙ many ∙ signals-counted pins old e sh) (subst (λ i. i < 65536) (sym number) few)
+    adds-shown pins e made new c.unwrap_or.result (number ∙ many ∙ signals-counted pins old e sh) (subst (λ i. i < 1048576) (sym number) few)
     (added-shows pins old new e c.entry.result c.signal.result made sh refl c.in_ok-push.ensures.pushed c.in_ok-push-2.ensures.pushed (c.signal.ensures at own c.args.kind c.args.is_open named placed narrow)
     (record {
       seen = c.entry.ensures.shown at narrow ∙ ap (λ x. shown (entry at c.args.kind r c.args.is_open x)) c.in_ok-own.ensures;

@@ -1,6 +1,6 @@
 use Rattle.std.proofs.Common.{◌++◌, ◌∷◌, [], sym, ap, subst, ◌∙◌}
 use Rattle.flat_form.specs.declared.flat.FlatAssign.{FlatAssign}
-use Rattle.flat_unfolding.specs.Names.{Entry}
+use Rattle.flat_unfolding.specs.Instances.{resolving_to}
 use Rattle.flat_unfolding.specs.Design.{change_entry}
 use Rattle.flat_names.specs.Designs.{ShowsDesign}
 use Rattle.flat_targets.proofs.Aimed.{ok-then}
@@ -17,7 +17,7 @@ returns c = λ pins e link h end few.
     ok-then c.push.result _ _
     (λ u pushed. elim c.match-end.branch [
       | in-Input w ↦
-          drives-port pins d v sig e link w.in-Input.value w.in-Input.reset (subst (λ z. IsEnd pins z link) w.in-Input.is end) (λ r k. subst (λ z. ShowsDesign pins z (record e { entries = change_entry (λ (a : Entry). record a { reset = r }) sig e.entries })) (sym w.design-is) (w.set_reset.ensures pins e r h k))
+          drives-port pins d v sig e link w.in-Input.value w.in-Input.reset (subst (λ z. IsEnd pins z link) w.in-Input.is end) (λ r k. subst (λ z. ShowsDesign pins z (record e { entries = change_entry (resolving_to r) sig e.entries })) (sym w.design-is) (w.set_reset.ensures pins e r h k))
           (pushed ∙ ap (λ (z : FlatAssign). d.assigns.items ++ z ∷ []) w.assign-is)
       | in-Output w ↦
           port-drives pins d v sig e link w.in-Output.target w.signal_width.result (subst (λ z. IsEnd pins z link) w.in-Output.is end) (subst (λ z. ShowsDesign pins z e) (sym w.design-is) h) (w.signal_width.ensures pins e h few)

@@ -4,9 +4,7 @@ use Rattle.std.specs.Cmp.Lexicographic.{pointwise}
 use Rattle.std.specs.declared.hash.BuildHasherDefault.{BuildHasherDefault}
 use Rattle.std.specs.declared.hash.FoldHasher.{FoldHasher}
 use Rattle.verilog_reading.specs.SourceTree.{conns_of, module_of}
-use Rattle.flat_unfolding.specs.Outcome.{Text, then_}
-use Rattle.flat_unfolding.specs.Parameters.{parameters}
-use Rattle.flat_unfolding.specs.Declarations.{declarations}
+use Rattle.flat_unfolding.specs.Outcome.{Text}
 use Rattle.flat_unfolding.specs.Instances.{override_rules, connection_rules, overrides_of, links_of}
 use Rattle.flat_unfolding.specs.Design.{Stage, look_of}
 use Rattle.flat_unfolding.proofs.Steps.{none_of_both}
@@ -14,13 +12,13 @@ use Rattle.flat_names.specs.declared.scope.Meaning.TheVariants as m
 use Rattle.flat_names.specs.Looks.{kept_in}
 use Rattle.flat_design.specs.declared.instance.Given.{Given}
 use Rattle.flat_design.specs.declared.visit.Open.{Open}
-use Rattle.flat_design.specs.Visiting.{visited, prefix_of, Begins, Goes, next_of, instance_tree}
+use Rattle.flat_design.specs.Visiting.{visited, prefix_of, begun, Begins, Goes, next_of, instance_tree}
 use Rattle.flat_design.proofs.Counted.{overrides-fit}
 use Rattle.flat_design.proofs.Going.{formed-at, stage-shown, named-instance, not-found, found-is, not-joined, not-begun, goes-in}
 use Rattle.flat_design.proofs.visit.add_instance.Goals as goal
 
 pub returns-in_err-number-clause-exact : goal.returns-in_err-number-clause-exact
-returns-in_err-number-clause-exact c = λ pins frames f d lib formed h part params ports.
+returns-in_err-number-clause-exact c = λ pins frames f d lib pinned formed h part params ports.
     let modules = c.args.library.now.modules.now in let i = c.args.instance.now in let o = c.args.outer in let now = c.args.visit.now in
     let s : Stage = record { names = f.names; design = d } in
     let gs = conns_of i.params.now in let cs = conns_of i.ports.now in
@@ -31,7 +29,7 @@ returns-in_err-number-clause-exact c = λ pins frames f d lib formed h part para
     (not-found pins modules f frames d i.place i.module.now i.name.now gs cs now e (c.in_err-number.ensures.exact (visited (f ∷ frames)) s lib h.marks_are st.0.names))
 
 pub returns-in_default-clause-exact : goal.returns-in_default-clause-exact
-returns-in_default-clause-exact c = λ pins frames f d lib formed h part params ports.
+returns-in_default-clause-exact c = λ pins frames f d lib pinned formed h part params ports.
     let modules = c.args.library.now.modules.now in let i = c.args.instance.now in let o = c.args.outer in let now = c.args.visit.now in
     let s : Stage = record { names = f.names; design = d } in
     let gs = conns_of i.params.now in let cs = conns_of i.ports.now in
@@ -40,7 +38,7 @@ returns-in_default-clause-exact c = λ pins frames f d lib formed h part params 
     absurd (let e = c.in_default.ensures ∙ finds.1 in search (rules, e))
 
 pub returns-in_err-overridden-clause-exact : goal.returns-in_err-overridden-clause-exact
-returns-in_err-overridden-clause-exact c = λ pins frames f d lib formed h part params ports.
+returns-in_err-overridden-clause-exact c = λ pins frames f d lib pinned formed h part params ports.
     let modules = c.args.library.now.modules.now in let i = c.args.instance.now in let o = c.args.outer in let now = c.args.visit.now in
     let s : Stage = record { names = f.names; design = d } in
     let gs = conns_of i.params.now in let cs = conns_of i.ports.now in
@@ -57,7 +55,7 @@ returns-in_err-overridden-clause-exact c = λ pins frames f d lib formed h part 
     (c.in_err-overridden.ensures.exact pins s st.0 st.1 c.in_ok-ports.ensures (sym found.name) params ports))
 
 pub returns-in_err-names-clause-exact : goal.returns-in_err-names-clause-exact
-returns-in_err-names-clause-exact c = λ pins frames f d lib formed h part params ports.
+returns-in_err-names-clause-exact c = λ pins frames f d lib pinned formed h part params ports.
     let modules = c.args.library.now.modules.now in let i = c.args.instance.now in let o = c.args.outer in let now = c.args.visit.now in
     let s : Stage = record { names = f.names; design = d } in
     let gs = conns_of i.params.now in let cs = conns_of i.ports.now in
@@ -74,17 +72,16 @@ returns-in_err-names-clause-exact c = λ pins frames f d lib formed h part param
     let shows = named-instance o.names names f.names i.name.now st.0.names found.fresh named in
     let well = formed-at modules number k formed at in
     let given = overrides_of (look_of s) (module_of k) gs in
-    let first : Stage = record { names = []; design = d } in
     let e = c.in_err-names.field-0.0 in
     let failed : c.from_residual-in_err-names.result ≡ Err e = search (rules, c.in_err-names.was, c.from_residual-in_err-names.ensures.0, c.from_residual-in_err-names.ensures.1) in
     let new = c.begin.new.visit in
-    let begun = subst (λ (os : List Open). Begins {S = BuildHasherDefault FoldHasher} pins (then_ (parameters given (module_of k) first) (λ (u : Stage). declarations (prefix_of modules os) (module_of k) u)) (Err e) new.design) c.in_ok-push.ensures.pushed
-    (c.in_err-names.ensures.exact pins k given d at well h.design h.fit ends.1.0 fine) in
+    let entry = subst (λ (os : List Open). Begins {S = BuildHasherDefault FoldHasher} pins (begun given (prefix_of modules os) (module_of k) d) (Err e) new.design) c.in_ok-push.ensures.pushed
+    (c.in_err-names.ensures.exact pins k given d at well pinned h.design h.fit ends.1.0 fine) in
     subst (λ r. Goes pins modules (next_of (map module_of modules) f frames d (instance_tree i)) r new) (sym failed)
-    (not-begun pins modules f frames d i.place i.module.now i.name.now gs cs number k found lib.distinct now.open.items o now.is_open.items now.design h part names shows ends.0 (BuildHasherDefault FoldHasher) new e new.design begun)
+    (not-begun pins modules f frames d i.place i.module.now i.name.now gs cs number k found lib.distinct now.open.items o now.is_open.items now.design h part names shows ends.0 (BuildHasherDefault FoldHasher) new e new.design entry)
 
 pub returns-clause-exact : goal.returns-clause-exact
-returns-clause-exact c = λ pins frames f d lib formed h part params ports.
+returns-clause-exact c = λ pins frames f d lib pinned formed h part params ports.
     let modules = c.args.library.now.modules.now in let i = c.args.instance.now in let o = c.args.outer in let now = c.args.visit.now in
     let s : Stage = record { names = f.names; design = d } in
     let gs = conns_of i.params.now in let cs = conns_of i.ports.now in
@@ -101,12 +98,11 @@ returns-clause-exact c = λ pins frames f d lib formed h part params ports.
     let shows = named-instance o.names names f.names i.name.now st.0.names found.fresh named in
     let well = formed-at modules number k formed at in
     let given = overrides_of (look_of s) (module_of k) gs in
-    let first : Stage = record { names = []; design = d } in
     let new = c.begin.new.visit in
-    let begun = subst (λ (os : List Open). Begins pins (then_ (parameters given (module_of k) first) (λ (u : Stage). declarations (prefix_of modules os) (module_of k) u)) (Ok c.in_ok-names.names) new.design) c.in_ok-push.ensures.pushed
-    (c.in_ok-names.ensures.exact pins k given d at well h.design h.fit ends.1.0 fine) in
+    let entry = subst (λ (os : List Open). Begins pins (begun given (prefix_of modules os) (module_of k) d) (Ok c.in_ok-names.names) new.design) c.in_ok-push.ensures.pushed
+    (c.in_ok-names.ensures.exact pins k given d at well pinned h.design h.fit ends.1.0 fine) in
     let given_in : Given = record { place = Some i.place; params = c.in_ok-overridden.overridden.leaning; ports = c.in_ok-overridden.connected.leaning } in
     goes-in pins modules f frames d i.place i.module.now i.name.now gs cs number k found lib.distinct now.open.items o now.is_open.items now.design h part names shows ends.0
-    begun.0 begun.1 begun.3 c.in_ok-names.names given_in new c.enter_module.new.visit c.enter_module.result (ap₂ (λ a b. a ++ b) ends.1.1 ends.2.1) refl
+    entry.0 entry.1 entry.3 c.in_ok-names.names given_in new c.enter_module.new.visit c.enter_module.result (ap₂ (λ a b. a ++ b) ends.1.1 ends.2.1) refl
     (ap (λ v. v.items) c.in_ok-names.ensures.stack ∙ c.in_ok-push.ensures.pushed) (ap (λ v. v.items) c.in_ok-names.ensures.marks)
-    (c.enter_module.ensures.exact pins k begun.0 (links_of (look_of s) (module_of k) cs) at well begun.2 begun.3 ends.2.0)
+    (c.enter_module.ensures.exact pins k entry.0 (links_of (look_of s) (module_of k) cs) at well entry.2 entry.3 ends.2.0)
