@@ -410,10 +410,10 @@ fn doubling(alloc: Global, levels: u32) -> Result<Flat, NoMemory> {
 fn cells_are_counted_unshared(rt: HostRuntime) -> Result<(), Fail> {
     let alloc = rt.alloc();
     for (levels, inputs, want) in [
-        (19, 0, 0),
-        (19, 1, 0),
-        (19, 2, 602),
-        (20, 0, 602),
+        (23, 0, 0),
+        (23, 1, 0),
+        (23, 2, 602),
+        (24, 0, 602),
         (30, 0, 602),
     ] {
         let mut flat = doubling(alloc, levels)?;
@@ -445,7 +445,7 @@ fn long_chains_of_wires_are_walked_once(rt: HostRuntime) -> Result<(), Fail> {
 fn state_bits_have_a_limit(rt: HostRuntime) -> Result<(), Fail> {
     let alloc = rt.alloc();
     let mut flat = design(alloc, &[])?;
-    for _ in 0..16_384u32 {
+    for _ in 0..65_536u32 {
         add_signal(alloc, &mut flat, "i", 64, SigKind::Input)?;
     }
     let (number, _name) = refusal(alloc, &flat)?;
