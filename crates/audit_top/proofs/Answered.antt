@@ -1,35 +1,38 @@
--- What an audit answers, once it came to its end.
-use Rattle.std.proofs.Common.{◌≡◌, ◌∙◌, ap, sym, subst, inl, inr, ◌⊎◌, ◌∷◌, [], List, ℕ, Bool, true, Ok, Err, Some, None, refl, Result, Option}
+-- What words that are accepted are answered, by how their command ended.
+use Rattle.std.proofs.Common.{◌≡◌, ◌∙◌, ap, sym, subst, inl, inr, ◌⊎◌, ◌∷◌, [], List, ℕ, true, Ok, Err, Some, refl, Result, Option}
 use Rattle.std.specs.Prelude.{IfOk, IfErr, MatchResult}
 use Rattle.std.specs.List.{list_all}
-use Rattle.std.proofs.lemmas.Bool.{false≢true}
+use Rattle.std.specs.Option.{option_map_or}
 use Rattle.cdc_base.specs.declared.fault.Fault.{Fault}
 use Rattle.cdc_base.specs.declared.list.NoMemory.{NoMemory}
 use Rattle.report.specs.Faults.{line_of}
-use Rattle.refusals.specs.Numbers.{is_listed, netlist_numbers}
-use Rattle.command_line.specs.Cli.{IsAccepted, file_words, page_of}
-use Rattle.audit_top.specs.declared.answer.Answer.{Answer}
-use Rattle.audit_top.specs.declared.answer.Ending.{Ending}
-use Rattle.audit_top.specs.declared.answer.Ending.TheVariants.{Refused, Memory}
-use Rattle.audit_top.specs.declared.status.Status.{Status}
-use Rattle.audit_top.specs.declared.status.Status.TheVariants as status
-use Rattle.audit_top.specs.Refused.{HasCause, IsAuditRefused}
-use Rattle.audit_top.specs.Runs.{wants_json, Seen, Text, IsAnswer, IsAuditedBy, IsCausedBy, IsLong, IsOverLimit, IsRefusedBy, IsRefusedForLength, IsText, IsOfFile, IsOfStatus, TellsOfLength, numbers_of, all_file_numbers, all_record_numbers}
-use Rattle.audit_top.specs.Endings.{IsAnswerTo, IsEnding, IsEndOfAudit, IsLengthEnding, IsOfFiles, IsReadOfBoth, IsUnreadOfBoth}
-use Rattle.audit_top.specs.Audits.{IsAudited, IsAuditOf}
+use Rattle.refusals.specs.Numbers.{netlist_numbers}
+use Rattle.command_line.specs.Asked.{Asked}
+use Rattle.command_line.specs.Cli.{AsksFor, IsAccepted, file_words, named_files}
+use Rattle.command_files.specs.declared.answer.Answer.{Answer}
+use Rattle.command_files.specs.declared.answer.Ending.{Ending}
+use Rattle.command_files.specs.declared.answer.Ending.TheVariants.{Refused, Memory}
+use Rattle.command_files.specs.declared.status.Status.{Status}
+use Rattle.command_files.specs.declared.status.Status.TheVariants as status
+use Rattle.command_files.specs.Endings.{HasCause, IsAnswerTo, IsEndOfBoth, IsEndOfThree, IsLengthEnding, IsOfFiles}
+use Rattle.command_files.specs.Files.{Seen, Text, AskedInOrder, IsLong, IsOfFile, IsRefusedBy, IsRefusedForLength, TellsOfLength, all_file_numbers, all_record_numbers}
+use Rattle.command_files.specs.Statuses.{IsEnd, IsOfStatus}
+use Rattle.command_files.proofs.Ended.{listed_ending}
+use Rattle.audit_top.specs.Answers.{IsAnswered, IsAnsweredAll, IsAnsweredBoth, IsAnsweredTo}
+use Rattle.audit_top.specs.Runs.{AsksByWords, IsAnswer, IsText, IsUsage}
 use Rattle.audit_top.proofs.Lines.{is_other, other_line}
 
-audited_fits : (before now : Seen) (s : Status) (text : Text) → IsAudited s → IsText before now s text
-audited_fits before now status.Done text h = tt
-audited_fits before now status.Violations text h = tt
-audited_fits before now status.Waived text h = tt
-audited_fits before now status.Usage text h = absurd h
-audited_fits before now status.Netlist text h = absurd h
-audited_fits before now status.Constraints text h = absurd h
-audited_fits before now status.Record text h = absurd h
-audited_fits before now status.ReadFault text h = absurd h
-audited_fits before now status.WriteFault text h = absurd h
-audited_fits before now status.Memory text h = absurd h
+end_fits : (before now : Seen) (s : Status) (text : Text) → IsEnd s → IsText before now s text
+end_fits before now status.Done text h = tt
+end_fits before now status.Violations text h = tt
+end_fits before now status.Waived text h = tt
+end_fits before now status.Usage text h = absurd h
+end_fits before now status.Netlist text h = absurd h
+end_fits before now status.Constraints text h = absurd h
+end_fits before now status.Record text h = absurd h
+end_fits before now status.ReadFault text h = absurd h
+end_fits before now status.WriteFault text h = absurd h
+end_fits before now status.Memory text h = absurd h
 
 pub refused_fits : (before now : Seen) (s : Status) (f : Fault) → IsRefusedBy before now s f → IsText before now s (line_of f)
 refused_fits before now status.ReadFault f h = (f, refl, h)
@@ -43,24 +46,24 @@ refused_fits before now status.Usage f h = absurd h
 refused_fits before now status.WriteFault f h = absurd h
 refused_fits before now status.Memory f h = absurd h
 
--- a refusal has no status of an audit
-pub refused_audit : (before now : Seen) (s : Status) (f : Fault) → IsRefusedBy before now s f → IsAudited s → ⊥
-refused_audit before now status.Done f refused is = refused
-refused_audit before now status.Violations f refused is = refused
-refused_audit before now status.Waived f refused is = refused
-refused_audit before now status.Usage f refused is = is
-refused_audit before now status.Netlist f refused is = is
-refused_audit before now status.Constraints f refused is = is
-refused_audit before now status.Record f refused is = is
-refused_audit before now status.ReadFault f refused is = is
-refused_audit before now status.WriteFault f refused is = is
-refused_audit before now status.Memory f refused is = is
+-- a refusal has no status of an end
+pub refused_end : (before now : Seen) (s : Status) (f : Fault) → IsRefusedBy before now s f → IsEnd s → ⊥
+refused_end before now status.Done f refused is = refused
+refused_end before now status.Violations f refused is = refused
+refused_end before now status.Waived f refused is = refused
+refused_end before now status.Usage f refused is = is
+refused_end before now status.Netlist f refused is = is
+refused_end before now status.Constraints f refused is = is
+refused_end before now status.Record f refused is = is
+refused_end before now status.ReadFault f refused is = is
+refused_end before now status.WriteFault f refused is = is
+refused_end before now status.Memory f refused is = is
 
--- an audit that came to its end has no status of a file
-audited_of_none : (s : Status) → IsAudited s → IsOfStatus s → ⊥
-audited_of_none s h (inl is) = subst (λ (x : Status). IsAudited x) is h
-audited_of_none s h (inr (inl is)) = subst (λ (x : Status). IsAudited x) is h
-audited_of_none s h (inr (inr is)) = subst (λ (x : Status). IsAudited x) is h
+-- a command that came to its end has no status of a file
+end_of_none : (s : Status) → IsEnd s → IsOfStatus s → ⊥
+end_of_none s h (inl is) = subst (λ (x : Status). IsEnd x) is h
+end_of_none s h (inr (inl is)) = subst (λ (x : Status). IsEnd x) is h
+end_of_none s h (inr (inr is)) = subst (λ (x : Status). IsEnd x) is h
 
 file_tells : (numbers : List ℕ) (before now : Seen) (f g : Fault) → list_all is_other numbers ≡ true → IsOfFile numbers before now f
     → line_of f ≡ line_of g → g.number ≡ 600 → TellsOfLength before now (line_of f)
@@ -77,140 +80,6 @@ line_tells before now s f g (inr (inl is)) refused lines number =
 line_tells before now s f g (inr (inr is)) refused lines number =
     file_tells all_record_numbers before now f g refl (subst (λ (x : Status). IsRefusedBy before now x f) is refused) lines number
 
--- a refusal by a rule that goes with its status
-pub listed_ending : (before now : Seen) (s : Status) (f : Fault) → is_listed (numbers_of s) f.number ≡ true → IsRefusedBy before now s f
-listed_ending before now status.Netlist f h = inr h
-listed_ending before now status.Constraints f h = inr h
-listed_ending before now status.Record f h = inr h
-listed_ending before now status.ReadFault f h = absurd (false≢true h)
-listed_ending before now status.Done f h = absurd (false≢true h)
-listed_ending before now status.Violations f h = absurd (false≢true h)
-listed_ending before now status.Waived f h = absurd (false≢true h)
-listed_ending before now status.Usage f h = absurd (false≢true h)
-listed_ending before now status.WriteFault f h = absurd (false≢true h)
-listed_ending before now status.Memory f h = absurd (false≢true h)
-
-texts_ended : (before now : Seen) (r : Result Answer Ending) → MatchResult r (λ a. IsAudited a.status) IsOfFiles
-    → IfErr r (IsEnding before now)
-texts_ended before now (Ok own) h = tt
-texts_ended before now (Err Memory) h = tt
-texts_ended before now (Err (Refused s f)) h = listed_ending before now s f h
-
-texts_audited : (r : Result Answer Ending) → MatchResult r (λ a. IsAudited a.status) IsOfFiles → IfOk r (λ a. IsAudited a.status)
-texts_audited (Ok own) h = h
-texts_audited (Err e) h = tt
-
--- the answer to both files' bytes, which are told
-audited_told : (json : Bool) (net con net_read con_read : Text) (now : Seen) (r : Result Answer Ending) → now.held net ≡ Some net_read → now.held con ≡ Some con_read
-    → IfOk r (λ a. IsAuditOf json con net_read con_read a.status a.text) → IfOk r (λ a. IsAuditedBy now json net con a.status a.text)
-audited_told json net con net_read con_read now (Ok own) net_is con_is exact = λ _. (net_read, net_is, (con_read, con_is, exact))
-audited_told json net con net_read con_read now (Err e) net_is con_is exact = tt
-
-no_read : (s : Status) → s ≡ status.ReadFault → IsOfStatus s → ⊥
-no_read s h (inl is) = cc
-no_read s h (inr (inl is)) = cc
-no_read s h (inr (inr is)) = cc
-
--- a file that was not read whole is over its limit, where it is refused
-module _ (refused : List ℕ → List ℕ → Fault → Status → Type 0) (now : Seen) (net con : Text) where
-  pub unread_cause : (s : Status) (f : Fault) → IsUnreadOfBoth net con (Refused s f) → IsOfStatus s → IsCausedBy refused now net con s f
-  unread_cause s f (inl (inl (is, fault))) of_file = inl (subst (λ (x : Status). IsOverLimit net con x f) (sym is) fault)
-  unread_cause s f (inl (inr is)) of_file = absurd (no_read s is of_file)
-  unread_cause s f (inr (inl (is, fault))) of_file = inl (subst (λ (x : Status). IsOverLimit net con x f) (sym is) fault)
-  unread_cause s f (inr (inr is)) of_file = absurd (no_read s is of_file)
-
-  -- the bytes of both files, which are told, are refused so
-  pub told_cause : (net_read con_read : Text) → now.held net ≡ Some net_read → now.held con ≡ Some con_read → (s : Status) (f : Fault)
-      → refused net_read con_read f s → IsCausedBy refused now net con s f
-  told_cause net_read con_read net_is con_is s f h = inr (net_read, net_is, (con_read, con_is, h))
-
-unread_refused : (now : Seen) (net con : Text) (e : Ending) → IsUnreadOfBoth net con e
-    → HasCause (λ s f. IsOfStatus s → IsCausedBy (IsAuditRefused con) now net con s f) e
-unread_refused now net con Memory h = tt
-unread_refused now net con (Refused s f) h = unread_cause (IsAuditRefused con) now net con s f h
-
-refused_told : (net con net_read con_read : Text) (now : Seen) (r : Result Answer Ending) → now.held net ≡ Some net_read → now.held con ≡ Some con_read
-    → IfErr r (HasCause (λ s f. IsAuditRefused con net_read con_read f s)) → IfErr r (HasCause (λ s f. IsOfStatus s → IsCausedBy (IsAuditRefused con) now net con s f))
-refused_told net con net_read con_read now (Ok own) net_is con_is h = tt
-refused_told net con net_read con_read now (Err Memory) net_is con_is h = tt
-refused_told net con net_read con_read now (Err (Refused s f)) net_is con_is h = λ _. told_cause (IsAuditRefused con) now net con net_read con_read net_is con_is s f h
-
--- a file was not read whole
-pub unread_audit : {T : Type 0} (json : Bool) (net con : Text) (before now : Seen) (e : Ending) → IsReadOfBoth {T = T} net con before now (Err e)
-    → IsUnreadOfBoth net con e → IsEndOfAudit json net con before now (Err e)
-unread_audit json net con before now e reads h = record {
-  reads = record { asks = reads.asks; ended = reads.ended; long_net = reads.long_net; long_con = reads.long_con };
-  audited = tt;
-  exact = tt;
-  refused = unread_refused now net con e h;
-}
-
--- both files were read, and their texts have an answer or a refusal
-pub answered_texts : {T : Type 0} (json : Bool) (net con : Text) (before now : Seen) (texts : T) (r : Result Answer Ending) (net_read con_read : Text)
-    → IsReadOfBoth {T = T} net con before now (Ok texts) → MatchResult r (λ a. IsAudited a.status) IsOfFiles
-    → (now.held net ≡ Some net_read) × (now.held con ≡ Some con_read)
-    → IfOk r (λ a. IsAuditOf json con net_read con_read a.status a.text) → IfErr r (HasCause (λ s f. IsAuditRefused con net_read con_read f s))
-    → IsEndOfAudit json net con before now r
-answered_texts json net con before now texts r net_read con_read reads h told exact refused = record {
-  reads = record {
-    asks = reads.asks;
-    ended = texts_ended before now r h;
-    long_net = λ long. absurd (reads.long_net long);
-    long_con = λ long. absurd (reads.long_con long);
-  };
-  audited = texts_audited r h;
-  exact = audited_told json net con net_read con_read now r told.0 told.1 exact;
-  refused = refused_told net con net_read con_read now r told.0 told.1 refused;
-}
-
--- a selftest reads no file
-module _ (words : List Text) (before now : Seen) (accepted : IsAccepted words) (no_page : page_of words ≡ None) (named : file_words words ≡ []) where
-  own_test : (own : Answer) → IsAudited own.status → IsAnswer words before now own.status own.text
-  own_test own audited = record {
-    usage = λ is _. subst (λ (s : Status). IsAudited s) is audited;
-    refused = λ not_accepted. absurd (not_accepted accepted);
-    fits = audited_fits before now own.status own.text audited;
-    page = λ page is. cc;
-    too_long = λ g of_file _ _. absurd (audited_of_none own.status audited of_file);
-    long_net = λ n c rest _ files long. cc;
-    long_con = λ n c rest _ files long. cc;
-    long_run = λ n c r _ files long. cc;
-    replayed = λ n c r _ files. cc;
-    audited = λ n c _ files. cc;
-    audit_refused = λ n c _ files _. cc;
-    replay_refused = λ n c r _ files _. cc;
-  }
-
-  line_test : (s : Status) (f : Fault) → IsRefusedBy before now s f → IsAnswer words before now s (line_of f)
-  line_test s f refused = record {
-    usage = λ is _. subst (λ (x : Status). IsRefusedBy before now x f) is refused;
-    refused = λ not_accepted. absurd (not_accepted accepted);
-    fits = refused_fits before now s f refused;
-    page = λ page is. cc;
-    too_long = λ g of_file lines number. line_tells before now s f g of_file refused lines number;
-    long_net = λ n c rest _ files long. cc;
-    long_con = λ n c rest _ files long. cc;
-    long_run = λ n c r _ files long. cc;
-    replayed = λ n c r _ files. cc;
-    audited = λ n c _ files. cc;
-    audit_refused = λ n c _ files _. cc;
-    replay_refused = λ n c r _ files _. cc;
-  }
-
-  one_test : (ended : Result Answer Ending) (a : Answer) → MatchResult ended (λ own. IsAudited own.status) IsOfFiles
-      → MatchResult ended (λ own. a ≡ own) (λ e. IsAnswerTo e a) → IsAnswer words before now a.status a.text
-  one_test (Ok own) a audited is = subst (λ (x : Answer). IsAnswer words before now x.status x.text) (sym is) (own_test own audited)
-  one_test (Err Memory) a audited is = absurd is
-  one_test (Err (Refused s f)) a listed (status_is, text_is) =
-      subst (λ (x : Status). IsAnswer words before now x a.text) (sym status_is)
-      (subst (λ (t : Text). IsAnswer words before now s t) (sym text_is) (line_test s f (listed_ending before now s f listed)))
-
-  pub answered_test : (ended : Result Answer Ending) (result : Result Answer NoMemory)
-      → MatchResult ended (λ own. IsAudited own.status) IsOfFiles → IfOk result (λ a. MatchResult ended (λ own. a ≡ own) (λ e. IsAnswerTo e a))
-      → IfOk result (λ a. IsAnswer words before now a.status a.text)
-  answered_test ended (Ok a) h is = one_test ended a h is
-  answered_test ended (Err e) h is = tt
-
 pub length_answer : (of_file s : Status) (f : Fault) (name : Text) → IsLengthEnding of_file name (Refused s f)
     → IsRefusedForLength of_file name s (line_of f)
 length_answer of_file s f name (inl (is, fault)) = inl (is, ap line_of fault)
@@ -222,67 +91,234 @@ pub length_answers : (s : Status) (f : Fault) (net con : Text)
 length_answers s f net con (inl h) = inl (length_answer status.Constraints s f con h)
 length_answers s f net con (inr h) = inr (length_answer status.Netlist s f net h)
 
-module _ (words : List Text) (before now : Seen) (json : Bool) (net con : Text) (is_json : json ≡ wants_json words) (accepted : IsAccepted words) (no_page : page_of words ≡ None)
-    (named : file_words words ≡ net ∷ con ∷ []) where
-  is_net : (n c : Text) (rest : List Text) → file_words words ≡ n ∷ c ∷ rest → net ≡ n
-  is_net n c rest e = cc
+pub all_length_answers : (s : Status) (f : Fault) (net con third : Text)
+    → IsLengthEnding status.Record third (Refused s f) ⊎ (IsLengthEnding status.Constraints con (Refused s f) ⊎ IsLengthEnding status.Netlist net (Refused s f))
+    → IsRefusedForLength status.Record third s (line_of f) ⊎ (IsRefusedForLength status.Constraints con s (line_of f) ⊎ IsRefusedForLength status.Netlist net s (line_of f))
+all_length_answers s f net con third (inl h) = inl (length_answer status.Record s f third h)
+all_length_answers s f net con third (inr h) = inr (length_answers s f net con h)
 
-  is_con : (n c : Text) (rest : List Text) → file_words words ≡ n ∷ c ∷ rest → con ≡ c
-  is_con n c rest e = cc
+-- the files of what is asked for are those that the words name
+pub files_named : (words : List Text) (asked : Asked) → AsksFor words asked → file_words words ≡ named_files asked
+files_named words asked asks = ap (λ (o : Option Asked). option_map_or named_files o []) asks.asks
 
-  own_answer : (own : Answer) → IsEndOfAudit json net con before now (Ok own) → IsAnswer words before now own.status own.text
-  own_answer own end = record {
-    usage = λ is _. subst (λ (s : Status). IsAudited s) is end.audited;
-    refused = λ not_accepted. absurd (not_accepted accepted);
-    fits = audited_fits before now own.status own.text end.audited;
-    page = λ page is. cc;
-    too_long = λ g of_file _ _. absurd (audited_of_none own.status end.audited of_file);
-    long_net = λ n c rest _ files long. absurd (end.reads.long_net (subst (λ (x : Text). IsLong before x) (sym (is_net n c rest files)) long));
-    long_con = λ n c rest _ files long. absurd (end.reads.long_con (subst (λ (x : Text). IsLong before x) (sym (is_con n c rest files)) long));
-    long_run = λ n c r _ files long. cc;
-    replayed = λ n c r _ files. cc;
-    audited = λ n c _ files. subst (λ (j : Bool). IsAuditedBy now j n c own.status own.text) is_json
-        (subst (λ (x : Text). IsAuditedBy now json x c own.status own.text) (is_net n c [] files)
-        (subst (λ (x : Text). IsAuditedBy now json net x own.status own.text) (is_con n c [] files) end.exact));
-    audit_refused = λ n c _ _ of_file. absurd (audited_of_none own.status end.audited of_file);
-    replay_refused = λ n c r _ files _. cc;
+pub asks_by : (words : List Text) (asked : Asked) (before now : Seen) → AsksFor words asked → AskedInOrder (named_files asked) before now → AsksByWords words before now
+asks_by words asked before now asks in_order = record {
+  named = λ _. subst (λ (files : List Text). AskedInOrder files before now) (sym (files_named words asked asks)) in_order;
+  none = λ not_accepted. absurd (not_accepted asks.accepted);
+}
+
+-- words ask for one thing
+one_asked : (words : List Text) (asked other : Asked) → AsksFor words asked → AsksFor words other → asked ≡ other
+one_asked words asked other first second = (let e : Some asked ≡ Some other = sym first.asks ∙ second.asks in cc)
+
+-- the answer that goes out is the command's own, or the line of its refusal
+pub sent : (P : Status → Text → Type 0) (ended : Result Answer Ending) (result : Result Answer NoMemory)
+    → ((own : Answer) → ended ≡ Ok own → P own.status own.text) → ((s : Status) (f : Fault) → ended ≡ Err (Refused s f) → P s (line_of f))
+    → IfOk result (λ a. MatchResult ended (λ own. a ≡ own) (λ e. IsAnswerTo e a)) → IfOk result (λ a. P a.status a.text)
+sent P ended (Err e) own line h = tt
+sent P (Ok mine) (Ok a) own line is = subst (λ (x : Answer). P x.status x.text) (sym is) (own mine refl)
+sent P (Err Memory) (Ok a) own line is = absurd is
+sent P (Err (Refused s f)) (Ok a) own line (status_is, text_is) =
+    subst (λ (x : Status). P x a.text) (sym status_is) (subst (λ (t : Text). P s t) (sym text_is) (line s f refl))
+
+module _ (words : List Text) (before now : Seen) (asked : Asked) (asks : AsksFor words asked) where
+  other_asked : (s : Status) (text : Text) → IsAnsweredTo asked now s text → (other : Asked) → AsksFor words other → IsAnsweredTo other now s text
+  other_asked s text h other also = subst (λ (x : Asked). IsAnsweredTo x now s text) (one_asked words asked other asks also) h
+
+  same_files : (files : List Text) → file_words words ≡ files → named_files asked ≡ files
+  same_files files e = sym (files_named words asked asks) ∙ e
+
+  -- ---- no file
+
+  module _ (done : Status → Text → Type 0) (refused : Fault → Status → Type 0) (named : named_files asked ≡ [])
+      (lift : (s : Status) (text : Text) → IsAnswered done refused s text → IsAnsweredTo asked now s text) where
+    no_file : (n : Text) (rest : List Text) → file_words words ≡ n ∷ rest → ⊥
+    no_file n rest files = (let e : [] ≡ n ∷ rest = sym named ∙ same_files (n ∷ rest) files in cc)
+
+    own_test : (own : Answer) → IsEnd own.status → done own.status own.text → IsAnswer words before now own.status own.text
+    own_test own ended exact = record {
+      usage = λ is _. subst (λ (s : Status). IsEnd s) is ended;
+      refused = λ not_accepted. absurd (not_accepted asks.accepted);
+      fits = end_fits before now own.status own.text ended;
+      too_long = λ g of_file _ _. absurd (end_of_none own.status ended of_file);
+      long_net = λ n c rest _ files long. absurd (no_file n (c ∷ rest) files);
+      long_con = λ n c rest _ files long. absurd (no_file n (c ∷ rest) files);
+      long_third = λ n c t _ files long. absurd (no_file n (c ∷ t ∷ []) files);
+      answered = other_asked own.status own.text
+          (lift own.status own.text (record { done_so = λ _. exact; caused = λ of_file. absurd (end_of_none own.status ended of_file) }));
+    }
+
+    line_test : (s : Status) (f : Fault) → IsRefusedBy before now s f → refused f s → IsAnswer words before now s (line_of f)
+    line_test s f by cause = record {
+      usage = λ is _. subst (λ (x : Status). IsRefusedBy before now x f) is by;
+      refused = λ not_accepted. absurd (not_accepted asks.accepted);
+      fits = refused_fits before now s f by;
+      too_long = λ g of_file lines number. line_tells before now s f g of_file by lines number;
+      long_net = λ n c rest _ files long. absurd (no_file n (c ∷ rest) files);
+      long_con = λ n c rest _ files long. absurd (no_file n (c ∷ rest) files);
+      long_third = λ n c t _ files long. absurd (no_file n (c ∷ t ∷ []) files);
+      answered = other_asked s (line_of f)
+          (lift s (line_of f) (record { done_so = λ ended. absurd (refused_end before now s f by ended); caused = λ _. (f, refl, cause) }));
+    }
+
+    pub answered_test : (ended : Result Answer Ending) (result : Result Answer NoMemory) → MatchResult ended (λ own. IsEnd own.status) IsOfFiles
+        → IfOk ended (λ own. done own.status own.text) → IfErr ended (HasCause (λ s f. refused f s))
+        → IfOk result (λ a. MatchResult ended (λ own. a ≡ own) (λ e. IsAnswerTo e a)) → IfOk result (λ a. IsAnswer words before now a.status a.text)
+    answered_test (Ok own) result h exact cause is = sent (λ s t. IsAnswer words before now s t) (Ok own) result
+        (λ mine e. (let same : own ≡ mine = cc in subst (λ (x : Answer). IsAnswer words before now x.status x.text) same (own_test own h exact))) (λ s f e. cc) is
+    answered_test (Err Memory) result h exact cause is = sent (λ s t. IsAnswer words before now s t) (Err Memory) result (λ mine e. cc) (λ s f e. cc) is
+    answered_test (Err (Refused t g)) result h exact cause is = sent (λ s t. IsAnswer words before now s t) (Err (Refused t g)) result (λ mine e. cc)
+        (λ s f e. (
+        let same_status : t ≡ s = cc in
+        let same_fault : g ≡ f = cc in
+        subst (λ (x : Status). IsAnswer words before now x (line_of f)) same_status
+        (subst (λ (x : Fault). IsAnswer words before now t (line_of x)) same_fault (line_test t g (listed_ending before now t g h) cause))
+        )) is
+
+  -- ---- two files
+
+  module _ (done : Text → Text → Status → Text → Type 0) (refused : Text → Text → Fault → Status → Type 0) (net con : Text) (named : named_files asked ≡ net ∷ con ∷ [])
+      (lift : (s : Status) (text : Text) → IsAnsweredBoth done refused now net con s text → IsAnsweredTo asked now s text) where
+    net_of : (n c : Text) (rest : List Text) → file_words words ≡ n ∷ c ∷ rest → net ≡ n
+    net_of n c rest files = (let e : net ∷ con ∷ [] ≡ n ∷ c ∷ rest = sym named ∙ same_files (n ∷ c ∷ rest) files in cc)
+
+    con_of : (n c : Text) (rest : List Text) → file_words words ≡ n ∷ c ∷ rest → con ≡ c
+    con_of n c rest files = (let e : net ∷ con ∷ [] ≡ n ∷ c ∷ rest = sym named ∙ same_files (n ∷ c ∷ rest) files in cc)
+
+    no_third : (n c t : Text) → file_words words ≡ n ∷ c ∷ t ∷ [] → ⊥
+    no_third n c t files = (let e : net ∷ con ∷ [] ≡ n ∷ c ∷ t ∷ [] = sym named ∙ same_files (n ∷ c ∷ t ∷ []) files in cc)
+
+    own_both : (own : Answer) → IsEndOfBoth done refused net con before now (Ok own) → IsAnswer words before now own.status own.text
+    own_both own end = record {
+      usage = λ is _. subst (λ (s : Status). IsEnd s) is end.ended;
+      refused = λ not_accepted. absurd (not_accepted asks.accepted);
+      fits = end_fits before now own.status own.text end.ended;
+      too_long = λ g of_file _ _. absurd (end_of_none own.status end.ended of_file);
+      long_net = λ n c rest _ files long. absurd (end.reads.long_net (subst (λ (x : Text). IsLong before x) (sym (net_of n c rest files)) long));
+      long_con = λ n c rest _ files long. absurd (end.reads.long_con (subst (λ (x : Text). IsLong before x) (sym (con_of n c rest files)) long));
+      long_third = λ n c t _ files long. absurd (no_third n c t files);
+      answered = other_asked own.status own.text
+          (lift own.status own.text (record { done_so = λ _. end.exact; caused = λ of_file. absurd (end_of_none own.status end.ended of_file) }));
+    }
+
+    line_both : (s : Status) (f : Fault) → IsEndOfBoth done refused net con before now (Err (Refused s f)) → IsAnswer words before now s (line_of f)
+    line_both s f end = record {
+      usage = λ is _. subst (λ (x : Status). IsRefusedBy before now x f) is end.reads.ended;
+      refused = λ not_accepted. absurd (not_accepted asks.accepted);
+      fits = refused_fits before now s f end.reads.ended;
+      too_long = λ g of_file lines number. line_tells before now s f g of_file end.reads.ended lines number;
+      long_net = λ n c rest _ files long. subst (λ (x : Text). IsRefusedForLength status.Netlist x s (line_of f)) (net_of n c rest files)
+          (length_answer status.Netlist s f net (end.reads.long_net (subst (λ (x : Text). IsLong before x) (sym (net_of n c rest files)) long)));
+      long_con = λ n c rest _ files long.
+          subst (λ (x : Text). IsRefusedForLength status.Constraints c s (line_of f) ⊎ IsRefusedForLength status.Netlist x s (line_of f)) (net_of n c rest files)
+          (subst (λ (x : Text). IsRefusedForLength status.Constraints x s (line_of f) ⊎ IsRefusedForLength status.Netlist net s (line_of f)) (con_of n c rest files)
+          (length_answers s f net con (end.reads.long_con (subst (λ (x : Text). IsLong before x) (sym (con_of n c rest files)) long))));
+      long_third = λ n c t _ files long. absurd (no_third n c t files);
+      answered = other_asked s (line_of f)
+          (lift s (line_of f) (record { done_so = λ ended. absurd (refused_end before now s f end.reads.ended ended); caused = λ of_file. (f, refl, end.caused of_file) }));
+    }
+
+    pub answered_both : (ended : Result Answer Ending) (result : Result Answer NoMemory) → IsEndOfBoth done refused net con before now ended
+        → IfOk result (λ a. MatchResult ended (λ own. a ≡ own) (λ e. IsAnswerTo e a)) → IfOk result (λ a. IsAnswer words before now a.status a.text)
+    answered_both ended result end is = sent (λ s t. IsAnswer words before now s t) ended result
+        (λ own e. own_both own (subst (λ (r : Result Answer Ending). IsEndOfBoth done refused net con before now r) e end))
+        (λ s f e. line_both s f (subst (λ (r : Result Answer Ending). IsEndOfBoth done refused net con before now r) e end)) is
+
+  -- ---- three files
+
+  module _ (done : Text → Text → Text → Status → Text → Type 0) (refused : Text → Text → Text → Fault → Status → Type 0) (net con third : Text)
+      (named : named_files asked ≡ net ∷ con ∷ third ∷ []) (lift : (s : Status) (text : Text) → IsAnsweredAll done refused now net con third s text → IsAnsweredTo asked now s text) where
+    net_in : (n c : Text) (rest : List Text) → file_words words ≡ n ∷ c ∷ rest → net ≡ n
+    net_in n c rest files = (let e : net ∷ con ∷ third ∷ [] ≡ n ∷ c ∷ rest = sym named ∙ same_files (n ∷ c ∷ rest) files in cc)
+
+    con_in : (n c : Text) (rest : List Text) → file_words words ≡ n ∷ c ∷ rest → con ≡ c
+    con_in n c rest files = (let e : net ∷ con ∷ third ∷ [] ≡ n ∷ c ∷ rest = sym named ∙ same_files (n ∷ c ∷ rest) files in cc)
+
+    third_in : (n c t : Text) → file_words words ≡ n ∷ c ∷ t ∷ [] → third ≡ t
+    third_in n c t files = (let e : net ∷ con ∷ third ∷ [] ≡ n ∷ c ∷ t ∷ [] = sym named ∙ same_files (n ∷ c ∷ t ∷ []) files in cc)
+
+    own_all : (own : Answer) → IsEndOfThree done refused net con third before now (Ok own) → IsAnswer words before now own.status own.text
+    own_all own end = record {
+      usage = λ is _. subst (λ (s : Status). IsEnd s) is end.ended;
+      refused = λ not_accepted. absurd (not_accepted asks.accepted);
+      fits = end_fits before now own.status own.text end.ended;
+      too_long = λ g of_file _ _. absurd (end_of_none own.status end.ended of_file);
+      long_net = λ n c rest _ files long. absurd (end.reads.long_net (subst (λ (x : Text). IsLong before x) (sym (net_in n c rest files)) long));
+      long_con = λ n c rest _ files long. absurd (end.reads.long_con (subst (λ (x : Text). IsLong before x) (sym (con_in n c rest files)) long));
+      long_third = λ n c t _ files long. absurd (end.reads.long_run (subst (λ (x : Text). IsLong before x) (sym (third_in n c t files)) long));
+      answered = other_asked own.status own.text
+          (lift own.status own.text (record { done_so = λ _. end.exact; caused = λ of_file. absurd (end_of_none own.status end.ended of_file) }));
+    }
+
+    line_all : (s : Status) (f : Fault) → IsEndOfThree done refused net con third before now (Err (Refused s f)) → IsAnswer words before now s (line_of f)
+    line_all s f end = record {
+      usage = λ is _. subst (λ (x : Status). IsRefusedBy before now x f) is end.reads.ended;
+      refused = λ not_accepted. absurd (not_accepted asks.accepted);
+      fits = refused_fits before now s f end.reads.ended;
+      too_long = λ g of_file lines number. line_tells before now s f g of_file end.reads.ended lines number;
+      long_net = λ n c rest _ files long. subst (λ (x : Text). IsRefusedForLength status.Netlist x s (line_of f)) (net_in n c rest files)
+          (length_answer status.Netlist s f net (end.reads.long_net (subst (λ (x : Text). IsLong before x) (sym (net_in n c rest files)) long)));
+      long_con = λ n c rest _ files long.
+          subst (λ (x : Text). IsRefusedForLength status.Constraints c s (line_of f) ⊎ IsRefusedForLength status.Netlist x s (line_of f)) (net_in n c rest files)
+          (subst (λ (x : Text). IsRefusedForLength status.Constraints x s (line_of f) ⊎ IsRefusedForLength status.Netlist net s (line_of f)) (con_in n c rest files)
+          (length_answers s f net con (end.reads.long_con (subst (λ (x : Text). IsLong before x) (sym (con_in n c rest files)) long))));
+      long_third = λ n c t _ files long.
+          subst (λ (x : Text). IsRefusedForLength status.Record t s (line_of f) ⊎ (IsRefusedForLength status.Constraints c s (line_of f) ⊎ IsRefusedForLength status.Netlist x s (line_of f))) (net_in n c (t ∷ []) files)
+          (subst (λ (x : Text). IsRefusedForLength status.Record t s (line_of f) ⊎ (IsRefusedForLength status.Constraints x s (line_of f) ⊎ IsRefusedForLength status.Netlist net s (line_of f))) (con_in n c (t ∷ []) files)
+          (subst (λ (x : Text). IsRefusedForLength status.Record x s (line_of f) ⊎ (IsRefusedForLength status.Constraints con s (line_of f) ⊎ IsRefusedForLength status.Netlist net s (line_of f))) (third_in n c t files)
+          (all_length_answers s f net con third (end.reads.long_run (subst (λ (x : Text). IsLong before x) (sym (third_in n c t files)) long)))));
+      answered = other_asked s (line_of f)
+          (lift s (line_of f) (record { done_so = λ ended. absurd (refused_end before now s f end.reads.ended ended); caused = λ of_file. (f, refl, end.caused of_file) }));
+    }
+
+    pub answered_all : (ended : Result Answer Ending) (result : Result Answer NoMemory) → IsEndOfThree done refused net con third before now ended
+        → IfOk result (λ a. MatchResult ended (λ own. a ≡ own) (λ e. IsAnswerTo e a)) → IfOk result (λ a. IsAnswer words before now a.status a.text)
+    answered_all ended result end is = sent (λ s t. IsAnswer words before now s t) ended result
+        (λ own e. own_all own (subst (λ (r : Result Answer Ending). IsEndOfThree done refused net con third before now r) e end))
+        (λ s f e. line_all s f (subst (λ (r : Result Answer Ending). IsEndOfThree done refused net con third before now r) e end)) is
+
+  -- ---- a page
+
+  module _ (named : named_files asked ≡ []) where
+    no_word : (n : Text) (rest : List Text) → file_words words ≡ n ∷ rest → ⊥
+    no_word n rest files = (let e : [] ≡ n ∷ rest = sym named ∙ same_files (n ∷ rest) files in cc)
+
+    answered_page : (a : Answer) → a.status ≡ status.Done → IsAnsweredTo asked now a.status a.text → IsAnswer words before now a.status a.text
+    answered_page a done h = record {
+      usage = λ e. cc;
+      refused = λ not_accepted. absurd (not_accepted asks.accepted);
+      fits = subst (λ (s : Status). IsText before now s a.text) (sym done) tt;
+      too_long = λ f of_file _ _. absurd (end_of_none status.Done tt (subst (λ (s : Status). IsOfStatus s) done of_file));
+      long_net = λ n c rest _ files long. absurd (no_word n (c ∷ rest) files);
+      long_con = λ n c rest _ files long. absurd (no_word n (c ∷ rest) files);
+      long_third = λ n c t _ files long. absurd (no_word n (c ∷ t ∷ []) files);
+      answered = other_asked a.status a.text h;
+    }
+
+    pub answered_shown : (result : Result Answer NoMemory) {P : Answer → Type 0} → IfOk result P → ((a : Answer) → P a → (a.status ≡ status.Done) × IsAnsweredTo asked now a.status a.text)
+        → IfOk result (λ a. IsAnswer words before now a.status a.text)
+    answered_shown (Ok a) h told = (let is = told a h in answered_page a is.0 is.1)
+    answered_shown (Err e) h told = tt
+
+-- words that are refused are answered by the usage line
+module _ (words : List Text) (before now : Seen) (not_accepted : IsAccepted words → ⊥) where
+  told_usage : (a : Answer) → IsUsage a → IsAnswer words before now a.status a.text
+  told_usage a (is_usage, text) = record {
+    usage = λ _. not_accepted;
+    refused = λ _. is_usage;
+    fits = subst (λ (s : Status). IsText before now s a.text) (sym is_usage) text;
+    too_long = λ f of_file _ _. absurd (no_status a.status is_usage of_file);
+    long_net = λ n c rest accepted _ _. absurd (not_accepted accepted);
+    long_con = λ n c rest accepted _ _. absurd (not_accepted accepted);
+    long_third = λ n c t accepted _ _. absurd (not_accepted accepted);
+    answered = λ asked asks. absurd (not_accepted asks.accepted);
   }
+    where
+      no_status : (s : Status) → s ≡ status.Usage → IsOfStatus s → ⊥
+      no_status s e (inl h) = cc
+      no_status s e (inr (inl h)) = cc
+      no_status s e (inr (inr h)) = cc
 
-  line_answer : (s : Status) (f : Fault) → IsEndOfAudit json net con before now (Err (Refused s f)) → IsAnswer words before now s (line_of f)
-  line_answer s f end = record {
-    usage = λ is _. subst (λ (x : Status). IsRefusedBy before now x f) is end.reads.ended;
-    refused = λ not_accepted. absurd (not_accepted accepted);
-    fits = refused_fits before now s f end.reads.ended;
-    page = λ page is. cc;
-    too_long = λ g of_file lines number. line_tells before now s f g of_file end.reads.ended lines number;
-    long_net = λ n c rest _ files long. subst (λ (x : Text). IsRefusedForLength status.Netlist x s (line_of f)) (is_net n c rest files)
-        (length_answer status.Netlist s f net (end.reads.long_net (subst (λ (x : Text). IsLong before x) (sym (is_net n c rest files)) long)));
-    long_con = λ n c rest _ files long.
-        subst (λ (x : Text). IsRefusedForLength status.Constraints c s (line_of f) ⊎ IsRefusedForLength status.Netlist x s (line_of f)) (is_net n c rest files)
-        (subst (λ (x : Text). IsRefusedForLength status.Constraints x s (line_of f) ⊎ IsRefusedForLength status.Netlist net s (line_of f)) (is_con n c rest files)
-        (length_answers s f net con (end.reads.long_con (subst (λ (x : Text). IsLong before x) (sym (is_con n c rest files)) long))));
-    long_run = λ n c r _ files long. cc;
-    replayed = λ n c r _ files. cc;
-    audited = λ n c _ _ is. absurd (refused_audit before now s f end.reads.ended is);
-    audit_refused = λ n c _ files of_file. (
-      f,
-      refl,
-      subst (λ (x : Text). IsCausedBy (IsAuditRefused c) now x c s f) (is_net n c [] files)
-          (subst (λ (x : Text). IsCausedBy (IsAuditRefused x) now net x s f) (is_con n c [] files) (end.refused of_file)),
-    );
-    replay_refused = λ n c r _ files _. cc;
-  }
-
-  one_answer : (ended : Result Answer Ending) (a : Answer) → IsEndOfAudit json net con before now ended
-      → MatchResult ended (λ own. a ≡ own) (λ e. IsAnswerTo e a) → IsAnswer words before now a.status a.text
-  one_answer (Ok own) a end is = subst (λ (x : Answer). IsAnswer words before now x.status x.text) (sym is) (own_answer own end)
-  one_answer (Err Memory) a end is = absurd is
-  one_answer (Err (Refused s f)) a end (status_is, text_is) =
-      subst (λ (x : Status). IsAnswer words before now x a.text) (sym status_is)
-      (subst (λ (t : Text). IsAnswer words before now s t) (sym text_is) (line_answer s f end))
-
-  pub answered_audit : (ended : Result Answer Ending) (result : Result Answer NoMemory) → IsEndOfAudit json net con before now ended
-      → IfOk result (λ a. MatchResult ended (λ own. a ≡ own) (λ e. IsAnswerTo e a))
-      → IfOk result (λ a. IsAnswer words before now a.status a.text)
-  answered_audit ended (Ok a) end is = one_answer ended a end is
-  answered_audit ended (Err e) end is = tt
+  pub answered_usage : (result : Result Answer NoMemory) → IfOk result IsUsage → IfOk result (λ a. IsAnswer words before now a.status a.text)
+  answered_usage (Ok a) h = told_usage a h
+  answered_usage (Err e) h = tt

@@ -1,9 +1,10 @@
 -- A run that wrote its answer, or a front of it.
 use Rattle.std.proofs.Common.{◌≡◌, inl, subst, refl, List, Option}
 use Rattle.cdc_base.specs.Causes.{Rose, IsAdded, IsFrontAdded}
-use Rattle.audit_top.specs.declared.status.Status.{Status}
-use Rattle.audit_top.specs.declared.status.Status.TheVariants as status
-use Rattle.audit_top.specs.Runs.{Seen, Output, Text, AsksByWords, IsAnswer, IsText, IsWritten, IsRun}
+use Rattle.command_files.specs.declared.status.Status.{Status}
+use Rattle.command_files.specs.declared.status.Status.TheVariants as status
+use Rattle.command_files.specs.Files.{Seen, Text}
+use Rattle.audit_top.specs.Runs.{Output, AsksByWords, IsAnswer, IsText, IsWritten, IsRun}
 
 written_whole : (before now : Seen) (s : Status) (text : Text) (w v : Option Text) → IsText before now s text → IsAdded w text v
     → IsWritten s s text w v

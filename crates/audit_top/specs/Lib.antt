@@ -1,10 +1,3 @@
 pub mod Pages
+pub mod Answers
 pub mod Runs
-pub mod Statuses
-pub mod Endings
-pub mod ConstraintFiles
-pub mod SameConstraints
-pub mod Replays
-pub mod Described
-pub mod Audits
-pub mod Refused

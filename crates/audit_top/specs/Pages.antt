@@ -1,4 +1,4 @@
--- The pages that are shown without any file.
+-- The texts that are shown without any file.
 use Rattle.std.specs.Prelude.{ℕ, List, [], ◌∷◌, ◌++◌, codes}
 use Rattle.command_line.specs.declared.Page.{Page}
 use Rattle.command_line.specs.declared.Page.TheVariants.{Help, Version}
@@ -46,3 +46,7 @@ text_of_lines (line ∷ lines) = (line ++ 10 ∷ []) ++ text_of_lines lines
 
 abbrev pub page_text : Page → List ℕ
 page_text page = text_of_lines (lines_of page)
+
+-- the line for words that are refused
+abbrev pub usage_line : List ℕ
+usage_line = codes "usage: cdcaudit audit [--json] NET CON | replay NET CON RUN | selftest N | help" ++ 10 ∷ []

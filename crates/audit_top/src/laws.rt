@@ -1,12 +1,13 @@
 //! That answers go by the constraints of a constraint file, and not by its form.
 ghost use Rattle.std.specs.Prelude.{ℕ, Bool, List, Result};
 ghost use Rattle.cdc_base.specs.declared.fault.Fault.{Fault};
-ghost use Rattle.audit_top.specs.declared.answer.Ending.{Ending};
-ghost use Rattle.audit_top.specs.declared.status.Status.{Status};
-ghost use Rattle.audit_top.specs.Audits.{IsAuditOf};
-ghost use Rattle.audit_top.specs.Refused.{AreTextsRefused, IsAuditRefused};
-ghost use Rattle.audit_top.specs.Replays.{IsReplayUnder};
-ghost use Rattle.audit_top.specs.SameConstraints.{HaveSameConstraints};
+ghost use Rattle.command_files.specs.declared.answer.Ending.{Ending};
+ghost use Rattle.command_files.specs.declared.status.Status.{Status};
+ghost use Rattle.audit_command.specs.Audits.{IsAuditOf};
+ghost use Rattle.audit_command.specs.Refused.{IsAuditRefused};
+ghost use Rattle.described_design.specs.Refused.{AreTextsRefused};
+ghost use Rattle.described_design.specs.SameConstraints.{HaveSameConstraints};
+ghost use Rattle.replay_command.specs.Replays.{IsReplayUnder};
 
 /// Two constraint files with equal constraints beside a netlist, each in TOML or in SDC, have the same audits, replays and
 /// refusals.

@@ -1,11 +1,10 @@
 //! The pages that are shown without any file.
 ghost use Rattle.std.specs.Prelude.{◌≡◌, ◌++◌, map, IfOk};
-ghost use Rattle.audit_top.specs.Endings.{IsPage};
-ghost use Rattle.audit_top.specs.Pages.{help_lines, version_lines, text_of_lines};
+ghost use Rattle.command_files.specs.declared.status.Status.TheVariants.{Done};
+ghost use Rattle.audit_top.specs.Pages.{help_lines, page_text, version_lines, text_of_lines};
 
-use crate::answer::Answer;
-use crate::status::Status;
 use cdc_base::{List, NoMemory};
+use command_files::{Answer, Status};
 use command_line::Page;
 use std::alloc::Global;
 
@@ -74,7 +73,7 @@ fn version_text(alloc: Global) -> Result<List<u8>, NoMemory>
 
 /// The answer to a word for a page.
 pub fn show(alloc: Global, page: Page) -> Result<Answer, NoMemory>
-    ensures { IfOk result (IsPage page) }
+    ensures { IfOk result (λ answer. (answer.status ≡ Done) × (answer.text ≡ page_text page)) }
 {
     let text = match page {
         Page::Help => help_text(alloc)?,

@@ -1,18 +1,18 @@
 //! The program over any files and any output.
 ghost use Rattle.std.specs.Prelude.{◌≡◌, [], map, string_bytes, IfOk};
-ghost use Rattle.command_line.specs.Cli.{IsAccepted};
-ghost use Rattle.audit_top.specs.Endings.{IsUsage};
-ghost use Rattle.audit_top.specs.Runs.{Seen, Output, AsksByWords, IsAnswer, IsRun};
+ghost use Rattle.std.specs.Prelude.{List};
+ghost use Rattle.command_line.specs.Cli.{AsksFor, asked_of, named_files};
+ghost use Rattle.command_files.specs.Files.{Seen, Text, AskedInOrder};
+ghost use Rattle.audit_top.specs.Runs.{Output, AsksByWords, IsAnswer, IsRun, IsUsage};
 
-use crate::answer::{Answer, answer_of};
-use crate::audit::audit;
 use crate::output::write_lines;
 use crate::page;
-use crate::replay::replay;
-use crate::selftest::selftest;
-use crate::status::Status;
+use audit_command::audit;
 use cdc_base::{Files, List, NoMemory, Sink, SinkFault};
+use command_files::{Answer, Status, answer_of};
 use command_line::{Refusal, Request};
+use replay_command::replay;
+use selftest_command::selftest;
 use std::alloc::Global;
 
 const USAGE: &str =
@@ -30,6 +30,27 @@ fn usage(alloc: Global) -> Result<Answer, NoMemory>
     }
 }
 
+/// What is asked for is answered.
+fn answer_request<F: Files>(
+    alloc: Global,
+    request: Request,
+    files: &mut F,
+) -> Result<Answer, NoMemory>
+    ensures asks { let before : Seen = record { held = F.held files.old; asked = F.asked files.old; taken = F.taken files.old; faults = F.faults files.old } in
+        let now : Seen = record { held = F.held files.new; asked = F.asked files.new; taken = F.taken files.new; faults = F.faults files.new } in
+        AskedInOrder (named_files (asked_of request.entry)) before now }
+    ensures answered { let before : Seen = record { held = F.held files.old; asked = F.asked files.old; taken = F.taken files.old; faults = F.faults files.old } in
+        let now : Seen = record { held = F.held files.new; asked = F.asked files.new; taken = F.taken files.new; faults = F.faults files.new } in
+        (words : List Text) → AsksFor words (asked_of request.entry) → IfOk result (λ a. IsAnswer words before now a.status a.text) }
+{
+    match request {
+        Request::Audit { json, net, con } => answer_of(alloc, audit(alloc, files, json, net, con)),
+        Request::Replay { net, con, run } => answer_of(alloc, replay(alloc, files, net, con, run)),
+        Request::Selftest { channels } => answer_of(alloc, selftest(alloc, channels)),
+        Request::Show(page) => page::show(alloc, page),
+    }
+}
+
 /// What the words are answered.
 fn answer<F: Files>(alloc: Global, words: &[String], files: &mut F) -> Result<Answer, NoMemory>
     ensures asks { let before : Seen = record { held = F.held files.old; asked = F.asked files.old; taken = F.taken files.old; faults = F.faults files.old } in
@@ -40,14 +61,7 @@ fn answer<F: Files>(alloc: Global, words: &[String], files: &mut F) -> Result<An
         IfOk result (λ a. IsAnswer (map string_bytes words.now) before now a.status a.text) }
 {
     match command_line::read(alloc, words) {
-        Ok(Request::Audit { json, net, con }) => {
-            answer_of(alloc, audit(alloc, files, json, net, con))
-        }
-        Ok(Request::Replay { net, con, run }) => {
-            answer_of(alloc, replay(alloc, files, net, con, run))
-        }
-        Ok(Request::Selftest { channels }) => answer_of(alloc, selftest(alloc, channels)),
-        Ok(Request::Show(page)) => page::show(alloc, page),
+        Ok(request) => answer_request(alloc, request, files),
         Err(Refusal::Words) => usage(alloc),
         Err(Refusal::Memory) => Err(NoMemory),
     }

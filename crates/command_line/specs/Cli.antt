@@ -1,6 +1,7 @@
 -- The command line: one command with a subcommand for each request, as clap reads it.
-use Rattle.std.specs.Prelude.{◌≡◌, ℕ, Bool, true, false, List, [], ◌∷◌, Option, Some, None, codes}
-use Rattle.std.specs.Prelude.{cond, is_some, unwrap_or, pos, ◌≤◌, ◌⊎◌, if◌then◌else◌}
+use Rattle.std.specs.Prelude.{◌≡◌, ℕ, true, List, [], ◌∷◌, Option, Some, None, codes}
+use Rattle.std.specs.Prelude.{is_some, unwrap_or, pos, ◌≤◌, ◌⊎◌, if◌then◌else◌}
+use Rattle.std.specs.Option.{option_map_or}
 use Rattle.std.specs.Str.Parse.{digits_value, IsNumeral, without_leading_plus}
 use Rattle.std.specs.Str.{bytes_eq}
 use Rattle.clap.specs.Words.{App, Row, Rule, Text, new_app, new_rule, with_rule, with_subcommand}
@@ -8,6 +9,7 @@ use Rattle.clap.specs.Words.{first_of, one_of, fault_of, subcommand_of}
 use Rattle.clap.specs.Simple.{on_top}
 use Rattle.clap.specs.declared.builder.action.ArgAction.TheVariants.{SetTrue}
 use Rattle.clap.specs.declared.builder.value_parser.ValueParser.TheVariants as vp
+use Rattle.command_line.specs.Asked.{Asked, audit, replay, selftest, shown}
 use Rattle.command_line.specs.declared.Request.{Request}
 use Rattle.command_line.specs.declared.Request.TheVariants.{Audit, Replay, Selftest, Show}
 use Rattle.command_line.specs.declared.Page.{Page}
@@ -21,9 +23,9 @@ json_rule = record (new_rule (codes "json")) { long = Some (codes "json"); actio
 abbrev pub required_rule : Text → Rule
 required_rule id = record (new_rule id) { required = true }
 
--- N, a number from 1 to 10,000
-abbrev pub count_rule : Rule
-count_rule = record (required_rule (codes "N")) { parser = Some (vp.Signed (pos 1) (pos 10000)) }
+-- a number that must be there, from low to high
+abbrev pub number_rule : Text → ℕ → ℕ → Rule
+number_rule id low high = record (required_rule id) { parser = Some (vp.Signed (pos low) (pos high)) }
 
 -- `audit [--json] NET CON`
 abbrev pub audit_app : App
@@ -37,13 +39,15 @@ replay_app = with_rule (with_rule (with_rule (new_app (codes "replay")) (require
 
 -- `selftest N`
 abbrev pub selftest_app : App
-selftest_app = with_rule (new_app (codes "selftest")) count_rule
+selftest_app = with_rule (new_app (codes "selftest")) (number_rule (codes "N") 1 10000)
 
 -- the command takes no word for the program's name and wants a subcommand
+abbrev pub cli_head : App
+cli_head = on_top (λ s. record s { no_binary_name = true; subcommand_required = true; disable_help_subcommand = true }) (new_app (codes "cdcaudit"))
+
+-- it has these subcommands
 abbrev pub cli : App
-cli = with_subcommand (with_subcommand (with_subcommand
-    (on_top (λ s. record s { no_binary_name = true; subcommand_required = true; disable_help_subcommand = true })
-    (new_app (codes "cdcaudit"))) audit_app.top) replay_app.top) selftest_app.top
+cli = with_subcommand (with_subcommand (with_subcommand cli_head audit_app.top) replay_app.top) selftest_app.top
 
 -- the words for a page, which stand alone
 abbrev pub pages : List (Text × Page)
@@ -72,39 +76,71 @@ IsAccepted words = (is_some (page_of words) ≡ true) ⊎ HasReading words
 abbrev pub text_of : Text → List Row → Text
 text_of id rows = unwrap_or (first_of id rows) []
 
--- n is from 1 to 10,000, and the number that N writes where that is
-abbrev pub IsCount : List Row → ℕ → Type 0
-IsCount rows n = (1 ≤ n) × (n ≤ 10000) × ((t : Text) → one_of (codes "N") rows ≡ Some t → IsNumeral 10 (without_leading_plus t)
-    → 1 ≤ digits_value 10 (without_leading_plus t) → digits_value 10 (without_leading_plus t) ≤ 10000
-    → n ≡ digits_value 10 (without_leading_plus t))
+-- the digits of an argument's number, behind a sign
+abbrev pub digits_of : Text → List Row → Text
+digits_of id rows = without_leading_plus (unwrap_or (one_of id rows) [])
 
--- the request that a subcommand with its values makes
-abbrev pub IsReading : Option (Text × List Row) → Request → Type 0
-IsReading found (Audit json net con) = (rows : List Row) × (found ≡ Some (codes "audit", rows))
-    × (json ≡ bytes_eq (text_of (codes "json") rows) (codes "true"))
-    × (net.now ≡ text_of (codes "NET") rows) × (con.now ≡ text_of (codes "CON") rows)
-IsReading found (Replay net con run) = (rows : List Row) × (found ≡ Some (codes "replay", rows))
-    × (net.now ≡ text_of (codes "NET") rows) × (con.now ≡ text_of (codes "CON") rows) × (run.now ≡ text_of (codes "RUN") rows)
-IsReading found (Selftest channels) = (rows : List Row) × (found ≡ Some (codes "selftest", rows))
-    × IsCount rows channels
-IsReading found (Show page) = ⊥
+-- the number that an argument writes
+abbrev pub number_of : Text → List Row → ℕ
+number_of id rows = digits_value 10 (digits_of id rows)
 
--- what the words ask for
-abbrev pub IsRequest : List Text → Request → Type 0
-IsRequest words (Show page) = page_of words ≡ Some page
-IsRequest words request = (page_of words ≡ None) × HasReading words × IsReading (subcommand_of cli words) request
+-- the argument writes a number from low to high
+pub record HasNumber (low high : ℕ) (id : Text) (rows : List Row) : Type 0 where
+  pub there : is_some (one_of id rows) ≡ true
+  pub numeral : IsNumeral 10 (digits_of id rows)
+  pub least : low ≤ number_of id rows
+  pub most : number_of id rows ≤ high
 
--- the files that a subcommand names, in the order of the words
-abbrev pub files_of : Option (Text × List Row) → List Text
-files_of None = []
-files_of (Some (name, rows)) =
-    if bytes_eq name (codes "audit") then text_of (codes "NET") rows ∷ text_of (codes "CON") rows ∷ []
-    else (if bytes_eq name (codes "replay") then text_of (codes "NET") rows ∷ text_of (codes "CON") rows ∷ text_of (codes "RUN") rows ∷ [] else [])
+-- what a subcommand with its values asks for
+abbrev pub asked_by : Text → List Row → Option Asked
+asked_by name rows =
+    if bytes_eq name (codes "audit") then Some (audit (bytes_eq (text_of (codes "json") rows) (codes "true")) (text_of (codes "NET") rows) (text_of (codes "CON") rows))
+    else (if bytes_eq name (codes "replay") then Some (replay (text_of (codes "NET") rows) (text_of (codes "CON") rows) (text_of (codes "RUN") rows))
+    else (if bytes_eq name (codes "selftest") then Some (selftest (number_of (codes "N") rows))
+    else None))
 
--- a page asks for none
+abbrev pub asked_from : Option Page → Option (Text × List Row) → Option Asked
+asked_from (Some page) found = Some (shown page)
+asked_from None None = None
+asked_from None (Some (name, rows)) = asked_by name rows
+
+-- what words that are accepted ask for
+unfoldable pub asked_in : List Text → Option Asked
+asked_in words = asked_from (page_of words) (subcommand_of cli words)
+
+-- the words are accepted, and ask for this
+pub record AsksFor (words : List Text) (asked : Asked) : Type 0 where
+  pub accepted : IsAccepted words
+  pub asks : asked_in words ≡ Some asked
+
+-- counts of channels are from 1 to 10,000
+abbrev pub IsInRange : Asked → Type 0
+IsInRange (selftest channels) = (1 ≤ channels) × (channels ≤ 10000)
+IsInRange _ = Unit {0}
+
+-- the files that it names, in the order of the words
+abbrev pub named_files : Asked → List Text
+named_files (audit json net con) = net ∷ con ∷ []
+named_files (replay net con run) = net ∷ con ∷ run ∷ []
+named_files (selftest channels) = []
+named_files (shown page) = []
+
+-- the files that the words name
 abbrev pub file_words : List Text → List Text
-file_words words = cond (is_some (page_of words)) [] (files_of (subcommand_of cli words))
+file_words words = option_map_or named_files (asked_in words) []
+
+-- what a request asks for
+abbrev pub asked_of : Request → Asked
+asked_of (Audit json net con) = audit json net.now con.now
+asked_of (Replay net con run) = replay net.now con.now run.now
+asked_of (Selftest channels) = selftest channels
+asked_of (Show page) = shown page
 
 -- a name of one of the subcommands
 abbrev pub IsCommand : Text → Type 0
 IsCommand name = (name ≡ codes "audit") ⊎ ((name ≡ codes "replay") ⊎ (name ≡ codes "selftest"))
+
+-- a subcommand with the values that it has where the command takes the words: its number is there and in its range
+pub record IsTaken (name : Text) (rows : List Row) : Type 0 where
+  pub command : IsCommand name
+  pub channels : name ≡ codes "selftest" → HasNumber 1 10000 (codes "N") rows

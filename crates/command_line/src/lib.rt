@@ -2,16 +2,19 @@
 #![tactic(auto)]
 
 ghost use Rattle.std.specs.Prelude.{◌≡◌, ◌≢◌, [], None, Option, IfOk, IfErr, map, string_bytes, false};
-ghost use Rattle.clap.specs.Words.{app_of, fault_of, subcommand_of, subcommand_rows_of, rows_of, found_of};
+ghost use Rattle.std.specs.Prelude.{codes};
+ghost use Rattle.clap.specs.Words.{app_of, fault_of, subcommand_of, subcommand_rows_of, rows_of, found_of, with_subcommand};
 ghost use Rattle.clap.specs.declared.builder.command.Command.TheViews.{out-Command};
-ghost use Rattle.command_line.specs.Cli.{audit_app, replay_app, selftest_app, cli, page_named as named_page, page_of as asked_page, IsAccepted, HasReading, IsRequest, IsReading, IsCommand, IsCount, text_of};
+ghost use Rattle.command_line.specs.Cli.{audit_app, replay_app, selftest_app, cli_head, cli};
+ghost use Rattle.command_line.specs.Cli.{page_named as named_page, page_of as asked_page, text_of, number_of, HasNumber, IsTaken};
+ghost use Rattle.command_line.specs.Cli.{asked_by, asked_from, asked_of, AsksFor, HasReading, IsAccepted, IsInRange};
 
 use clap::error::ErrorKind;
 use clap::{Arg, ArgAction, ArgMatches, Command};
 use std::alloc::{AllocError, Global};
 
 /// What the words ask for. `net`, `con` and `run` are the names of the netlist, the constraint file and the record of a
-/// run, and `channels` counts the channels of the generated design, 1 to 10,000.
+/// run; `channels` counts the channels of the generated design, 1 to 10,000.
 pub enum Request<'a> {
     Audit {
         json: bool,
@@ -82,16 +85,31 @@ fn selftest_command<'a>(alloc: Global) -> Result<Command<'a>, AllocError>
     Command::new(alloc, "selftest").arg(channels)
 }
 
-fn command<'a>(alloc: Global) -> Result<Command<'a>, AllocError>
-    ensures { IfOk result (λ c. (app_of c ≡ cli) × ((out-Command c).has_globals ≡ false)) }
+/// The command without its subcommands.
+fn bare_command<'a>(alloc: Global) -> Command<'a>
+    ensures { (app_of result ≡ cli_head) × ((out-Command result).has_globals ≡ false) }
 {
     Command::new(alloc, "cdcaudit")
         .no_binary_name(true)
         .subcommand_required(true)
         .disable_help_subcommand(true)
-        .subcommand(audit_command(alloc)?)?
-        .subcommand(replay_command(alloc)?)?
-        .subcommand(selftest_command(alloc)?)
+}
+
+/// The command with one more subcommand, of which this is the shape.
+fn with_command<'a>(command: Command<'a>, below: Command<'a>) -> Result<Command<'a>, AllocError>
+    ensures { IfOk result (λ c. (out-Command command.entry).has_globals ≡ false → (out-Command below.entry).has_globals ≡ false
+        → (app_of c ≡ with_subcommand (app_of command.entry) (app_of below.entry).top) × ((out-Command c).has_globals ≡ false)) }
+{
+    command.subcommand(below)
+}
+
+fn command<'a>(alloc: Global) -> Result<Command<'a>, AllocError>
+    ensures { IfOk result (λ c. (app_of c ≡ cli) × ((out-Command c).has_globals ≡ false)) }
+{
+    let command = bare_command(alloc);
+    let command = with_command(command, audit_command(alloc)?)?;
+    let command = with_command(command, replay_command(alloc)?)?;
+    with_command(command, selftest_command(alloc)?)
 }
 
 fn matches<'a>(alloc: Global, words: &'a [String]) -> Result<ArgMatches<'a>, Refusal>
@@ -114,15 +132,16 @@ fn text<'a>(found: &ArgMatches<'a>, id: &str) -> &'a str
     found.get_str(id).unwrap_or("")
 }
 
-fn count(found: &ArgMatches) -> u32
-    ensures { IsCount (rows_of (found_of found.now)) result }
+fn number(found: &ArgMatches, id: &str) -> u32
+    requires { HasNumber 0 4294967295 id.now (rows_of (found_of found.now)) }
+    ensures { result ≡ number_of id.now (rows_of (found_of found.now)) }
 {
-    found.get_one::<u32>("N").unwrap_or(1).clamp(1, 10_000)
+    found.get_one::<u32>(id).unwrap_or(0)
 }
 
 fn read_request<'a>(name: &str, found: &ArgMatches<'a>) -> Request<'a>
-    requires { IsCommand name.now }
-    ensures { IsReading (Some (name.now, rows_of (found_of found.now))) result }
+    requires { IsTaken name.now (rows_of (found_of found.now)) }
+    ensures { (asked_by name.now (rows_of (found_of found.now)) ≡ Some (asked_of result)) × IsInRange (asked_of result) }
 {
     match name {
         "audit" => Request::Audit {
@@ -136,14 +155,15 @@ fn read_request<'a>(name: &str, found: &ArgMatches<'a>) -> Request<'a>
             run: text(found, "RUN"),
         },
         _ => Request::Selftest {
-            channels: count(found),
+            channels: number(found, "N"),
         },
     }
 }
 
 /// The request of one of the subcommands.
 fn read_command<'a>(alloc: Global, words: &'a [String]) -> Result<Request<'a>, Refusal>
-    ensures accepted { IfOk result (λ r. HasReading (map string_bytes words.now) × IsReading (subcommand_of cli (map string_bytes words.now)) r) }
+    ensures accepted { IfOk result (λ r. HasReading (map string_bytes words.now)
+        × (asked_from None (subcommand_of cli (map string_bytes words.now)) ≡ Some (asked_of r)) × IsInRange (asked_of r)) }
     ensures refused { result ≡ Err Refusal.Words → ¬ HasReading (map string_bytes words.now) }
 {
     let parsed = matches(alloc, words)?;
@@ -176,7 +196,8 @@ fn page_of(words: &[String]) -> Option<Page>
 /// What the words, without the program's name, ask for. They are refused exactly where they aren't one word for a page
 /// and the command's reading by clap gives no matches, memory aside.
 pub fn read<'a>(alloc: Global, words: &'a [String]) -> Result<Request<'a>, Refusal>
-    ensures accepted { IfOk result (λ r. IsRequest (map string_bytes words.now) r) }
+    ensures accepted { IfOk result (λ r. AsksFor (map string_bytes words.now) (asked_of r)) }
+    ensures in_range { IfOk result (λ r. IsInRange (asked_of r)) }
     ensures refused { result ≡ Err Refusal.Words → ¬ IsAccepted (map string_bytes words.now) }
 {
     match page_of(words) {

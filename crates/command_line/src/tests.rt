@@ -46,6 +46,7 @@ fn words_as_the_command_reads_them(rt: HostRuntime) -> Result<(), Fail> {
         ("selftest 007", "selftest 7"),
         ("selftest -5", "usage"),
         ("selftest five", "usage"),
+        ("certify n.v c.toml", "usage"),
         ("help", "page of help"),
         ("--help", "page of help"),
         ("-h", "page of help"),

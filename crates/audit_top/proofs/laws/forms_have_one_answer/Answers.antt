@@ -1,4 +1,5 @@
-use Rattle.audit_top.proofs.SameConstraints.{same_audit, same_audit_refusal, same_refusal, same_replay}
+use Rattle.described_design.proofs.SameConstraints.{same_refusal}
+use Rattle.audit_top.proofs.SameAnswers.{same_audit, same_audit_refusal, same_replay}
 use Rattle.audit_top.proofs.laws.forms_have_one_answer.Goals as goal
 
 pub returns-clause-audited : goal.returns-clause-audited

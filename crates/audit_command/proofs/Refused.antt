@@ -1,0 +1,56 @@
+-- Why texts have no verdict, from the layers.
+use Rattle.std.proofs.Common.{◌<◌, ℕ, List, length, Option, Result, Ok, Err, refl}
+use Rattle.std.specs.Prelude.{IfErr}
+use Rattle.cdc_base.specs.declared.fault.Stop.{Stop}
+use Rattle.cdc_base.specs.declared.fault.Stop.TheVariants as stop
+use Rattle.cdc_base.specs.declared.limits.TheConstants.{MAX_CROSSINGS}
+use Rattle.cell_graph.specs.declared.net.Net.{Net}
+use Rattle.cell_graph.specs.Cells.{HasCause as HasNumber}
+use Rattle.clock_constraints.specs.declared.Constraints.{Constraints as ConstraintsOf}
+use Rattle.clock_constraints.specs.Refusals.{Gives}
+use Rattle.domains.specs.declared.Domains.{Domains}
+use Rattle.domains.specs.Assignment.{Refuses}
+use Rattle.cdc_model.specs.declared.verdict.Verdict.{Verdict}
+use Rattle.cdc_model.specs.Facts.{none_extra}
+use Rattle.cdc_model.specs.Found.{crossings_of}
+use Rattle.cdc_model.specs.Listed.{IsVerdictOf}
+use Rattle.obligations.specs.Judged.{CanAudit}
+use Rattle.report.specs.Waived.{set_aside}
+use Rattle.command_files.specs.declared.answer.Ending.{Ending}
+use Rattle.command_files.specs.declared.answer.Ending.TheVariants.{Refused, Memory}
+use Rattle.command_files.specs.declared.status.Status.TheVariants.{Netlist, Constraints}
+use Rattle.command_files.specs.Endings.{HasCause}
+use Rattle.described_design.specs.Designs.{IsDesignOf}
+use Rattle.described_design.specs.Refused.{AreTextsRefused}
+use Rattle.audit_command.specs.Refused.{AreTooMany, IsVerdictRefused, crossings, waivers, IsAuditRefused, texts, verdict}
+
+pub crossings_cause : (net : Net) (d : Domains) → CanAudit net d → (given : Result Verdict Stop)
+    → IfErr given (HasNumber 603 (CanAudit net d → MAX_CROSSINGS < length (crossings_of net d))) → IfErr given (Refuses (λ f. AreTooMany net d f Netlist))
+crossings_cause net d can (Ok v) h = tt
+crossings_cause net d can (Err (stop.Refused f)) h = record { of_netlist = refl; number = h.0; many = h.1 can }
+crossings_cause net d can (Err stop.Memory) h = tt
+
+pub waivers_cause : (c : ConstraintsOf) (net : Net) (d : Domains) (v : Verdict) → IsVerdictOf net d none_extra v → (given : Result (List (Option ℕ)) Stop)
+    → Gives given (set_aside net d v.findings c.waivers) → IfErr given (Refuses (λ f. IsVerdictRefused c net d f Constraints))
+waivers_cause c net d v is (Ok a) h = tt
+waivers_cause c net d v is (Err (stop.Refused f)) h = waivers refl v is h
+waivers_cause c net d v is (Err stop.Memory) h = tt
+
+module _ (word text con : List ℕ) where
+  pub texts_refused : {T : Type 0} (r : Result T Ending) → IfErr r (HasCause (λ s f. AreTextsRefused word text con f s))
+      → IfErr r (HasCause (λ s f. IsAuditRefused word text con f s))
+  texts_refused (Ok v) h = tt
+  texts_refused (Err (Refused s f)) h = texts h
+  texts_refused (Err Memory) h = tt
+
+  pub crossings_refused : {T : Type 0} (c : ConstraintsOf) (net : Net) (d : Domains) → IsDesignOf word text con c net d → (r : Result T Ending)
+      → IfErr r (HasCause (λ s f. AreTooMany net d f s)) → IfErr r (HasCause (λ s f. IsAuditRefused word text con f s))
+  crossings_refused c net d design (Ok v) h = tt
+  crossings_refused c net d design (Err (Refused s f)) h = verdict c net d design (crossings h)
+  crossings_refused c net d design (Err Memory) h = tt
+
+  pub verdict_refused : {T : Type 0} (c : ConstraintsOf) (net : Net) (d : Domains) → IsDesignOf word text con c net d → (r : Result T Ending)
+      → IfErr r (HasCause (λ s f. IsVerdictRefused c net d f s)) → IfErr r (HasCause (λ s f. IsAuditRefused word text con f s))
+  verdict_refused c net d design (Ok v) h = tt
+  verdict_refused c net d design (Err (Refused s f)) h = verdict c net d design h
+  verdict_refused c net d design (Err Memory) h = tt

@@ -1,0 +1,72 @@
+-- What is answered depends on the constraints of a constraint file alone.
+use Rattle.std.proofs.Common.{◌≡◌, ℕ, Bool, List, Result, Ok, subst}
+use Rattle.cdc_base.specs.declared.fault.Fault.{Fault}
+use Rattle.command_files.specs.declared.answer.Ending.{Ending}
+use Rattle.command_files.specs.declared.status.Status.{Status}
+use Rattle.cell_graph.specs.declared.net.Net.{Net}
+use Rattle.clock_constraints.specs.declared.Constraints.{Constraints}
+use Rattle.domains.specs.declared.Domains.{Domains}
+use Rattle.verilog_lex.specs.declared.token.Token.{Token}
+use Rattle.verilog_lex.specs.Tokens.{tokens_of}
+use Rattle.verilog_reading.specs.ItemReading.{IsSource}
+use Rattle.verilog_reading.specs.SourceTree.{ModuleTree}
+use Rattle.described_design.specs.ConstraintFiles.{HasConstraints}
+use Rattle.described_design.specs.Described.{ReadsAs}
+use Rattle.described_design.specs.Designs.{IsDesignOf}
+use Rattle.described_design.specs.SameConstraints.{HaveSameConstraints}
+use Rattle.described_design.proofs.SameConstraints.{same_design, same_refusal}
+use Rattle.audit_command.specs.Audits.{IsAuditOf}
+use Rattle.audit_command.specs.Refused.{IsAuditRefused, texts, verdict}
+use Rattle.replay_command.specs.Replays.{IsReplayUnder}
+
+one_token_list : (a b : List Token) (r : Result (List Token) Fault) → r ≡ Ok a → r ≡ Ok b → a ≡ b
+one_token_list a b r h k = cc
+
+modules_once : (text : List ℕ) (a b : List ModuleTree) → ReadsAs text a → ReadsAs text b → a ≡ b
+modules_once text a b r s =
+    s.alone a (subst (λ (ts : List Token). IsSource ts a) (one_token_list r.tokens s.tokens (tokens_of text) r.are_tokens s.are_tokens) r.reads)
+
+module _ (net word con other_word other_con : List ℕ) (also : HaveSameConstraints net word con other_word other_con) where
+  -- the design is the same one, of the same modules
+  abbrev same : (c : Constraints) (made : Net) (domains : Domains) → IsDesignOf word net con c made domains → IsDesignOf other_word net other_con c made domains
+  same c made domains d = record {
+    modules = d.modules;
+    reads = d.reads;
+    means = (
+        let other = same_design net word con other_word other_con also c made domains d in
+        subst (λ (ms : List ModuleTree). HasConstraints other_word ms other_con c) (modules_once net other.modules d.modules other.reads d.reads) other.means
+        );
+    of_modules = d.of_modules;
+    design = d.design;
+  }
+
+  pub same_audit : (json : Bool) (status : Status) (text : List ℕ) → IsAuditOf json word net con status text → IsAuditOf json other_word net other_con status text
+  same_audit json status text a = record {
+    constraints = a.constraints;
+    net = a.net;
+    domains = a.domains;
+    design = same a.constraints a.net a.domains a.design;
+    meaning = a.meaning;
+    listed = a.listed;
+    is_verdict = a.is_verdict;
+    exact = a.exact;
+    told = a.told;
+    aside = a.aside;
+    waived = a.waived;
+    status_is = a.status_is;
+    answer_is = a.answer_is;
+  }
+
+  pub same_replay : (run : List ℕ) (answer : Result (List ℕ) Ending) → IsReplayUnder word net con run answer → IsReplayUnder other_word net other_con run answer
+  same_replay run answer r = record {
+    constraints = r.constraints;
+    net = r.net;
+    domains = r.domains;
+    design = same r.constraints r.net r.domains r.design;
+    replayed = r.replayed;
+  }
+
+  pub same_audit_refusal : (fault : Fault) (status : Status) → IsAuditRefused word net con fault status → IsAuditRefused other_word net other_con fault status
+  same_audit_refusal fault status (texts h) = texts (same_refusal net word con other_word other_con also fault status h)
+  same_audit_refusal fault status (verdict c made domains design h) =
+      verdict c made domains (same c made domains design) h

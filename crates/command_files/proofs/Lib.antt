@@ -1,0 +1,2 @@
+pub mod ReadInTurn
+pub mod Ended

@@ -1,0 +1,13 @@
+use Rattle.fifo_laws.proofs.FlipAll.{all_flip}
+use Rattle.fifo_laws.proofs.FlipRoom.{room_of}
+use Rattle.fifo_laws.proofs.Start.{all_start}
+use Rattle.fifo_laws.proofs.Step.{all_kept}
+use Rattle.fifo_laws.proofs.fifos_justify.Goals as goal
+
+pub returns : goal.returns
+returns c = λ d tree t syncs grays rings fifos lists are. record {
+  start = λ s first. all_start d s first tree t syncs grays lists fifos are;
+  step = λ past edges new run keeps facts calm whole. all_kept d tree t syncs grays rings lists past edges new run.1 facts calm whole fifos are keeps;
+  flip = λ edges old new step keeps facts calm x reg ticking flips loose. all_flip d tree t syncs grays lists rings edges old new step facts x reg flips loose fifos
+      (λ f i. (are f i, room_of d tree t syncs grays lists f (are f i) old (keeps f i (are f i)) rings facts));
+}

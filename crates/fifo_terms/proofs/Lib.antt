@@ -1,0 +1,10 @@
+pub mod Binary
+pub mod Codes
+pub mod Counts
+pub mod Examples
+pub mod Numbers
+pub mod Passing
+pub mod Same
+pub mod Shows
+pub mod Takes
+pub mod Terms

@@ -1,0 +1,95 @@
+-- The audit of the generated design.
+use Rattle.std.proofs.Common.{◌≡◌, ◌∙◌, ℕ, ◌==◌, Bool, true, false, List, [], ◌∷◌, length, Option, None, Result, Ok, Err, refl, sym, ap, subst}
+use Rattle.std.specs.Prelude.{IfOk, IfErr, if◌then◌else◌}
+use Rattle.cell_graph.specs.declared.net.Net.{Net}
+use Rattle.domains.specs.declared.Domains.{Domains}
+use Rattle.cdc_model.specs.declared.verdict.Verdict.{Verdict as VerdictEntry}
+use Rattle.cdc_model.specs.Facts.{none_extra}
+use Rattle.flat_model.proofs.Meanings.{verdict_meaning}
+use Rattle.flat_model.proofs.NetDesign.{has_meaning}
+use Rattle.obligations.specs.Judged.{CanAudit}
+use Rattle.flat_unfolding.specs.Formed.{IsSourceFormed}
+use Rattle.verilog_reading.specs.SourceTree.{ModuleTree}
+use Rattle.command_files.specs.declared.answer.Ending.{Ending}
+use Rattle.command_files.specs.declared.answer.Ending.TheVariants.{Refused, Memory}
+use Rattle.command_files.specs.declared.status.Status.{Status}
+use Rattle.command_files.specs.Endings.{HasCause}
+use Rattle.described_design.specs.Described.{IsNetOfModules, ReadsAs}
+use Rattle.described_design.specs.Designs.{IsDesign}
+use Rattle.described_design.specs.Refused.{IsDesignRefused, IsNetlistRefused}
+use Rattle.described_design.proofs.Described.{modules_formed, net_of_design}
+use Rattle.audit_command.specs.Audits.{IsStatusOf, IsVerdictOn}
+use Rattle.audit_command.specs.Refused.{AreTooMany}
+use Rattle.audit_command.proofs.Audits.{told_by}
+use Rattle.clock_constraints.specs.declared.Constraints.{Constraints}
+use Rattle.clock_constraints.specs.Fit.{AreFit}
+use Rattle.generated_design.specs.Clocks.{generated_constraints}
+use Rattle.generated_design.proofs.Fit.{generated_fit}
+use Rattle.selftest_command.specs.Counts.{counts_line, state_bits}
+use Rattle.selftest_command.specs.Selftests.{IsGenerated, IsGeneratedRefused, of_text, of_design, IsSelftestOf, IsSelftestRefused, generation, verdict, generated_text, unwaived_status}
+
+module _ (channels : ℕ) where
+  pub text_refused : {T : Type 0} (text : List ℕ) → text ≡ generated_text channels → (r : Result T Ending) → IfErr r (HasCause (λ s f. IsNetlistRefused text f s))
+      → IfErr r (HasCause (λ s f. IsGeneratedRefused channels f s))
+  text_refused text is (Ok v) h = tt
+  text_refused text is (Err (Refused s f)) h = of_text (subst (λ (t : List ℕ). IsNetlistRefused t f s) is h)
+  text_refused text is (Err Memory) h = tt
+
+  module _ (text : List ℕ) (is : text ≡ generated_text channels) (modules : List ModuleTree) (reads : ReadsAs text modules) (c : Constraints) (c_is : c ≡ generated_constraints) where
+    reads_here : ReadsAs (generated_text channels) modules
+    reads_here = subst (λ (t : List ℕ). ReadsAs t modules) is reads
+
+    formed : IsSourceFormed modules
+    formed = modules_formed text modules reads
+
+    pub design_refused : {T : Type 0} (r : Result T Ending) → (IsSourceFormed modules → IfErr r (HasCause (λ s f. IsDesignRefused modules c f s)))
+        → IfErr r (HasCause (λ s f. IsGeneratedRefused channels f s))
+    design_refused (Ok v) h = tt
+    design_refused (Err (Refused s f)) h = of_design modules reads_here (subst (λ (x : Constraints). IsDesignRefused modules x f s) c_is (h formed))
+    design_refused (Err Memory) h = tt
+
+    fits : AreFit c
+    fits = subst (λ (x : Constraints). AreFit x) (sym c_is) generated_fit
+
+    pub generated_by : {T : Type 0} (net_of : T → Net) (domains_of : T → Domains) (r : Result T Ending) → (AreFit c → IfOk r (λ made. IsDesign c (net_of made) (domains_of made)))
+        → (IsSourceFormed modules → IfOk r (λ made. IsNetOfModules modules c (net_of made))) → IfOk r (λ made. IsGenerated channels (net_of made) (domains_of made))
+    generated_by net_of domains_of (Err e) designed unfolded = tt
+    generated_by net_of domains_of (Ok made) designed unfolded = record {
+      modules = modules;
+      reads = reads_here;
+      of_modules = subst (λ (x : Constraints). IsNetOfModules modules x (net_of made)) c_is (unfolded formed);
+      design = subst (λ (x : Constraints). IsDesign x (net_of made) (domains_of made)) c_is (designed fits);
+    }
+
+  pub generated_refused : {T : Type 0} (r : Result T Ending) → IfErr r (HasCause (λ s f. IsGeneratedRefused channels f s)) → IfErr r (HasCause (λ s f. IsSelftestRefused channels f s))
+  generated_refused (Ok v) h = tt
+  generated_refused (Err (Refused s f)) h = generation h
+  generated_refused (Err Memory) h = tt
+
+  pub crossings_refused : {T : Type 0} (net : Net) (domains : Domains) → IsGenerated channels net domains → (r : Result T Ending)
+      → IfErr r (HasCause (λ s f. AreTooMany net domains f s)) → IfErr r (HasCause (λ s f. IsSelftestRefused channels f s))
+  crossings_refused net domains made (Ok v) h = tt
+  crossings_refused net domains made (Err (Refused s f)) h = verdict net domains made h
+  crossings_refused net domains made (Err Memory) h = tt
+
+  -- the counts of the verdict
+  pub counted : (net : Net) (domains : Domains) (e : VerdictEntry) (s : Status) (answer : List ℕ) → IsGenerated channels net domains
+      → (CanAudit net domains → IsVerdictOn none_extra net domains e) → s ≡ unwaived_status (length e.findings) → answer ≡ counts_line channels (state_bits net domains) e
+      → IsSelftestOf channels s answer
+  counted net domains e s answer made judged is told =
+      let flat = made.of_modules.flat in
+      let (sel, is_net) = net_of_design made.modules generated_constraints net domains made.design made.of_modules in
+      let on = judged made.design.can_audit in
+      record {
+        net = net;
+        domains = domains;
+        generated = made;
+        meaning = has_meaning flat sel generated_constraints net domains is_net;
+        listed = e;
+        is_verdict = on.exact;
+        exact = verdict_meaning flat sel generated_constraints net domains is_net none_extra e on.exact;
+        told = subst (IsStatusOf flat generated_constraints net domains none_extra e on.exact) (sym is)
+            (told_by flat sel generated_constraints net domains is_net none_extra e on (None ∷ []) e.findings refl);
+        status_is = is;
+        answer_is = told;
+      }
