@@ -1,0 +1,5 @@
+pub mod Rows
+pub mod Counted
+pub mod Drawing
+pub mod Ordered
+pub mod Written

@@ -1,0 +1,12 @@
+pub mod Asking
+pub mod BareNodes
+pub mod Choices
+pub mod CodeWords
+pub mod Counting
+pub mod Looking
+pub mod Made
+pub mod Origins
+pub mod Reaches
+pub mod Searches
+pub mod Sets
+pub mod SignalBits

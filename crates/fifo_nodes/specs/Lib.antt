@@ -1,0 +1,6 @@
+pub mod Codes
+pub mod Counts
+pub mod Nodes
+pub mod Searches
+pub mod Takes
+pub mod Terms

@@ -1,0 +1,14 @@
+pub mod Brought
+pub mod Comparisons
+pub mod Ended
+pub mod Entries
+pub mod Extra
+pub mod Found
+pub mod Given
+pub mod Indexed
+pub mod Judged
+pub mod Lines
+pub mod Pairs
+pub mod Sides
+pub mod Tellers
+pub mod Words

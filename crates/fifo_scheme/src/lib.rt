@@ -1,0 +1,19 @@
+//! FIFOs between two clocks: all of a net over listed synchronizers and Gray registers.
+#![tactic(auto)]
+
+pub mod brought;
+pub mod finder;
+pub mod flags;
+pub mod found;
+pub mod index;
+pub mod judge;
+pub mod lines;
+pub mod pair;
+pub mod reads;
+pub mod side;
+pub mod vars;
+pub mod words;
+
+pub use finder::{fifos, fifos_of};
+pub use found::{Column, Fifo, FifoPair, Fifos, FifosOf};
+pub use lines::fifo_lines;

@@ -1,0 +1,5 @@
+//! Tests of campaigns, from the texts of designs on.
+#![tactic(auto)]
+
+#[cfg(test)]
+mod rows;
