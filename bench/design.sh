@@ -4,11 +4,9 @@
 #   design.sh blocks N       N blocks, each with a pipeline of 32 bits, a decoder, a Gray-coded counter and a channel
 #   design.sh chip N         N tiles: such a block with a checksum of what it received
 #   design.sh gates N        N gates and flops of one bit in one module, as synthesis writes them; each crossing has two flops
-#   design.sh fifos N        N FIFOs of 16 words of 32 bits, each with a register that takes the words
 #   design.sh doublings      a wire that is the exclusive or of the one before with itself, 64 times over, in trees of 2^64 leaves
 #   design.sh handshake      a handshake that carries two bits, 10 register bits in all
 #   design.sh record N       a record of N steps of it, or of channels, in each of which both clocks tick
-#   design.sh testbench N    a module that drives channels or FIFOs for N steps: which clocks tick, and the inputs, are drawn as in a campaign
 #   design.sh constraints    two clocks, and the inputs `send` and `d`
 #   design.sh hostile KIND   a netlist that asks for trouble, of 256 MiB or a million of something: see below
 #   design.sh waivers N      the constraints with N waivers by patterns, and `many_inputs N` with N inputs
@@ -134,62 +132,6 @@ always @(posedge cb) begin
   if (s2 != s3) x <= data;
 end
 assign q = x;
-endmodule
-V
-}
-
-# Each FIFO is an instance of one module: Gray pointers through two flops, flags that are registers, a memory of 512 bits.
-fifos() {
-    cat <<'V'
-module fifo(input ca, cb, push, pop, input [31:0] d, output reg [31:0] q);
-  reg [31:0] mem [0:15];
-  reg [4:0] wbin = 0, wgray = 0, rgray_m = 0, rgray_s = 0, rbin = 0, rgray = 0, wgray_m = 0, wgray_s = 0;
-  reg full = 0, empty = 1;
-  wire [4:0] wbin_next = wbin + (push & ~full);
-  wire [4:0] wgray_next = wbin_next ^ (wbin_next >> 1);
-  wire [4:0] rbin_next = rbin + (pop & ~empty);
-  wire [4:0] rgray_next = rbin_next ^ (rbin_next >> 1);
-  always @(posedge ca) begin
-    {wbin, wgray, rgray_s, rgray_m} <= {wbin_next, wgray_next, rgray_m, rgray};
-    full <= wgray_next == {~rgray_s[4:3], rgray_s[2:0]};
-    if (push && !full) mem[wbin[3:0]] <= d;
-  end
-  always @(posedge cb) begin
-    {rbin, rgray, wgray_s, wgray_m} <= {rbin_next, rgray_next, wgray_m, wgray};
-    empty <= rgray_next == wgray_s;
-    if (pop && !empty) q <= mem[rbin[3:0]];
-  end
-endmodule
-V
-    awk -v n="$1" 'BEGIN {
-        print "module m(input ca, cb, send, input [7:0] d);"
-        print "reg pop = 0; reg [31:0] word = 0;"
-        print "always @(posedge cb) pop <= ~pop;"
-        print "always @(posedge ca) word <= {word[23:0], d};"
-        for (i = 0; i < n; i++) printf "wire [31:0] q%d; fifo u%d(ca, cb, send, pop, word ^ 32\047d%d, q%d);\n", i, i, i, i
-        print "endmodule"
-    }'
-}
-
-testbench() {
-    cat <<V
-module bench;
-  reg ca = 0, cb = 0, send = 0;
-  reg [7:0] d = 0;
-  reg [1:0] ticks;
-  integer step;
-  m chip(ca, cb, send, d);
-  initial begin
-    for (step = 1; step <= $1; step = step + 1) begin
-      ticks = step % 4 == 0 ? 2'd3 : \$urandom;
-      if (ticks == 0) ticks = 1;
-      {cb, ca} = ticks;
-      #1 if (ticks[0]) begin send = \$urandom; d = \$urandom; end
-      {cb, ca} = 0;
-      #1;
-    end
-    \$finish;
-  end
 endmodule
 V
 }

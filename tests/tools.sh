@@ -36,9 +36,6 @@ page() {
 expect "the waveform of torn_data" ../tests/torn_data.vcd < <(replay | ../tools/replay-to-vcd)
 expect "the picture of torn_data" ../docs/torn_data.svg \
     < <(../tools/wave-svg ca cb req s1 s2 k1 k2 data s3 'races.race_x[1]' x <../tests/torn_data.vcd)
-expect "the picture of a capture" ../docs/campaign_capture.svg \
-    < <("$program" replay fifo_pop_not_gated.v fifo_pop_not_gated.toml campaign_capture.json | ../tools/replay-to-vcd |
-        ../tools/wave-svg wclk rclk push d 'mem[0]' wbin rbin pop 'races.race_q[0]' q)
 expect "a refusal as a replay" <(echo "replay-to-vcd: no text of a replay: $refusal") < <(echo "$refusal" | ../tools/replay-to-vcd 2>&1)
 for name in binary_counter chip patterns; do
     expect "the report of $name" "../tests/$name.rows" < <(page "$name" | ../tests/table_rows)

@@ -1,6 +1,0 @@
-pub mod Codes
-pub mod Counts
-pub mod Nodes
-pub mod Searches
-pub mod Takes
-pub mod Terms

@@ -1,9 +1,0 @@
-pub mod Choices
-pub mod Decides
-pub mod Fed
-pub mod GuardLists
-pub mod Judged
-pub mod Passing
-pub mod RowBits
-pub mod Sames
-pub mod Walk

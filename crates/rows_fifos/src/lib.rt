@@ -1,7 +1,0 @@
-//! FIFOs of nets that are made by hand.
-#![tactic(auto)]
-
-#[cfg(test)]
-mod plan;
-#[cfg(test)]
-mod rows;
