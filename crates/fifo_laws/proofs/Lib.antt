@@ -13,6 +13,7 @@ pub mod Pairs
 pub mod Rounds
 pub mod Settled
 pub mod Sides
+pub mod SoundRuns
 pub mod Start
 pub mod Step
 pub mod StepSide

@@ -1,12 +1,19 @@
 -- What is promised of FIFOs.
 use Rattle.std.specs.Prelude.{◌≡◌, ◌≢◌, ℕ, Bool, true, false, Some, List, [], Contains, ⊤, cond}
 use Rattle.cdc_base.specs.declared.bit.Bit.{Bit}
+use Rattle.cell_graph.specs.declared.net.Net.{Net}
 use Rattle.cell_graph.specs.Tree.{Tree}
 use Rattle.cell_graph.specs.Cofactor.{reads}
+use Rattle.domains.specs.declared.Domains.{Domains}
+use Rattle.domains.specs.Fit.{Fit}
 use Rattle.cdc_model.specs.declared.scheme.GrayReg.{GrayReg}
+use Rattle.cdc_model.specs.declared.verdict.Verdict.{Verdict as VerdictEntry}
 use Rattle.cdc_model.specs.Design.{Design, flipped}
 use Rattle.cdc_model.specs.Facts.{Facts, AllCalm, IsWhole, AreJustifiedBy}
 use Rattle.cdc_model.specs.GrayShape.{AreNextTrees, IsGrayReg}
+use Rattle.cdc_model.specs.Laws.{Fits}
+use Rattle.cdc_model.specs.Listed.{IsVerdictOf}
+use Rattle.cdc_model.specs.Nets.{design_of, net_trees}
 use Rattle.cdc_model.specs.Runs.{State, Trace, Start, Then, now, ticks, AreLoose, IsStep, IsFirst, IsRun}
 use Rattle.cdc_model.specs.Schemes.{Trees, AreTrees, AreSyncs, IsCrossing, Sync, Ring}
 use Rattle.fifo_laws.specs.Fifos.{Fifo, IsFifo, AreFifos, is_fifo_crossing}
@@ -58,6 +65,12 @@ abbrev pub IsSoundRun : Design → List Sync → List GrayReg → List Ring → 
 IsSoundRun d syncs grays rings (Start s) = IsFirst d s
 IsSoundRun d syncs grays rings (Then past edges new) = IsSoundRun d syncs grays rings past × IsStep d edges (now past) new
     × Facts d syncs grays rings (now past) × AllCalm d syncs edges (now past) new (λ x. ⊤) × IsWhole d syncs (Then past edges new)
+
+-- each run of a net whose verdict has no finding is such a run, by the lists of the verdict
+abbrev pub CleanNetsRunSoundly : Fits → (Bit → Bit → Bool) → Type 0
+CleanNetsRunSoundly fits is_extra = (net : Net) (domains : Domains) (e : VerdictEntry) → Fit net domains → (w : IsVerdictOf net domains is_extra e)
+    → fits (design_of net domains) (net_trees net w.grays) w.syncs e.grays → e.findings ≡ []
+    → (run : Trace) → IsRun (design_of net domains) run → IsSoundRun (design_of net domains) w.syncs e.grays w.verdict.rings run
 
 -- FIFO order: in such a run no more is popped than pushed, and what a reader takes in a step is the oldest word
 abbrev pub FifoOrder : Type 0

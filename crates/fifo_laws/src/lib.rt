@@ -1,7 +1,9 @@
 //! FIFOs between two clocks: what they are, that they justify their crossings, and that words come out in order.
 #![tactic(auto)]
 
-ghost use Rattle.fifo_laws.specs.Laws.{FifoOrder, FifoReads, FifosCross, FifosFlip, FifosJustify, FifosStart, FifosStep};
+ghost use Rattle.fifo_laws.specs.Laws.{CleanNetsRunSoundly, FifoOrder, FifoReads, FifosCross, FifosFlip, FifosJustify, FifosStart, FifosStep};
+
+use cdc_model::Extra;
 
 /// A first state keeps each FIFO.
 pub fn fifos_start()
@@ -26,6 +28,11 @@ pub fn fifos_justify()
 /// A FIFO's crossings are crossings of the design, and none into a plain copy.
 pub fn fifos_cross()
     ensures { FifosCross }
+{}
+
+/// In each run of a net whose verdict has no finding, each step is calm and takes whole words.
+pub fn clean_nets_run_soundly<E: Extra>(extra: &E)
+    ensures { CleanNetsRunSoundly (E.fits extra.now) (E.is_extra extra.now) }
 {}
 
 /// No more is popped than was pushed, and no more is pushed than has room; what a reader takes is the oldest word.

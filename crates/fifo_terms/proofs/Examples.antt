@@ -6,7 +6,7 @@ use Rattle.cell_graph.specs.Origin.{TreeBit}
 use Rattle.fifo_terms.specs.Terms.{Term, Is, Differ, terms, AreOne, HasTerm}
 use Rattle.cdc_model.specs.Word.{cells, origins, own_word, IsStepOfOne}
 use Rattle.fifo_terms.specs.Counts.{CountsUnder, First}
-use Rattle.fifo_terms.specs.Codes.{Code, Now, Next, IsCountAt}
+use Rattle.fifo_terms.specs.Codes.{Code, Now, Next, IsBit, IsCountAt}
 use Rattle.fifo_terms.specs.Shows.{full_apart, Shows, IsTest, IsFlagTest}
 use Rattle.fifo_terms.specs.Takes.{taken}
 
@@ -98,8 +98,14 @@ enough_step (suc (suc (suc i))) l m = absurd (omega (arith, m))
 
 -- the next count's highest bit is that of its code
 counted : IsCountAt 3 3 (Next (terms enough 0 true)) (cells next_count 0 3)
-counted = (terms enough 0 true, First (Var 3 3) enough refl enough_step, (each_in, each_in))
+counted = (terms enough 0 true, First (Var 3 3) enough refl enough_step, (each_in, each_in), within)
   where
+    within : (x : TreeBit) → Contains (cells next_count 0 3) x → IsBit x
+    within x (zero, l, e) = subst IsBit e (omega arith)
+    within x (suc zero, l, e) = subst IsBit e (omega arith)
+    within x (suc (suc zero), l, e) = subst IsBit e (omega arith)
+    within x (suc (suc (suc i)), l, e) = absurd (omega (arith, l))
+
     each_in : (t : Term) → Contains (terms enough 0 true) t → HasTerm (terms enough 0 true) t
     each_in t i = (t, i, same t)
       where

@@ -1,0 +1,15 @@
+pub mod Asking
+pub mod BareNodes
+pub mod Choices
+pub mod CodeBits
+pub mod CodeWords
+pub mod Comparing
+pub mod Counting
+pub mod Looking
+pub mod Made
+pub mod NextCodes
+pub mod Origins
+pub mod Reaches
+pub mod Searches
+pub mod Sets
+pub mod SignalBits

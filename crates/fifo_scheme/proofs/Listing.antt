@@ -1,0 +1,42 @@
+-- Crossings that are listed.
+use Rattle.std.proofs.Common.{◌≡◌, ◌∙◌, ◌↔◌, ap, ap₂, refl, subst, inl, inr, ◌⊎◌, Bool, true, false, ◌||◌, ◌&&◌, List, [], ◌∷◌, Contains}
+use Rattle.std.proofs.lemmas.Bool.{and_parts}
+use Rattle.cdc_base.specs.declared.bit.Bit.{Bit}
+use Rattle.cell_graph.specs.Reading.{bit_eq}
+use Rattle.cell_graph.proofs.Bits.{bit_eq-true, bit_eq-refl}
+use Rattle.cdc_model.specs.declared.scheme.Crossing.{Crossing}
+use Rattle.cdc_model.proofs.Ascending.{here, later, nothing_in, parts}
+use Rattle.fifo_laws.specs.Fifos.{is_crossing_between}
+use Rattle.fifo_scheme.specs.Found.{is_listed}
+
+one_of : (v w : Bool) → (v || w) ≡ true → (v ≡ true) ⊎ (w ≡ true)
+one_of true w h = inl refl
+one_of false w h = inr h
+
+either : (v w : Bool) → w ≡ true → (v || w) ≡ true
+either true w h = refl
+either false w h = h
+
+module _ (b x : Bit) where
+  abbrev between : Crossing
+  between = record { from = b; to = x }
+
+  is_between : (c : Crossing) → is_crossing_between b x c ≡ true → c ≡ between
+  is_between c h =
+      let e = and_parts (bit_eq c.from b) (bit_eq c.to x) h in
+      ap₂ (λ (f t : Bit). let k : Crossing = record { from = f; to = t } in k) (bit_eq-true c.from b e.0) (bit_eq-true c.to x e.1)
+
+  -- a list has the crossing where it is listed
+  pub listed_tells : (cs : List Crossing) → (is_listed cs b x ≡ true) ↔ Contains cs between
+  listed_tells [] = (λ h. cc, λ i. absurd (nothing_in between i))
+  listed_tells (c ∷ cs) = (
+    λ h. elim (one_of (is_crossing_between b x c) (is_listed cs b x) h) [
+      | inl p ↦ subst (Contains (c ∷ cs)) (is_between c p) (here c cs)
+      | inr p ↦ later c cs between ((listed_tells cs).0 p)
+    ],
+    λ i. elim (parts c cs between i) [
+      | inl e ↦ ap (λ (k : Crossing). is_crossing_between b x k || is_listed cs b x) e
+          ∙ ap₂ (λ u v. (u && v) || is_listed cs b x) (bit_eq-refl b) (bit_eq-refl x)
+      | inr j ↦ either (is_crossing_between b x c) (is_listed cs b x) ((listed_tells cs).1 j)
+    ],
+  )

@@ -1,0 +1,11 @@
+pub mod Candidates
+pub mod Ended
+pub mod Entries
+pub mod Extra
+pub mod Found
+pub mod Given
+pub mod Indexed
+pub mod Judged
+pub mod Lines
+pub mod Met
+pub mod Pairs

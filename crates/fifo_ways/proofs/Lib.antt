@@ -1,0 +1,11 @@
+pub mod Choices
+pub mod Decides
+pub mod Fed
+pub mod GuardLists
+pub mod Judged
+pub mod Passing
+pub mod Places
+pub mod RowBits
+pub mod Sames
+pub mod Steps
+pub mod Walk
