@@ -4,6 +4,8 @@
 #   design.sh blocks N       N blocks, each with a pipeline of 32 bits, a decoder, a Gray-coded counter and a channel
 #   design.sh chip N         N tiles: such a block with a checksum of what it received
 #   design.sh gates N        N gates and flops of one bit in one module, as synthesis writes them; each crossing has two flops
+#   design.sh fifos N        N FIFOs of 16 words of 32 bits, each with a register that takes the words
+#   design.sh no_fifos N     the same with pops that aren't gated: each read is V1
 #   design.sh doublings      a wire that is the exclusive or of the one before with itself, 64 times over, in trees of 2^64 leaves
 #   design.sh handshake      a handshake that carries two bits, 10 register bits in all
 #   design.sh record N       a record of N steps of it, or of channels, in each of which both clocks tick
@@ -134,6 +136,44 @@ end
 assign q = x;
 endmodule
 V
+}
+
+# Each FIFO is an instance of one module: Gray pointers through two flops, flags that are registers, a memory of 512 bits.
+fifos() {
+    cat <<'V'
+module fifo(input ca, cb, push, pop, input [31:0] d, output reg [31:0] q);
+  reg [31:0] mem [0:15];
+  reg [4:0] wbin = 0, wgray = 0, rgray_m = 0, rgray_s = 0, rbin = 0, rgray = 0, wgray_m = 0, wgray_s = 0;
+  reg full = 0, empty = 1;
+  wire [4:0] wbin_next = wbin + (push & ~full);
+  wire [4:0] wgray_next = wbin_next ^ (wbin_next >> 1);
+  wire [4:0] rbin_next = rbin + (pop & ~empty);
+  wire [4:0] rgray_next = rbin_next ^ (rbin_next >> 1);
+  always @(posedge ca) begin
+    {wbin, wgray, rgray_s, rgray_m} <= {wbin_next, wgray_next, rgray_m, rgray};
+    full <= wgray_next == {~rgray_s[4:3], rgray_s[2:0]};
+    if (push && !full) mem[wbin[3:0]] <= d;
+  end
+  always @(posedge cb) begin
+    {rbin, rgray, wgray_s, wgray_m} <= {rbin_next, rgray_next, wgray_m, wgray};
+    empty <= rgray_next == wgray_s;
+    if (pop && !empty) q <= mem[rbin[3:0]];
+  end
+endmodule
+V
+    awk -v n="$1" 'BEGIN {
+        print "module m(input ca, cb, send, input [7:0] d);"
+        print "reg pop = 0; reg [31:0] word = 0;"
+        print "always @(posedge cb) pop <= ~pop;"
+        print "always @(posedge ca) word <= {word[23:0], d};"
+        for (i = 0; i < n; i++) printf "wire [31:0] q%d; fifo u%d(ca, cb, send, pop, word ^ 32\047d%d, q%d);\n", i, i, i, i
+        print "endmodule"
+    }'
+}
+
+# The same with a pop that isn't gated, so that none of them is recognised.
+no_fifos() {
+    fifos "$1" | sed -e 's/ & ~empty//' -e 's/ && !empty//'
 }
 
 record() {

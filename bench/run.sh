@@ -2,6 +2,7 @@
 # Processor time and peak memory of the program, a line a run: what was run, seconds, MiB, and the last line that it printed.
 # Where iverilog is installed, its own reading of the same netlist (-g2005 -t null) stands beside it, for two minutes at most.
 #   run.sh [PROGRAM]             the designs
+#   run.sh [PROGRAM] fifos       those with FIFOs alone, and the same without
 #   run.sh [PROGRAM] hostile     the texts that ask for trouble
 set -eu
 cd "$(dirname "${BASH_SOURCE[0]}")"
@@ -47,7 +48,19 @@ replay() {
     updates=$(($2 * $1)) timed "replay of $1 steps of $3" "$program" replay "$room/net.v" "$room/con.toml" "$room/run.json"
 }
 
+# FIFOs of 16 words of 32 bits, recognised and not: the search for FIFOs and the findings are what differs.
+fifos() {
+    for count in 100 500; do
+        audit fifos "$count"
+        audit no_fifos "$count"
+    done
+}
+
 ./design.sh constraints >"$room/con.toml"
+if [ "${2:-}" = fifos ]; then
+    fifos
+    exit
+fi
 if [ "${2:-}" = hostile ]; then
     for kind in identifier parentheses comment spaces ports labels drivers wires deep; do
         ./design.sh hostile "$kind" >"$room/net.v"
@@ -73,6 +86,7 @@ done
 for count in 880 3520 14080; do
     audit chip "$count"
 done
+fifos
 audit gates 1000000
 audit doublings
 replay 100000 10 handshake

@@ -37,7 +37,7 @@ expect "the waveform of torn_data" ../tests/torn_data.vcd < <(replay | ../tools/
 expect "the picture of torn_data" ../docs/torn_data.svg \
     < <(../tools/wave-svg ca cb req s1 s2 k1 k2 data s3 'races.race_x[1]' x <../tests/torn_data.vcd)
 expect "a refusal as a replay" <(echo "replay-to-vcd: no text of a replay: $refusal") < <(echo "$refusal" | ../tools/replay-to-vcd 2>&1)
-for name in binary_counter chip patterns; do
+for name in binary_counter chip fifo_both_ways patterns; do
     expect "the report of $name" "../tests/$name.rows" < <(page "$name" | ../tests/table_rows)
 done
 expect "the report of a refusal" <(echo "report: no verdict: $refusal") < <(page no_netlist 2>&1)

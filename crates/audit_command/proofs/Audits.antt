@@ -1,9 +1,8 @@
 -- The status that an audit answers, from its verdict.
-use Rattle.std.proofs.Common.{◌≡◌, ◌≢◌, ℕ, ◌==◌, Bool, true, false, List, [], ◌∷◌, length, map, Option, is_some, Result, Ok, Err, refl, sym, subst, arith}
-use Rattle.std.specs.Prelude.{IfOk, if◌then◌else◌}
+use Rattle.std.proofs.Common.{◌≡◌, ◌≢◌, ◌∙◌, ℕ, ◌==◌, Bool, true, false, List, [], ◌∷◌, length, map, Option, is_some, Ok, refl, sym, ap, subst, arith}
+use Rattle.std.specs.Prelude.{if◌then◌else◌}
 use Rattle.std.specs.List.{list_all}
 use Rattle.cdc_base.specs.declared.bit.Bit.{Bit}
-use Rattle.cdc_base.specs.declared.fault.Stop.{Stop}
 use Rattle.cell_graph.specs.declared.net.Net.{Net}
 use Rattle.clock_constraints.specs.declared.Constraints.{Constraints}
 use Rattle.domains.specs.declared.Domains.{Domains}
@@ -12,13 +11,11 @@ use Rattle.cdc_model.specs.declared.scheme.Ring.{Ring}
 use Rattle.cdc_model.specs.declared.verdict.Finding.{Finding as FindingEntry}
 use Rattle.cdc_model.specs.declared.verdict.Verdict.{Verdict as VerdictEntry}
 use Rattle.cdc_model.specs.Design.{Design}
-use Rattle.cdc_model.specs.Facts.{none_extra}
 use Rattle.cdc_model.specs.Listed.{AreEntries, IsVerdictOf}
-use Rattle.cdc_model.specs.Nets.{design_of, is_register_bit, net_trees}
+use Rattle.cdc_model.specs.Nets.{design_of, net_trees}
 use Rattle.cdc_model.specs.Runs.{Trace, IsRun}
 use Rattle.cdc_model.specs.Schemes.{Sync, Trees, ring_bits}
 use Rattle.cdc_model.specs.Sound.{Sound}
-use Rattle.cdc_model.specs.Together.{IsTogether}
 use Rattle.cdc_model.specs.Verdict.{Finding}
 use Rattle.cdc_model.proofs.Listing.{clean_listed, listed_bits}
 use Rattle.flat_meaning.specs.Design.{Flat}
@@ -26,23 +23,18 @@ use Rattle.flat_meaning.specs.Trees.{Selects}
 use Rattle.flat_model.specs.Laws.{IsNetOf}
 use Rattle.flat_model.proofs.Meanings.{is_net_run_of, net_run_of, register_same, sound_meaning, together_meaning, verdict_meaning}
 use Rattle.flat_model.proofs.NetDesign.{has_meaning}
+use Rattle.net_verdict.specs.declared.Judged.{Judged}
+use Rattle.net_verdict.specs.Fifos.{is_of_fifo}
+use Rattle.net_verdict.specs.Judged.{IsJudged}
+use Rattle.net_verdict.specs.Verdicts.{IsVerdictOn}
 use Rattle.obligations.specs.Judged.{CanAudit}
 use Rattle.report.specs.Waived.{set_aside}
 use Rattle.command_files.specs.declared.status.Status.{Status}
 use Rattle.command_files.specs.declared.status.Status.TheVariants.{Done, Violations, Waived}
-use Rattle.audit_command.specs.Audits.{IsAuditOf, IsSoundBy, IsStatusOf, IsTogetherBy, IsVerdictOn, audited_status, text_of}
+use Rattle.audit_command.specs.Audits.{IsAuditOf, IsSoundBy, IsStatusOf, IsTogetherBy, audited_status, text_of}
+use Rattle.audit_command.proofs.FifoOrder.{in_order_by}
 use Rattle.described_design.specs.Designs.{IsDesignOf}
 use Rattle.described_design.proofs.Described.{net_of_design}
-
--- what the audit promises of its verdict
-pub on_design : (net : Net) (domains : Domains) → CanAudit net domains → (r : Result VerdictEntry Stop)
-    → IfOk r (λ e. CanAudit net domains → IsVerdictOf net domains none_extra e)
-    → IfOk r (λ e. CanAudit net domains → e.findings ≡ [] → Sound (design_of net domains) e.covers (map (λ (r : Ring). r.bits) e.rings) none_extra)
-    → IfOk r (λ e. CanAudit net domains → (is : IsVerdictOf net domains none_extra e) → e.findings ≡ [] → (run : Trace) → IsRun (design_of net domains) run
-    → (x : Bit) → is_register_bit net x ≡ true → (group depth : ℕ) → IsTogether (design_of net domains) (net_trees net is.grays) is.syncs run x group depth)
-    → IfOk r (IsVerdictOn none_extra net domains)
-on_design net domains can (Ok e) exact sound together = record { exact = exact can; sound = sound can; together = together can (exact can) }
-on_design net domains can (Err s) exact sound together = tt
 
 -- where findings are listed there are some
 some_listed : (net : Net) (d : Design) (t : Trees) (syncs : List Sync) (fs : List Finding) (e : FindingEntry) (es : List FindingEntry)
@@ -86,16 +78,32 @@ module _ (f : Flat) (sel : Selects) (c : Constraints) (net : Net) (domains : Dom
       (found_some (list_all is_some aside) (some_listed net (design_of net domains) (net_trees net w.grays) w.syncs w.verdict.findings x es
       (subst (AreEntries net (design_of net domains) (net_trees net w.grays) w.syncs w.verdict.findings) found w.is_listed.findings)))
 
+-- only where nothing was found the audit is done
+done_clean : (es : List FindingEntry) (aside : List (Option ℕ)) → audited_status (length es) aside ≡ Done → es ≡ []
+done_clean [] aside h = refl
+done_clean (e ∷ es) aside h = absurd (found (list_all is_some aside)
+    (subst (λ (none : Bool). (if none then Done else (if list_all is_some aside then Waived else Violations)) ≡ Done) some h))
+  where
+    some : (length (e ∷ es) == 0) ≡ false
+    some = grind arith
+
+    found : (waived : Bool) → (if waived then Waived else Violations) ≡ Done → ⊥
+    found true k = cc
+    found false k = cc
+
 -- an audit of the design that the texts describe
-pub audited_texts : (json : Bool) (word text con : List ℕ) (c : Constraints) (net : Net) (domains : Domains) (e : VerdictEntry)
+pub audited_texts : (json : Bool) (word text con : List ℕ) (c : Constraints) (net : Net) (domains : Domains) (j : Judged)
     (aside : List (Option ℕ)) (s : Status) (answer : List ℕ)
-    → IsDesignOf word text con c net domains → (CanAudit net domains → IsVerdictOn none_extra net domains e)
-    → set_aside net domains e.findings c.waivers ≡ Ok aside → s ≡ audited_status (length e.findings) aside
-    → answer ≡ text_of json net domains e c.waivers aside → IsAuditOf json word text con s answer
-audited_texts json word text con c net domains e aside s answer design judged waived is told =
+    → IsDesignOf word text con c net domains → (CanAudit net domains → IsJudged net domains j)
+    → set_aside net domains j.verdict.findings c.waivers ≡ Ok aside → s ≡ audited_status (length j.verdict.findings) aside
+    → answer ≡ text_of json net domains j.verdict j.lines c.waivers aside → IsAuditOf json word text con s answer
+audited_texts json word text con c net domains j aside s answer design judged waived is told =
     let flat = design.of_modules.flat in
     let (sel, is_net) = net_of_design design.modules c net domains design.design design.of_modules in
-    let on = judged design.design.can_audit in
+    let all = judged design.design.can_audit in
+    let extra = is_of_fifo all.fifos in
+    let e = j.verdict in
+    let on = all.on in
     record {
       constraints = c;
       net = net;
@@ -103,11 +111,14 @@ audited_texts json word text con c net domains e aside s answer design judged wa
       design = design;
       meaning = has_meaning flat sel c net domains is_net;
       listed = e;
+      fifos = all.fifos;
+      are_fifos = all.are_fifos;
       is_verdict = on.exact;
-      exact = verdict_meaning flat sel c net domains is_net none_extra e on.exact;
-      told = subst (IsStatusOf flat c net domains none_extra e on.exact) (sym is) (told_by flat sel c net domains is_net none_extra e on aside e.findings refl);
+      exact = verdict_meaning flat sel c net domains is_net extra e on.exact;
+      told = subst (IsStatusOf flat c net domains extra e on.exact) (sym is) (told_by flat sel c net domains is_net extra e on aside e.findings refl);
+      in_order = λ done fifo i. in_order_by flat sel c net domains is_net extra e on.exact fifo (all.in_order (done_clean e.findings aside (sym is ∙ done)) fifo i);
       aside = aside;
       waived = waived;
       status_is = is;
-      answer_is = told;
+      answer_is = told ∙ ap (λ (lines : List (List ℕ)). text_of json net domains e lines c.waivers aside) all.lines;
     }

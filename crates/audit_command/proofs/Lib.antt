@@ -1,2 +1,4 @@
 pub mod Audits
+pub mod FifoNext
+pub mod FifoOrder
 pub mod Refused

@@ -10,10 +10,9 @@ use Rattle.clock_constraints.specs.declared.Constraints.{Constraints as Constrai
 use Rattle.clock_constraints.specs.Refusals.{Gives}
 use Rattle.domains.specs.declared.Domains.{Domains}
 use Rattle.domains.specs.Assignment.{Refuses}
-use Rattle.cdc_model.specs.declared.verdict.Verdict.{Verdict}
-use Rattle.cdc_model.specs.Facts.{none_extra}
 use Rattle.cdc_model.specs.Found.{crossings_of}
-use Rattle.cdc_model.specs.Listed.{IsVerdictOf}
+use Rattle.net_verdict.specs.declared.Judged.{Judged}
+use Rattle.net_verdict.specs.Judged.{IsJudged}
 use Rattle.obligations.specs.Judged.{CanAudit}
 use Rattle.report.specs.Waived.{set_aside}
 use Rattle.command_files.specs.declared.answer.Ending.{Ending}
@@ -24,17 +23,17 @@ use Rattle.described_design.specs.Designs.{IsDesignOf}
 use Rattle.described_design.specs.Refused.{AreTextsRefused}
 use Rattle.audit_command.specs.Refused.{AreTooMany, IsVerdictRefused, crossings, waivers, IsAuditRefused, texts, verdict}
 
-pub crossings_cause : (net : Net) (d : Domains) → CanAudit net d → (given : Result Verdict Stop)
+pub crossings_cause : {T : Type 0} (net : Net) (d : Domains) → CanAudit net d → (given : Result T Stop)
     → IfErr given (HasNumber 603 (CanAudit net d → MAX_CROSSINGS < length (crossings_of net d))) → IfErr given (Refuses (λ f. AreTooMany net d f Netlist))
 crossings_cause net d can (Ok v) h = tt
 crossings_cause net d can (Err (stop.Refused f)) h = record { of_netlist = refl; number = h.0; many = h.1 can }
 crossings_cause net d can (Err stop.Memory) h = tt
 
-pub waivers_cause : (c : ConstraintsOf) (net : Net) (d : Domains) (v : Verdict) → IsVerdictOf net d none_extra v → (given : Result (List (Option ℕ)) Stop)
-    → Gives given (set_aside net d v.findings c.waivers) → IfErr given (Refuses (λ f. IsVerdictRefused c net d f Constraints))
-waivers_cause c net d v is (Ok a) h = tt
-waivers_cause c net d v is (Err (stop.Refused f)) h = waivers refl v is h
-waivers_cause c net d v is (Err stop.Memory) h = tt
+pub waivers_cause : (c : ConstraintsOf) (net : Net) (d : Domains) (j : Judged) → IsJudged net d j → (given : Result (List (Option ℕ)) Stop)
+    → Gives given (set_aside net d j.verdict.findings c.waivers) → IfErr given (Refuses (λ f. IsVerdictRefused c net d f Constraints))
+waivers_cause c net d j is (Ok a) h = tt
+waivers_cause c net d j is (Err (stop.Refused f)) h = waivers refl j.verdict is.fifos is.are_fifos is.on.exact h
+waivers_cause c net d j is (Err stop.Memory) h = tt
 
 module _ (word text con : List ℕ) where
   pub texts_refused : {T : Type 0} (r : Result T Ending) → IfErr r (HasCause (λ s f. AreTextsRefused word text con f s))

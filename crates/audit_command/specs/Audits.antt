@@ -1,27 +1,33 @@
 -- What an audit answers, by the verdict on the design that a netlist's text describes under constraints.
-use Rattle.std.specs.Prelude.{◌≡◌, ◌≢◌, ◌==◌, ℕ, Bool, true, List, [], length, map, Option, Ok, is_some, if◌then◌else◌}
+use Rattle.std.specs.Prelude.{◌≡◌, ◌≢◌, ◌==◌, ℕ, ◌++◌, Bool, true, List, [], length, map, Contains, Option, Ok, is_some, if◌then◌else◌}
 use Rattle.std.specs.List.{list_all}
 use Rattle.cdc_base.specs.declared.bit.Bit.{Bit}
 use Rattle.clock_constraints.specs.declared.Constraints.{Constraints}
 use Rattle.clock_constraints.specs.declared.Waiver.{Waiver}
 use Rattle.cell_graph.specs.declared.net.Net.{Net}
+use Rattle.cell_graph.specs.Cells.{Cells}
+use Rattle.cell_graph.specs.Reading.{Reading}
 use Rattle.domains.specs.declared.Domains.{Domains}
 use Rattle.cdc_model.specs.declared.scheme.GrayReg.{GrayReg}
-use Rattle.cdc_model.specs.declared.scheme.Ring.{Ring}
 use Rattle.cdc_model.specs.declared.verdict.Verdict.{Verdict as VerdictEntry}
 use Rattle.cdc_model.specs.Design.{Design}
-use Rattle.cdc_model.specs.Facts.{none_extra}
 use Rattle.cdc_model.specs.Listed.{IsVerdictOf}
-use Rattle.cdc_model.specs.Nets.{design_of, is_register_bit, net_trees}
-use Rattle.cdc_model.specs.Runs.{Trace, IsRun}
+use Rattle.cdc_model.specs.Runs.{State, Trace, Start, Then, IsRun}
 use Rattle.cdc_model.specs.Schemes.{Sync, ring_bits}
 use Rattle.cdc_model.specs.Sound.{Sound}
 use Rattle.cdc_model.specs.Together.{IsTogether}
 use Rattle.cdc_model.specs.Verdict.{Verdict}
-use Rattle.flat_meaning.specs.Design.{Flat}
-use Rattle.flat_model.specs.Designs.{HasVerdict, IsMeaning, flat_trees}
+use Rattle.fifo_laws.specs.Fifos.{Fifo, IsFifo}
+use Rattle.fifo_laws.specs.Order.{IsWithinDepth, ReadsOldest}
+use Rattle.fifo_scheme.specs.declared.found.Fifo.{Fifo as FifoEntry}
+use Rattle.fifo_scheme.specs.Entries.{IsEntry}
+use Rattle.fifo_scheme.specs.Lines.{fifo_lines_from}
+use Rattle.flat_meaning.specs.Design.{Flat, given}
+use Rattle.flat_model.specs.Clocked.{pins_of}
+use Rattle.flat_model.specs.Designs.{HasVerdict, IsMeaning, flat_trees, next_tree}
+use Rattle.net_verdict.specs.Fifos.{AreFifosOf, is_of_fifo}
 use Rattle.report.specs.VerdictJson.{verdict_json}
-use Rattle.report.specs.VerdictText.{verdict_text}
+use Rattle.report.specs.VerdictText.{ended, verdict_text}
 use Rattle.report.specs.Waived.{set_aside}
 use Rattle.command_files.specs.declared.status.Status.{Status}
 use Rattle.command_files.specs.declared.status.Status.TheVariants.{Done, Violations, Waived}
@@ -32,14 +38,6 @@ abbrev pub audited_status : ℕ → List (Option ℕ) → Status
 audited_status findings aside =
     if findings == 0 then Done else (if list_all is_some aside then Waived else Violations)
 
--- The verdict on a net with its domains. Where nothing was found, the net's design is sound by its covers and rings, and what meets behind its
--- synchronizers belongs to one moment.
-pub record IsVerdictOn (extra : Bit → Bit → Bool) (net : Net) (domains : Domains) (verdict : VerdictEntry) : Type 0 where
-  pub exact : IsVerdictOf net domains extra verdict
-  pub sound : verdict.findings ≡ [] → Sound (design_of net domains) verdict.covers (map (λ (r : Ring). r.bits) verdict.rings) extra
-  pub together : verdict.findings ≡ [] → (run : Trace) → IsRun (design_of net domains) run → (x : Bit) → is_register_bit net x ≡ true → (group depth : ℕ)
-      → IsTogether (design_of net domains) (net_trees net exact.grays) exact.syncs run x group depth
-
 -- whatever the flat design means under the constraints is sound by the covers and rings of a verdict
 abbrev pub IsSoundBy : Flat → Constraints → (Bit → Bit → Bool) → Verdict → Type 0
 IsSoundBy f c extra verdict = (d : Design) → IsMeaning f c d → Sound d verdict.covers (map ring_bits verdict.rings) extra
@@ -48,6 +46,34 @@ IsSoundBy f c extra verdict = (d : Design) → IsMeaning f c d → Sound d verdi
 abbrev pub IsTogetherBy : Flat → Constraints → (GrayReg → Bool) → List Sync → Type 0
 IsTogetherBy f c grays syncs = (d : Design) (m : IsMeaning f c d) (run : Trace) → IsRun d run → (x : Bit) → d.is_register x ≡ true → (group depth : ℕ)
     → IsTogether d (flat_trees f m.sel grays) syncs run x group depth
+
+-- the reading with each clock pin and reset at its level; wires, which no tree reads, are 0
+abbrev pub levels_of : (f : Flat) (c : Constraints) (d : Design) → IsMeaning f c d → Reading → Reading
+levels_of f c d m = given f (pins_of f c m.roles)
+
+-- a state, and a run, at such levels
+abbrev pub state_at : (levels : Reading → Reading) → State → State
+state_at levels s = record { values = levels s.values; left = s.left }
+
+abbrev pub run_at : (levels : Reading → Reading) → Trace → Trace
+run_at levels (Start s) = Start (state_at levels s)
+run_at levels (Then past edges s) = Then (run_at levels past) edges (state_at levels s)
+
+-- The entry's FIFO is one of the design that the flat one means. In every run no more is popped from it than was pushed, no more is pushed than has
+-- room, and what its readers take is the oldest word. What a word takes may read a reset, which stands in a reading as any value, and only next values
+-- see it at its level: so that is told of the run at levels.
+pub record KeepsOrder (f : Flat) (c : Constraints) (d : Design) (m : IsMeaning f c d) (g : Cells) (syncs : List Sync) (grays : List GrayReg) (e : FifoEntry)
+    : Type 0 where
+  pub fifo : Fifo
+  pub is_fifo : IsFifo d (next_tree f m.sel) syncs grays fifo
+  pub entry : IsEntry g fifo e
+  pub within : (run : Trace) → IsRun d run → IsWithinDepth fifo run
+  pub oldest : (past : Trace) (edges : ℕ → Bool) (new : State) → IsRun d (Then past edges new)
+      → ReadsOldest d fifo (run_at (levels_of f c d m) past) edges (state_at (levels_of f c d m) new)
+
+-- in each run of all that the flat design means, words go through the FIFO in order
+abbrev pub IsInOrderBy : Flat → Constraints → Cells → List Sync → List GrayReg → FifoEntry → Type 0
+IsInOrderBy f c g syncs grays e = (d : Design) (m : IsMeaning f c d) → KeepsOrder f c d m g syncs grays e
 
 -- the flat design is clean by the verdict of its net
 pub record IsClean (f : Flat) (c : Constraints) (net : Net) (domains : Domains) (extra : Bit → Bit → Bool) (listed : VerdictEntry) (w : IsVerdictOf net domains extra listed) : Type 0 where
@@ -62,10 +88,10 @@ IsStatusOf f c net domains extra listed w Violations = w.verdict.findings ≢ []
 IsStatusOf f c net domains extra listed w Waived = w.verdict.findings ≢ []
 IsStatusOf f c net domains extra listed w _ = ⊥
 
--- a verdict in the form that was asked for
-abbrev pub text_of : Bool → Net → Domains → VerdictEntry → List Waiver → List (Option ℕ) → List ℕ
-text_of json net domains verdict waivers aside =
-    if json then verdict_json net domains verdict waivers aside [] else verdict_text net domains verdict waivers aside
+-- a verdict in the form that was asked for, with the lines of its FIFOs, which stand before all others in the text
+abbrev pub text_of : Bool → Net → Domains → VerdictEntry → List (List ℕ) → List Waiver → List (Option ℕ) → List ℕ
+text_of json net domains verdict lines waivers aside =
+    if json then verdict_json net domains verdict waivers aside lines else ended lines ++ verdict_text net domains verdict waivers aside
 
 -- The audit of the design which a netlist's bytes describe, under the constraints of a file with this word and these bytes. Nothing but `design` speaks of
 -- the word and the bytes, so two files with equal constraints, in TOML or in SDC, have the same answers.
@@ -74,14 +100,18 @@ pub record IsAuditOf (json : Bool) (word text con : List ℕ) (status : Status) 
   pub net : Net
   pub domains : Domains
   pub design : IsDesignOf word text con constraints net domains
-  -- the flat design that the modules unfold to means something, and the verdict is that of all that it means
+  -- the flat design that the modules unfold to means something, and the verdict over all FIFOs is that of all that it means
   pub meaning : (d : Design) × IsMeaning design.of_modules.flat constraints d
   pub listed : VerdictEntry
-  pub is_verdict : IsVerdictOf net domains none_extra listed
-  pub exact : (d : Design) (m : IsMeaning design.of_modules.flat constraints d) → HasVerdict design.of_modules.flat m.sel d none_extra is_verdict.verdict
-  pub told : IsStatusOf design.of_modules.flat constraints net domains none_extra listed is_verdict status
+  pub fifos : List FifoEntry
+  pub are_fifos : AreFifosOf net domains listed.grays fifos
+  pub is_verdict : IsVerdictOf net domains (is_of_fifo fifos) listed
+  pub exact : (d : Design) (m : IsMeaning design.of_modules.flat constraints d) → HasVerdict design.of_modules.flat m.sel d (is_of_fifo fifos) is_verdict.verdict
+  pub told : IsStatusOf design.of_modules.flat constraints net domains (is_of_fifo fifos) listed is_verdict status
+  -- where the design is clean, words go through each of the FIFOs in order
+  pub in_order : status ≡ Done → (e : FifoEntry) → Contains fifos e → IsInOrderBy design.of_modules.flat constraints net.graph is_verdict.syncs listed.grays e
   -- each waiver meets a finding, and by what they set aside the status and the text are fixed
   pub aside : List (Option ℕ)
   pub waived : set_aside net domains listed.findings constraints.waivers ≡ Ok aside
   pub status_is : status ≡ audited_status (length listed.findings) aside
-  pub answer_is : answer ≡ text_of json net domains listed constraints.waivers aside
+  pub answer_is : answer ≡ text_of json net domains listed (fifo_lines_from net.graph.signals 1 fifos) constraints.waivers aside

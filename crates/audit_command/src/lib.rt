@@ -1,32 +1,34 @@
 //! The command `audit`: the verdict on a netlist under its constraints.
 #![tactic(auto)]
 
-ghost use Rattle.std.specs.Prelude.{◌≡◌, ◌≤◌, length, is_some, MatchResult, IfOk, IfErr};
+ghost use Rattle.std.specs.Prelude.{◌≡◌, ◌≤◌, ◌++◌, length, is_some, MatchResult, IfOk, IfErr};
 ghost use Rattle.std.specs.List.{list_all};
-ghost use Rattle.cdc_model.specs.Facts.{none_extra};
 ghost use Rattle.obligations.specs.Judged.{CanAudit};
 ghost use Rattle.command_files.specs.Endings.{HasCause, IsEndOfBoth, IsOfFiles};
 ghost use Rattle.command_files.specs.Files.{Seen, max_bytes};
 ghost use Rattle.command_files.specs.Statuses.{IsEnd};
-ghost use Rattle.audit_command.specs.Audits.{IsAuditOf, IsVerdictOn, audited_status, text_of};
+ghost use Rattle.audit_command.specs.Audits.{IsAuditOf, audited_status, text_of};
 ghost use Rattle.audit_command.specs.Refused.{AreTooMany, IsAuditRefused};
+ghost use Rattle.net_verdict.specs.Judged.{IsJudged};
+ghost use Rattle.report.specs.VerdictText.{ended};
 
-use cdc_base::{Files, List, NoMemory};
-use cdc_model::Verdict;
+use cdc_base::{Files, List, Name, NoMemory};
 use cell_graph::Net;
 use clock_constraints::Waiver;
 use command_files::{Answer, Ending, Status, or_refused, read_both};
 use described_design::design_of_texts;
 use domains::Domains;
+use net_verdict::{Judged, judge};
+use report::text::Text;
 use std::alloc::Global;
 
-/// The verdict on a net with its domains. Refused as the netlist where it has too many crossings.
-pub fn verdict_on(alloc: Global, net: &Net, domains: &Domains) -> Result<Verdict, Ending>
+/// The verdict on a net with its domains and all its FIFOs. Refused as the netlist where it has too many crossings.
+fn verdict_on(alloc: Global, net: &Net, domains: &Domains) -> Result<Judged, Ending>
     ensures of_files { IfErr result IsOfFiles }
-    ensures exact { CanAudit net.now domains.now → IfOk result (IsVerdictOn none_extra net.now domains.now) }
+    ensures exact { CanAudit net.now domains.now → IfOk result (IsJudged net.now domains.now) }
     ensures refused { CanAudit net.now domains.now → IfErr result (HasCause (λ status fault. AreTooMany net.now domains.now fault status)) }
 {
-    or_refused(Status::Netlist, obligations::audit(alloc, net, domains))
+    or_refused(Status::Netlist, judge(alloc, net, domains))
 }
 
 /// Whether a waiver sets each finding aside.
@@ -55,22 +57,38 @@ fn audited(findings: usize, aside: &[Option<u32>]) -> Status
     }
 }
 
-/// The verdict in the form that was asked for.
+/// Each of the lines with a line feed, and then the text.
+fn with_lines(alloc: Global, lines: &[Name], text: &[u8]) -> Result<List<u8>, NoMemory>
+    ensures { IfOk result (λ whole. whole ≡ ended lines.now ++ text.now) }
+{
+    let mut whole = Text::new(alloc);
+    for line in lines {
+        whole.add(line.as_str())?;
+        whole.add("\n")?;
+    }
+    whole.add_bytes(text)?;
+    Ok(whole.into_list())
+}
+
+/// The verdict in the form that was asked for, with the lines of its FIFOs.
 fn verdict_text(
     alloc: Global,
     json: bool,
     net: &Net,
     domains: &Domains,
-    verdict: &Verdict,
+    judged: &Judged,
     waivers: &[Waiver],
     aside: &[Option<u32>],
 ) -> Result<List<u8>, NoMemory>
-    ensures { IfOk result (λ text. text ≡ text_of json net.now domains.now verdict.now waivers.now aside.now) }
+    ensures { IfOk result (λ text. text ≡ text_of json net.now domains.now judged.now.verdict judged.now.lines waivers.now aside.now) }
 {
+    let verdict = &judged.verdict;
+    let lines = judged.lines.as_slice();
     if json {
-        report::verdict_json(alloc, net, domains, verdict, waivers, aside, &[])
+        report::verdict_json(alloc, net, domains, verdict, waivers, aside, lines)
     } else {
-        report::verdict_text(alloc, net, domains, verdict, waivers, aside)
+        let text = report::verdict_text(alloc, net, domains, verdict, waivers, aside)?;
+        with_lines(alloc, lines, text.as_slice())
     }
 }
 
@@ -90,20 +108,26 @@ fn audit_texts(
 {
     let design = design_of_texts(alloc, word, net, con)?;
     let waivers = design.constraints.waivers.as_slice();
-    let verdict = verdict_on(alloc, &design.net, &design.domains)?;
-    let aside = report::set_aside(alloc, &design.net, &design.domains, &verdict, waivers);
+    let judged = verdict_on(alloc, &design.net, &design.domains)?;
+    let aside = report::set_aside(
+        alloc,
+        &design.net,
+        &design.domains,
+        &judged.verdict,
+        waivers,
+    );
     let aside = or_refused(Status::Constraints, aside)?;
     let text = verdict_text(
         alloc,
         json,
         &design.net,
         &design.domains,
-        &verdict,
+        &judged,
         waivers,
         aside.as_slice(),
     )?;
     Ok(Answer {
-        status: audited(verdict.findings.len(), aside.as_slice()),
+        status: audited(judged.verdict.findings.len(), aside.as_slice()),
         text,
     })
 }

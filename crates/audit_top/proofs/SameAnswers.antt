@@ -48,9 +48,12 @@ module _ (net word con other_word other_con : List ℕ) (also : HaveSameConstrai
     design = same a.constraints a.net a.domains a.design;
     meaning = a.meaning;
     listed = a.listed;
+    fifos = a.fifos;
+    are_fifos = a.are_fifos;
     is_verdict = a.is_verdict;
     exact = a.exact;
     told = a.told;
+    in_order = a.in_order;
     aside = a.aside;
     waived = a.waived;
     status_is = a.status_is;

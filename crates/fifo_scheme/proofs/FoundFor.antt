@@ -1,7 +1,5 @@
 -- FIFOs that were found fit the design and the lists, and have their order.
 use Rattle.std.proofs.Common.{◌≡◌, ◌∙◌, ◌↔◌, inl, inr, sym, ap, subst, refl, Bool, true, false, List, [], ◌∷◌, map, Contains}
-use Rattle.std.proofs.lemmas.Bool.{or_left, or_right, or_cases}
-use Rattle.cdc_base.specs.declared.bit.Bit.{Bit}
 use Rattle.cell_graph.specs.declared.net.Net.{Net}
 use Rattle.domains.specs.declared.Domains.{Domains}
 use Rattle.cdc_model.specs.declared.scheme.Crossing.{Crossing}
@@ -19,38 +17,15 @@ use Rattle.fifo_laws.proofs.Step.{all_kept}
 use Rattle.fifo_scheme.specs.declared.found.Fifo.{Fifo as Entry}
 use Rattle.fifo_scheme.specs.Entries.{IsCrossingOfOne, IsListedFifo}
 use Rattle.fifo_scheme.specs.Found.{AreThose, Found, HasOrder, IsFoundFor, is_listed}
-use Rattle.fifo_scheme.proofs.Listing.{listed_tells}
+use Rattle.fifo_scheme.proofs.Listing.{HasCrossing, between, listed_tells, one_tells, one_truth}
 
-one_truth : (v w : Bool) (P : Type 0) → (v ≡ true) ↔ P → (w ≡ true) ↔ P → v ≡ w
-one_truth true true P h k = refl
-one_truth false false P h k = refl
-one_truth true false P h k = sym (k.1 (h.0 refl))
-one_truth false true P h k = h.1 (k.0 refl)
-
-abbrev between : Bit → Bit → Crossing
-between b x = record { from = b; to = x }
-
--- some FIFO has the crossing
-abbrev HasCrossing : List Fifo → Crossing → Type 0
-HasCrossing fifos c = (f : Fifo) × Contains fifos f × Contains f.crossings c
-
-fifos_tell : (fifos : List Fifo) (b x : Bit) → (is_fifo_crossing fifos b x ≡ true) ↔ HasCrossing fifos (between b x)
-fifos_tell [] b x = (λ h. cc, λ h. absurd (nothing_in h.0 h.1))
-fifos_tell (f ∷ fs) b x = (
-  λ h. elim (or_cases (is_listed f.crossings b x) (is_fifo_crossing fs b x) h) [
-    | inl k ↦ (f, here f fs, (listed_tells b x f.crossings).0 k)
-    | inr k ↦ (let r = (fifos_tell fs b x).0 k in (r.0, later f fs r.0 r.1, r.2))
-  ],
-  λ h. elim (parts f fs h.0 h.1) [
-    | inl same ↦ or_left (is_listed f.crossings b x) (is_fifo_crossing fs b x) ((listed_tells b x f.crossings).1 (subst (λ (g : Fifo). Contains g.crossings (between b x)) (sym same) h.2))
-    | inr k ↦ or_right (is_listed f.crossings b x) (is_fifo_crossing fs b x) ((fifos_tell fs b x).1 (h.0, k, h.2))
-  ],
-)
+abbrev HasCrossingOf : List Fifo → Crossing → Type 0
+HasCrossingOf = HasCrossing (λ (f : Fifo). f.crossings)
 
 module _ (net : Net) (domains : Domains) (syncs : List Sync) (grays : List GrayReg) where
   -- the FIFOs of entries
   fifos_of_entries : (es : List Entry) → ((e : Entry) → Contains es e → IsListedFifo net domains syncs grays e)
-      → (fs : List Fifo) × AreFifos (design_of net domains) (next_tree net) syncs grays fs × ((c : Crossing) → IsCrossingOfOne es c ↔ HasCrossing fs c)
+      → (fs : List Fifo) × AreFifos (design_of net domains) (next_tree net) syncs grays fs × ((c : Crossing) → IsCrossingOfOne es c ↔ HasCrossingOf fs c)
   fifos_of_entries [] listed = ([], (λ f i. absurd (nothing_in f i)), λ c. ((λ h. absurd (nothing_in h.0 h.1)), λ h. absurd (nothing_in h.0 h.1)))
   fifos_of_entries (e ∷ es) listed =
       let rest = fifos_of_entries es (λ d i. listed d (later e es d i)) in
@@ -76,12 +51,12 @@ module _ (net : Net) (domains : Domains) (syncs : List Sync) (grays : List GrayR
       record {
         fifos = fs.0;
         are_fifos = fs.1;
-        crossings_are = λ b x. one_truth (is_listed crossings b x) (is_fifo_crossing fs.0 b x) (HasCrossing fs.0 (between b x))
+        crossings_are = λ b x. one_truth (is_listed crossings b x) (is_fifo_crossing fs.0 b x) (HasCrossingOf fs.0 (between b x))
             ((λ h. (fs.2 (between b x)).0 ((all (between b x)).0 ((listed_tells b x crossings).0 h))), λ h. (listed_tells b x crossings).1 ((all (between b x)).1 ((fs.2 (between b x)).1 h)))
-            (fifos_tell fs.0 b x);
+            (one_tells (λ (f : Fifo). f.crossings) fs.0 b x);
       }
 
-  pub found_for : (found : Found) (t : Trees) (entries : List SyncEntry) → AreLists (design_of net domains) (next_tree net) t syncs grays → entries ≡ map sync_entry syncs
+  found_for : (found : Found) (t : Trees) (entries : List SyncEntry) → AreLists (design_of net domains) (next_tree net) t syncs grays → entries ≡ map sync_entry syncs
       → (found.net ≡ net) × (found.domains ≡ domains) × (found.syncs ≡ entries) × (found.grays ≡ grays) → ((e : Entry) → Contains found.fifos e → IsListedFifo net domains syncs grays e)
       → ((c : Crossing) → Contains found.crossings c ↔ IsCrossingOfOne found.fifos c) → IsFoundFor found (design_of net domains) t syncs grays
   found_for found t entries lists of (of_net, of_domains, of_syncs, of_grays) listed all = record {
@@ -90,6 +65,14 @@ module _ (net : Net) (domains : Domains) (syncs : List Sync) (grays : List GrayR
     listed = (of_syncs ∙ of, of_grays);
     those = subst (λ (n : Net). AreThose (design_of net domains) n syncs grays found.crossings) (sym of_net) (those found.fifos found.crossings listed all);
   }
+
+  -- so do FIFOs that are kept as they were made
+  pub made_fit : (found : Found) (fifos : List Entry) (t : Trees) (entries : List SyncEntry) → AreLists (design_of net domains) (next_tree net) t syncs grays → entries ≡ map sync_entry syncs
+      → (found.net ≡ net) × (found.domains ≡ domains) × (found.syncs ≡ entries) × (found.grays ≡ grays) × (found.fifos ≡ fifos) → ((e : Entry) → Contains fifos e → IsListedFifo net domains syncs grays e)
+      → ((c : Crossing) → Contains found.crossings c ↔ IsCrossingOfOne fifos c) → IsFoundFor found (design_of net domains) t syncs grays
+  made_fit found fifos t entries lists of (of_net, of_domains, of_syncs, of_grays, of_fifos) listed all = found_for found t entries lists of (of_net, of_domains, of_syncs, of_grays)
+      (λ e h. listed e (subst (λ (es : List Entry). Contains es e) of_fifos h))
+      (subst (λ (es : List Entry). (c : Crossing) → Contains found.crossings c ↔ IsCrossingOfOne es c) (sym of_fifos) all)
 
   starts : FifosStart
   starts d tree t syncs grays fifos lists are s first = all_start d s first tree t syncs grays lists fifos are

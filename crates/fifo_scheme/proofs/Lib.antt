@@ -1,3 +1,4 @@
+pub mod Brought
 pub mod Ends
 pub mod FifoSides
 pub mod FoundAll
@@ -34,3 +35,4 @@ pub mod Searched
 pub mod SidesFound
 pub mod Standing
 pub mod VarsRead
+pub mod Ways

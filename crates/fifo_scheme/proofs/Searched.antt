@@ -32,7 +32,7 @@ use Rattle.fifo_scheme.specs.Indexed.{IsIndex}
 use Rattle.fifo_scheme.specs.Pairs.{AreStoodFor, IsFirstMissing, IsStoodFor}
 use Rattle.fifo_parts.specs.Tellers.{IsShown}
 use Rattle.fifo_scheme.proofs.FoundAll.{all_by_reads, all_stood_for, first_missing, stood_for}
-use Rattle.fifo_scheme.proofs.FoundFor.{found_for, has_order}
+use Rattle.fifo_scheme.proofs.FoundFor.{has_order, made_fit}
 
 -- the table, the index, the candidates and the FIFOs are what those that made them say
 pub record IsSearched (net : Net) (domains : Domains) (entries : List SyncEntry) (grays : List GrayReg) (P : Key → Type 0) (i : Index) (m : BTreeMap Key Sides) (fifos : List Entry) : Type 0 where
@@ -71,9 +71,7 @@ module _ (net : Net) (domains : Domains) (entries : List SyncEntry) (grays : Lis
 
     pub they_fit : (found : Found) → (found.net ≡ net) × (found.domains ≡ domains) × (found.syncs ≡ entries) × (found.grays ≡ grays) × (found.fifos ≡ fifos)
         → ((c : Crossing) → Contains found.crossings c ↔ IsCrossingOfOne fifos c) → IsFoundFor found (design_of net domains) t syncs grays
-    they_fit found (of_net, of_domains, of_syncs, of_grays, of_fifos) all = found_for net domains syncs grays found t entries lists given.listed (of_net, of_domains, of_syncs, of_grays)
-        (λ e h. are_listed e (subst (λ (es : List Entry). Contains es e) of_fifos h))
-        (subst (λ (es : List Entry). (c : Crossing) → Contains found.crossings c ↔ IsCrossingOfOne es c) (sym of_fifos) all)
+    they_fit found of all = made_fit net domains syncs grays found fifos t entries lists given.listed of are_listed all
 
     pub they_have_order : (rings : List Ring) (e : Entry) → Contains fifos e → HasOrder net domains syncs grays rings e
     they_have_order rings e h = has_order net domains syncs grays t lists rings e (are_listed e h)

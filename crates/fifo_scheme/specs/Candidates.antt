@@ -1,5 +1,6 @@
 -- Sides that may make FIFOs, by their counters and Gray registers, and what comes of them.
-use Rattle.std.specs.Prelude.{◌≡◌, ◌⊎◌, ℕ, ◌<◌, Option, Some, None, option_and_then, List, [], ◌∷◌, slice_get, Contains}
+use Rattle.std.specs.Prelude.{◌≡◌, ◌⊎◌, ℕ, ◌<◌, ◌==◌, ◌++◌, Bool, cond, option_map, Option, Some, None, option_and_then, List, [], ◌∷◌, slice_get, Contains}
+use Rattle.std.specs.List.{list_any}
 use Rattle.std.specs.Option.{IsSome}
 use Rattle.std.specs.BTreeMap as tree
 use Rattle.std.specs.BTreeMap.{BTreeMap}
@@ -8,7 +9,9 @@ use Rattle.cdc_base.specs.contracts.bit.BitPartialEq.TheImpl as equality
 use Rattle.cdc_base.specs.declared.bit.Bit.{Bit}
 use Rattle.cell_graph.specs.declared.net.Net.{Net}
 use Rattle.domains.specs.declared.Domains.{Domains}
+use Rattle.domains.specs.Assignment.{clock_of}
 use Rattle.cdc_model.specs.declared.scheme.GrayReg.{GrayReg}
+use Rattle.cdc_model.specs.declared.scheme.Sync.{Sync as SyncEntry}
 use Rattle.cdc_model.specs.Nets.{design_of, next_tree}
 use Rattle.cdc_model.specs.Ordered.{IsAscending}
 use Rattle.cdc_model.specs.Schemes.{Sync}
@@ -16,6 +19,7 @@ use Rattle.fifo_laws.specs.Fifos.{Fifo, IsFifo}
 use Rattle.fifo_scheme.specs.contracts.finder.KeyOrd.TheImpl as order
 use Rattle.fifo_scheme.specs.declared.finder.Key.{Key}
 use Rattle.fifo_scheme.specs.declared.finder.Sides.{Sides}
+use Rattle.fifo_scheme.specs.declared.finder.Way.{Way}
 use Rattle.fifo_scheme.specs.declared.found.Fifo.{Fifo as Entry}
 use Rattle.fifo_scheme.specs.declared.found.FifoPair.{FifoPair}
 use Rattle.fifo_scheme.specs.declared.index.Index.{Index}
@@ -27,6 +31,37 @@ use Rattle.fifo_parts.specs.Brought.{places_at}
 use Rattle.fifo_parts.specs.Words.{lowest, SaysLowest}
 use Rattle.fifo_scheme.specs.Judged.{ArePlaces, IsJudged}
 use Rattle.fifo_scheme.specs.Pairs.{StandsFor}
+
+-- ---- whether there is anything to search
+
+-- the word is a listed Gray register
+abbrev pub is_code_word : List GrayReg → ℕ → Bool
+is_code_word grays sig = list_any (λ (g : GrayReg). g.gray == sig) grays
+
+-- the clocks of a synchronizer's source and of its first flop
+abbrev pub way_of : Domains → SyncEntry → Option Way
+way_of domains s = option_and_then (λ (x : Bit). option_and_then (λ (from : ℕ). option_map (λ (to : ℕ). record { from = from; to = to }) (clock_of domains x)) (clock_of domains s.from)) (slice_get s.flops 0)
+
+-- what there is, as a list
+abbrev pub listed : {A : Type 0} → Option A → List A
+listed None = []
+listed (Some x) = x ∷ []
+
+-- the ways of the synchronizers from bits of listed Gray registers
+abbrev pub ways_of : Domains → List SyncEntry → List GrayReg → List Way
+ways_of domains [] grays = []
+ways_of domains (s ∷ ss) grays = cond (is_code_word grays s.from.sig) (listed (way_of domains s)) [] ++ ways_of domains ss grays
+
+-- some way leads from the clock
+abbrev pub is_left : List Way → ℕ → Bool
+is_left ways clock = list_any (λ (w : Way). w.from == clock) ways
+
+-- one of these ways leads to a clock from which one of all ways leads
+abbrev pub leads_back : List Way → List Way → Bool
+leads_back ways these = list_any (λ (w : Way). is_left ways w.to) these
+
+abbrev pub is_returned : List Way → Bool
+is_returned ways = leads_back ways ways
 
 -- ---- keys and places
 

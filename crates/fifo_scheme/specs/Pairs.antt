@@ -1,7 +1,8 @@
 -- Pairs of counts that stand for FIFOs.
-use Rattle.std.specs.Prelude.{◌≡◌, ℕ, ◌<◌, List, [], Some, slice_get, Contains}
+use Rattle.std.specs.Prelude.{◌≡◌, ◌↔◌, ℕ, ◌<◌, List, [], Some, slice_get, Contains}
 use Rattle.cell_graph.specs.declared.net.Net.{Net}
 use Rattle.domains.specs.declared.Domains.{Domains}
+use Rattle.cdc_model.specs.declared.scheme.Crossing.{Crossing}
 use Rattle.cdc_model.specs.declared.scheme.GrayReg.{GrayReg}
 use Rattle.cdc_model.specs.Design.{Design}
 use Rattle.cdc_model.specs.Ordered.{IsAll}
@@ -10,7 +11,7 @@ use Rattle.fifo_scheme.specs.declared.found.Fifo.{Fifo as Entry}
 use Rattle.fifo_scheme.specs.declared.found.FifoPair.{FifoPair}
 use Rattle.fifo_scheme.specs.declared.found.FifosOf.{FifosOf}
 use Rattle.fifo_scheme.specs.declared.found.FifosOf.TheVariants as answer
-use Rattle.fifo_scheme.specs.Entries.{IsListedFifo, fifo_key}
+use Rattle.fifo_scheme.specs.Entries.{IsCrossingOfOne, IsListedFifo, fifo_key}
 use Rattle.fifo_scheme.specs.Found.{IsFoundFor}
 
 -- the pair stands for the FIFO
@@ -51,3 +52,8 @@ IsAnswer net domains syncs grays pairs (answer.Missing place) = IsFirstMissing n
 abbrev pub DoesFit : FifosOf → Design → Trees → List Sync → List GrayReg → Type 0
 DoesFit (answer.Found fifos) d t syncs grays = IsFoundFor fifos d t syncs grays
 DoesFit (answer.Missing place) d t syncs grays = Unit {0}
+
+-- FIFOs that are answered guard exactly their own crossings
+abbrev pub GuardsThose : FifosOf → Type 0
+GuardsThose (answer.Found fifos) = (c : Crossing) → Contains fifos.crossings c ↔ IsCrossingOfOne fifos.fifos c
+GuardsThose (answer.Missing place) = Unit {0}

@@ -1,5 +1,5 @@
 //! The search for FIFOs.
-ghost use Rattle.std.specs.Prelude.{◌≡◌, ◌↔◌, ◌≤◌, ◌^◌, ℕ, true, List, length, Contains, IfOk};
+ghost use Rattle.std.specs.Prelude.{◌≡◌, ◌↔◌, ◌≤◌, ◌^◌, ◌==◌, ℕ, true, [], List, length, Contains, IfOk};
 ghost use Rattle.std.specs.BTreeMap.{IsOrdered};
 ghost use Rattle.std.specs.HashSet as set;
 ghost use Rattle.cdc_model.specs.declared.scheme.Crossing.{Crossing as CrossingOf};
@@ -7,17 +7,18 @@ ghost use Rattle.cdc_model.specs.declared.scheme.GrayReg.{GrayReg as GrayRegOf};
 ghost use Rattle.cdc_model.specs.Nets.{design_of, next_tree};
 ghost use Rattle.cdc_model.specs.Ordered.{IsAll};
 ghost use Rattle.cdc_model.specs.Schemes.{Ring as RingOf, Sync as SyncOf, Trees};
+ghost use Rattle.cdc_model.specs.Tables.{ShowsNet};
 ghost use Rattle.fifo_laws.specs.Laws.{AreLists};
 ghost use Rattle.fifo_scheme.specs.contracts.finder.KeyOrd.TheImpl as order;
 ghost use Rattle.fifo_scheme.specs.contracts.found.FifoPairPartialEq.TheImpl as equality;
 ghost use Rattle.fifo_scheme.specs.declared.found.Fifo.{Fifo as Entry};
 ghost use Rattle.fifo_scheme.specs.declared.found.FifoPair.{FifoPair as PairOf};
-ghost use Rattle.fifo_scheme.specs.Candidates.{AreAt, AreBy, AreKept, AreLookedUp, AreMade, Grows, IsAt, IsFirst, IsJudgedAt, IsReadTo, IsThere, IsWordTo, OfOne, WordSays};
+ghost use Rattle.fifo_scheme.specs.Candidates.{AreAt, AreBy, AreKept, AreLookedUp, AreMade, Grows, IsAt, IsFirst, IsJudgedAt, IsReadTo, IsThere, IsWordTo, OfOne, WordSays, is_code_word, is_left, is_returned, way_of, ways_of};
 ghost use Rattle.fifo_scheme.specs.Entries.{IsCrossingOfOne, IsListedFifo, fifo_key};
 ghost use Rattle.fifo_scheme.specs.Found.{HasOrder, IsFoundFor};
 ghost use Rattle.fifo_scheme.specs.Given.{AreGiven};
 ghost use Rattle.fifo_scheme.specs.Indexed.{IsIndex};
-ghost use Rattle.fifo_scheme.specs.Pairs.{DoesFit, fifos_in, IsAnswer, IsStoodFor};
+ghost use Rattle.fifo_scheme.specs.Pairs.{DoesFit, fifos_in, GuardsThose, IsAnswer, IsStoodFor};
 ghost use Rattle.fifo_parts.specs.Tellers.{IsShown};
 
 use crate::found::{Fifo, FifoPair, Fifos, FifosOf};
@@ -27,6 +28,7 @@ use cdc_base::{Bit, List, NoMemory};
 use cdc_model::view::plain_table;
 use cdc_model::{GrayReg, Sync};
 use cell_graph::Net;
+use cofactor::Table;
 use domains::Domains;
 use fifo_parts::pair::Shown;
 use fifo_parts::reads::Read;
@@ -57,16 +59,153 @@ pub fn fifos<'a>(
     ensures guards { IfOk result (λ found. (c : CrossingOf) → Contains found.crossings c ↔ IsCrossingOfOne found.fifos c) }
 {
     let mut table = plain_table(alloc, net)?;
-    let index = Index::of(alloc, net, domains, &mut table, syncs, grays)?;
+    let found = fifos_with(alloc, net, domains, &mut table, syncs, grays)?;
+    Ok(found)
+}
+
+/// `fifos` by the net's table without a cube.
+pub fn fifos_with<'a>(
+    alloc: Global,
+    net: &'a Net,
+    domains: &'a Domains,
+    table: &mut Table,
+    syncs: &'a [Sync],
+    grays: &'a [GrayReg],
+) -> Result<Fifos<'a>, NoMemory>
+    ensures sound { IfOk result (λ found. (meant : List SyncOf) → AreGiven net.now domains.now syncs.now meant → ShowsNet net.now [] table.old →
+        (e : Entry) → Contains found.fifos e → IsListedFifo net.now domains.now meant grays.now e) }
+    ensures exact { IfOk result (λ found. (meant : List SyncOf) (t : Trees) → AreGiven net.now domains.now syncs.now meant → ShowsNet net.now [] table.old →
+        AreLists (design_of net.now domains.now) (next_tree net.now) t meant grays.now →
+        IsAll (IsListedFifo net.now domains.now meant grays.now) fifo_key found.fifos) }
+    ensures fits { IfOk result (λ found. (meant : List SyncOf) (t : Trees) → AreGiven net.now domains.now syncs.now meant → ShowsNet net.now [] table.old →
+        AreLists (design_of net.now domains.now) (next_tree net.now) t meant grays.now →
+        IsFoundFor found (design_of net.now domains.now) t meant grays.now) }
+    ensures order { IfOk result (λ found. (meant : List SyncOf) (t : Trees) → AreGiven net.now domains.now syncs.now meant → ShowsNet net.now [] table.old →
+        AreLists (design_of net.now domains.now) (next_tree net.now) t meant grays.now → (rings : List RingOf) →
+        (e : Entry) → Contains found.fifos e → HasOrder net.now domains.now meant grays.now rings e) }
+    ensures guards { IfOk result (λ found. (c : CrossingOf) → Contains found.crossings c ↔ IsCrossingOfOne found.fifos c) }
+    ensures unchanged { table.new ≡ table.old }
+{
+    let fifos = search(alloc, net, domains, table, syncs, grays)?;
+    let found = Fifos::of(alloc, net, domains, syncs, grays, fifos)?;
+    Ok(found)
+}
+
+/// The clocks between which a synchronizer brings a bit of a Gray register.
+#[derive(Clone, Copy, Debug, Drop)]
+struct Way {
+    from: u32,
+    to: u32,
+}
+
+/// Whether codes are brought to a clock from which codes are brought. Without that there is no FIFO, and nothing to search.
+fn are_codes_returned(
+    alloc: Global,
+    domains: &Domains,
+    syncs: &[Sync],
+    grays: &[GrayReg],
+) -> Result<bool, NoMemory>
+    ensures { IfOk result (λ is. is ≡ is_returned (ways_of domains.now syncs.now grays.now)) }
+{
+    let ways = ways(alloc, domains, syncs, grays)?;
+    let is = is_returned(alloc, ways.as_slice())?;
+    Ok(is)
+}
+
+/// The ways of all synchronizers that bring a bit of a Gray register.
+fn ways(
+    alloc: Global,
+    domains: &Domains,
+    syncs: &[Sync],
+    grays: &[GrayReg],
+) -> Result<List<Way>, NoMemory>
+    ensures { IfOk result (λ ways. ways ≡ ways_of domains.now syncs.now grays.now) }
+{
+    let codes = code_words(alloc, grays)?;
+    let mut ways = List::new(alloc);
+    for sync in syncs {
+        if codes.contains(&sync.from.sig) {
+            if let Some(way) = way_of(domains, sync) {
+                ways.push(way)?;
+            }
+        }
+    }
+    Ok(ways)
+}
+
+/// The clocks of the source and of the first flop.
+fn way_of(domains: &Domains, sync: &Sync) -> Option<Way>
+    ensures { result ≡ way_of domains.now sync.now }
+{
+    let first = sync.flops.as_slice().first()?;
+    let from = domains.clock_of(sync.from)?;
+    let to = domains.clock_of(*first)?;
+    Some(Way { from, to })
+}
+
+/// The Gray registers, by signal.
+fn code_words(alloc: Global, grays: &[GrayReg]) -> Result<HashSet<u32>, NoMemory>
+    ensures { IfOk result (λ words. (sig : ℕ) → set.contains ◌==◌ words sig ≡ is_code_word grays.now sig) }
+{
+    let mut words = HashSet::new(alloc);
+    for gray in grays {
+        words.insert(gray.gray).map_err(|_| NoMemory)?;
+    }
+    Ok(words)
+}
+
+/// Whether some way leads to a clock from which one leads.
+fn is_returned(alloc: Global, ways: &[Way]) -> Result<bool, NoMemory>
+    ensures { IfOk result (λ is. is ≡ is_returned ways.now) }
+{
+    let clocks = clocks_left(alloc, ways)?;
+    for way in ways {
+        if clocks.contains(&way.to) {
+            return Ok(true);
+        }
+    }
+    Ok(false)
+}
+
+/// The clocks from which the ways lead.
+fn clocks_left(alloc: Global, ways: &[Way]) -> Result<HashSet<u32>, NoMemory>
+    ensures { IfOk result (λ clocks. (clock : ℕ) → set.contains ◌==◌ clocks clock ≡ is_left ways.now clock) }
+{
+    let mut clocks = HashSet::new(alloc);
+    for way in ways {
+        clocks.insert(way.from).map_err(|_| NoMemory)?;
+    }
+    Ok(clocks)
+}
+
+/// All FIFOs over the lists, by all sides that reads lead to.
+fn search(
+    alloc: Global,
+    net: &Net,
+    domains: &Domains,
+    table: &mut Table,
+    syncs: &[Sync],
+    grays: &[GrayReg],
+) -> Result<List<Fifo>, NoMemory>
+    ensures sound { IfOk result (λ fifos. (meant : List SyncOf) → AreGiven net.now domains.now syncs.now meant → ShowsNet net.now [] table.old →
+        (e : Entry) → Contains fifos e → IsListedFifo net.now domains.now meant grays.now e) }
+    ensures exact { IfOk result (λ fifos. (meant : List SyncOf) (t : Trees) → AreGiven net.now domains.now syncs.now meant → ShowsNet net.now [] table.old →
+        AreLists (design_of net.now domains.now) (next_tree net.now) t meant grays.now →
+        IsAll (IsListedFifo net.now domains.now meant grays.now) fifo_key fifos) }
+    ensures unchanged { table.new ≡ table.old }
+{
+    if !are_codes_returned(alloc, domains, syncs, grays)? {
+        return Ok(List::new(alloc));
+    }
+    let index = Index::of(alloc, net, domains, table, syncs, grays)?;
     let shown = Shown {
         net,
         domains,
-        table: &table,
+        table,
     };
     let candidates = candidates(alloc, net, &index)?;
     let fifos = judged(alloc, shown, &index, syncs, candidates)?;
-    let found = Fifos::of(alloc, net, domains, syncs, grays, fifos)?;
-    Ok(found)
+    Ok(fifos)
 }
 
 /// The FIFOs for which the pairs stand, each once and in the order of `fifos`; or the first pair that stands for none.
@@ -90,6 +229,7 @@ pub fn fifos_of<'a>(
     ensures order { IfOk result (λ answer. (meant : List SyncOf) (t : Trees) → AreGiven net.now domains.now syncs.now meant →
         AreLists (design_of net.now domains.now) (next_tree net.now) t meant grays.now → (rings : List RingOf) →
         (e : Entry) → Contains (fifos_in answer) e → HasOrder net.now domains.now meant grays.now rings e) }
+    ensures guards { IfOk result GuardsThose }
 {
     let mut table = plain_table(alloc, net)?;
     let index = Index::of(alloc, net, domains, &mut table, syncs, grays)?;

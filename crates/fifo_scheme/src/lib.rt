@@ -7,6 +7,6 @@ pub mod index;
 pub mod judge;
 pub mod lines;
 
-pub use finder::{fifos, fifos_of};
+pub use finder::{fifos, fifos_of, fifos_with};
 pub use found::{Column, Fifo, FifoPair, Fifos, FifosOf};
 pub use lines::fifo_lines;

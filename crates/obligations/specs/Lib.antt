@@ -5,4 +5,5 @@ pub mod Findings
 pub mod Given
 pub mod Judged
 pub mod Lots
+pub mod Schemes
 pub mod Words

@@ -19,11 +19,13 @@ ghost use Rattle.cdc_model.specs.Together.{IsTogether};
 ghost use Rattle.obligations.specs.Bare.{AreHanded};
 ghost use Rattle.obligations.specs.Findings.{AreFindingsIn, HavePaths};
 ghost use Rattle.obligations.specs.Judged.{CanAudit};
+ghost use Rattle.obligations.specs.Schemes.{AreSchemes};
 ghost use Rattle.refusals.specs.Numbers.{HasNumberIn, crossing_numbers};
 
 pub mod arrivals;
 pub mod bare;
 pub mod covers;
+pub mod schemes;
 pub mod words;
 
 use arrivals::add_v6;
@@ -38,6 +40,7 @@ use covers::covers;
 use crossings::Paths;
 use domains::Domains;
 use mux_recirc::Guards;
+use schemes::{Schemes, copied};
 use std::alloc::Global;
 use words::{add_v3, add_v4, add_v5, entries};
 
@@ -111,17 +114,18 @@ fn findings(
     Ok(findings)
 }
 
-/// The verdict on the net. A crossing of `extra` is guarded by something beside the schemes, so it needs none. Refused with
-/// E603 where the net has too many crossings.
+/// The verdict on the net, whose schemes these are, by its table without a cube. A crossing of `extra` is guarded by
+/// something beside the schemes, so it needs none.
 pub fn audit_with<E: Extra>(
     alloc: Global,
     net: &Net,
     domains: &Domains,
+    schemes: &Schemes,
+    plain: &mut Table,
     extra: &E,
-) -> Result<Verdict, Stop>
-    ensures numbered { IfErr result (HasNumberIn crossing_numbers) }
-    ensures full { IfErr result (HasCause 603 (CanAudit net.now domains.now → MAX_CROSSINGS < length (crossings_of net.now domains.now))) }
-    ensures exact { IfOk result (λ verdict. CanAudit net.now domains.now → IsVerdictOf net.now domains.now (E.is_extra extra.now) verdict) }
+) -> Result<Verdict, NoMemory>
+    ensures exact { IfOk result (λ verdict. CanAudit net.now domains.now → AreSchemes net.now domains.now schemes.now → ShowsNet net.now [] plain.old →
+        IsVerdictOf net.now domains.now (E.is_extra extra.now) verdict) }
     ensures sound { IfOk result (λ verdict. CanAudit net.now domains.now → (is : IsVerdictOf net.now domains.now (E.is_extra extra.now) verdict) →
         E.fits extra.now (design_of net.now domains.now) (net_trees net.now is.grays) is.syncs verdict.grays → verdict.findings ≡ [] →
         Sound (design_of net.now domains.now) verdict.covers (map (λ (r : RingEntry). r.bits) verdict.rings) (E.is_extra extra.now)) }
@@ -131,31 +135,25 @@ pub fn audit_with<E: Extra>(
         IsTogether (design_of net.now domains.now) (net_trees net.now is.grays) is.syncs run x group depth) }
 {
     clean_net_is_sound(extra);
-    let mut plain = plain_table(alloc, net)?;
-    let crossings = crossings::find_with(alloc, net, domains, &mut plain)?;
-    let syncs = two_flop::syncs_with(alloc, net, domains, crossings.as_slice(), &mut plain)?;
-    let grays = gray_pointer::gray_regs_with(alloc, net, domains, &plain)?;
-    let rings = handshake::rings_with(alloc, net, domains, syncs.as_slice(), &mut plain)?;
-    let guards = Guards::find(
-        alloc,
-        net,
-        domains,
-        crossings.as_slice(),
-        rings.as_slice(),
-        &mut plain,
-    )?;
-    let loads = guards.loads(alloc, crossings.as_slice())?;
+    let crossings = schemes.crossings.as_slice();
+    let syncs = schemes.syncs.as_slice();
+    let grays = schemes.grays.as_slice();
+    let rings = handshake::rings_with(alloc, net, domains, syncs, plain)?;
+    let guards = Guards::find(alloc, net, domains, crossings, rings.as_slice(), plain)?;
+    let loads = guards.loads(alloc, crossings)?;
     let found = Found {
         net,
         domains,
-        crossings: crossings.as_slice(),
-        syncs: syncs.as_slice(),
-        grays: grays.as_slice(),
+        crossings,
+        syncs,
+        grays,
         guards: &guards,
         loads: loads.as_slice(),
     };
     let covers = covers(alloc, &found)?;
-    let findings = findings(alloc, &found, covers.as_slice(), extra.covers(), &mut plain)?;
+    let findings = findings(alloc, &found, covers.as_slice(), extra.covers(), plain)?;
+    let crossings = copied(alloc, crossings)?;
+    let grays = copied(alloc, grays)?;
     Ok(Verdict {
         crossings,
         grays,
@@ -165,7 +163,7 @@ pub fn audit_with<E: Extra>(
     })
 }
 
-/// The verdict on the net.
+/// The verdict on the net. Refused with E603 where the net has too many crossings.
 pub fn audit(alloc: Global, net: &Net, domains: &Domains) -> Result<Verdict, Stop>
     ensures numbered { IfErr result (HasNumberIn crossing_numbers) }
     ensures full { IfErr result (HasCause 603 (CanAudit net.now domains.now → MAX_CROSSINGS < length (crossings_of net.now domains.now))) }
@@ -176,5 +174,8 @@ pub fn audit(alloc: Global, net: &Net, domains: &Domains) -> Result<Verdict, Sto
         (run : Trace) → IsRun (design_of net.now domains.now) run → (x : Bit) → is_register_bit net.now x ≡ true → (group depth : ℕ) →
         IsTogether (design_of net.now domains.now) (net_trees net.now is.grays) is.syncs run x group depth) }
 {
-    audit_with(alloc, net, domains, &NoExtra)
+    let mut plain = plain_table(alloc, net)?;
+    let schemes = Schemes::find(alloc, net, domains, &mut plain)?;
+    let verdict = audit_with(alloc, net, domains, &schemes, &mut plain, &NoExtra)?;
+    Ok(verdict)
 }

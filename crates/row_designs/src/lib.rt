@@ -81,6 +81,86 @@ name = \"rst_n\"
 active = \"low\"
 ";
 
+/// A FIFO of four words of two bits, with flags that are computed from its pointers.
+pub const FIFO: &str = "module m(input ca, cb, push, pop, input [1:0] d, output [1:0] q);
+reg [1:0] mem [0:3];
+reg [2:0] wb = 0, wg = 0, r1 = 0, r2 = 0, rb = 0, rg = 0, w1 = 0, w2 = 0; reg [1:0] x;
+wire full = wg == {~r2[2:1], r2[0]}, empty = rg == w2;
+always @(posedge ca) begin r1 <= rg; r2 <= r1;
+  if (push && !full) begin mem[wb[1:0]] <= d; wb <= wb + 3'd1;
+    wg <= (wb + 3'd1) ^ ((wb + 3'd1) >> 1); end end
+always @(posedge cb) begin w1 <= wg; w2 <= w1;
+  if (pop && !empty) begin x <= mem[rb[1:0]]; rb <= rb + 3'd1;
+    rg <= (rb + 3'd1) ^ ((rb + 3'd1) >> 1); end end
+assign q = x;
+endmodule
+";
+
+/// Such a FIFO in modules with resets, and with flags that are registers.
+pub const FIFO_IN_MODULES: &str =
+    "module sync #(parameter W = 3) (input clk, rst_n, input [W-1:0] d, output reg [W-1:0] q);
+  reg [W-1:0] m;
+  always @(posedge clk or negedge rst_n)
+    if (!rst_n) {q, m} <= 0; else {q, m} <= {m, d};
+endmodule
+module rptr_empty #(parameter A = 2) (input clk, rst_n, inc, input [A:0] wptr2,
+    output reg empty, output [A-1:0] addr, output reg [A:0] ptr);
+  reg [A:0] bin;
+  wire [A:0] binnext = bin + (inc & ~empty);
+  wire [A:0] graynext = (binnext >> 1) ^ binnext;
+  assign addr = bin[A-1:0];
+  always @(posedge clk or negedge rst_n)
+    if (!rst_n) {bin, ptr} <= 0; else {bin, ptr} <= {binnext, graynext};
+  wire empty_val = graynext == wptr2;
+  always @(posedge clk or negedge rst_n)
+    if (!rst_n) empty <= 1'b1; else empty <= empty_val;
+endmodule
+module wptr_full #(parameter A = 2) (input clk, rst_n, inc, input [A:0] rptr2,
+    output reg full, output [A-1:0] addr, output reg [A:0] ptr);
+  reg [A:0] bin;
+  wire [A:0] binnext = bin + (inc & ~full);
+  wire [A:0] graynext = (binnext >> 1) ^ binnext;
+  assign addr = bin[A-1:0];
+  always @(posedge clk or negedge rst_n)
+    if (!rst_n) {bin, ptr} <= 0; else {bin, ptr} <= {binnext, graynext};
+  wire full_val = graynext == {~rptr2[A:A-1], rptr2[A-2:0]};
+  always @(posedge clk or negedge rst_n)
+    if (!rst_n) full <= 1'b0; else full <= full_val;
+endmodule
+module m(input ca, cb, rst_n, push, pop, input [1:0] d, output reg [1:0] q);
+  reg [1:0] mem [0:3];
+  wire full, empty;
+  wire [1:0] waddr, raddr;
+  wire [2:0] wptr, rptr, wptr2, rptr2;
+  sync r2w (ca, rst_n, rptr, rptr2);
+  sync w2r (cb, rst_n, wptr, wptr2);
+  wptr_full wr (ca, rst_n, push, rptr2, full, waddr, wptr);
+  rptr_empty rd (cb, rst_n, pop, wptr2, empty, raddr, rptr);
+  wire [1:0] rdata = mem[raddr];
+  always @(posedge ca) if (push && !full) mem[waddr] <= d;
+  always @(posedge cb) if (pop && !empty) q <= rdata;
+endmodule
+";
+
+/// Two clocks, and the inputs of a FIFO.
+pub const FIFO_CONSTRAINTS: &str = "top = \"m\"
+[[clock]]
+name = \"ca\"
+group = \"A\"
+[[clock]]
+name = \"cb\"
+group = \"B\"
+[[input]]
+name = \"push\"
+clock = \"ca\"
+[[input]]
+name = \"d\"
+clock = \"ca\"
+[[input]]
+name = \"pop\"
+clock = \"cb\"
+";
+
 /// The constraints of both clocks and of these inputs, separated by blanks, on `ca`.
 pub fn constraints(alloc: Global, inputs: &str) -> Result<String, Fail> {
     let mut text = String::from_str(alloc, CLOCKS)?;

@@ -6,4 +6,6 @@ mod audits;
 #[cfg(test)]
 mod cuts;
 #[cfg(test)]
+mod fifos;
+#[cfg(test)]
 mod resets;

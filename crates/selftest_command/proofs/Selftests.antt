@@ -1,12 +1,21 @@
 -- The audit of the generated design.
-use Rattle.std.proofs.Common.{◌≡◌, ◌∙◌, ℕ, ◌==◌, Bool, true, false, List, [], ◌∷◌, length, Option, None, Result, Ok, Err, refl, sym, ap, subst}
+use Rattle.std.proofs.Common.{◌≡◌, ◌∙◌, ℕ, ◌==◌, Bool, true, false, List, [], ◌∷◌, length, map, Option, None, Result, Ok, Err, refl, sym, ap, subst}
 use Rattle.std.specs.Prelude.{IfOk, IfErr, if◌then◌else◌}
+use Rattle.cdc_base.specs.declared.bit.Bit.{Bit}
+use Rattle.cdc_base.specs.declared.fault.Stop.{Stop}
 use Rattle.cell_graph.specs.declared.net.Net.{Net}
 use Rattle.domains.specs.declared.Domains.{Domains}
+use Rattle.cdc_model.specs.declared.scheme.Ring.{Ring}
 use Rattle.cdc_model.specs.declared.verdict.Verdict.{Verdict as VerdictEntry}
 use Rattle.cdc_model.specs.Facts.{none_extra}
+use Rattle.cdc_model.specs.Listed.{IsVerdictOf}
+use Rattle.cdc_model.specs.Nets.{design_of, is_register_bit, net_trees}
+use Rattle.cdc_model.specs.Runs.{IsRun, Trace}
+use Rattle.cdc_model.specs.Sound.{Sound}
+use Rattle.cdc_model.specs.Together.{IsTogether}
 use Rattle.flat_model.proofs.Meanings.{verdict_meaning}
 use Rattle.flat_model.proofs.NetDesign.{has_meaning}
+use Rattle.net_verdict.specs.Verdicts.{IsVerdictOn}
 use Rattle.obligations.specs.Judged.{CanAudit}
 use Rattle.flat_unfolding.specs.Formed.{IsSourceFormed}
 use Rattle.verilog_reading.specs.SourceTree.{ModuleTree}
@@ -18,7 +27,7 @@ use Rattle.described_design.specs.Described.{IsNetOfModules, ReadsAs}
 use Rattle.described_design.specs.Designs.{IsDesign}
 use Rattle.described_design.specs.Refused.{IsDesignRefused, IsNetlistRefused}
 use Rattle.described_design.proofs.Described.{modules_formed, net_of_design}
-use Rattle.audit_command.specs.Audits.{IsStatusOf, IsVerdictOn}
+use Rattle.audit_command.specs.Audits.{IsStatusOf}
 use Rattle.audit_command.specs.Refused.{AreTooMany}
 use Rattle.audit_command.proofs.Audits.{told_by}
 use Rattle.clock_constraints.specs.declared.Constraints.{Constraints}
@@ -27,6 +36,16 @@ use Rattle.generated_design.specs.Clocks.{generated_constraints}
 use Rattle.generated_design.proofs.Fit.{generated_fit}
 use Rattle.selftest_command.specs.Counts.{counts_line, state_bits}
 use Rattle.selftest_command.specs.Selftests.{IsGenerated, IsGeneratedRefused, of_text, of_design, IsSelftestOf, IsSelftestRefused, generation, verdict, generated_text, unwaived_status}
+
+-- what the audit promises of its verdict
+pub on_design : (net : Net) (domains : Domains) → CanAudit net domains → (r : Result VerdictEntry Stop)
+    → IfOk r (λ e. CanAudit net domains → IsVerdictOf net domains none_extra e)
+    → IfOk r (λ e. CanAudit net domains → e.findings ≡ [] → Sound (design_of net domains) e.covers (map (λ (r : Ring). r.bits) e.rings) none_extra)
+    → IfOk r (λ e. CanAudit net domains → (is : IsVerdictOf net domains none_extra e) → e.findings ≡ [] → (run : Trace) → IsRun (design_of net domains) run
+    → (x : Bit) → is_register_bit net x ≡ true → (group depth : ℕ) → IsTogether (design_of net domains) (net_trees net is.grays) is.syncs run x group depth)
+    → IfOk r (IsVerdictOn none_extra net domains)
+on_design net domains can (Ok e) exact sound together = record { exact = exact can; sound = sound can; together = together can (exact can) }
+on_design net domains can (Err s) exact sound together = tt
 
 module _ (channels : ℕ) where
   pub text_refused : {T : Type 0} (text : List ℕ) → text ≡ generated_text channels → (r : Result T Ending) → IfErr r (HasCause (λ s f. IsNetlistRefused text f s))

@@ -2,9 +2,13 @@
 #![tactic(auto)]
 
 ghost use Rattle.std.specs.Prelude.{◌≡◌, ◌≤◌, length, MatchResult, IfOk, IfErr};
+ghost use Rattle.audit_command.specs.Refused.{AreTooMany};
+ghost use Rattle.cdc_model.specs.Facts.{none_extra};
 ghost use Rattle.command_files.specs.Endings.{HasCause, IsOfFiles};
 ghost use Rattle.command_files.specs.Files.{max_bytes};
 ghost use Rattle.command_files.specs.Statuses.{IsEnd};
+ghost use Rattle.net_verdict.specs.Verdicts.{IsVerdictOn};
+ghost use Rattle.obligations.specs.Judged.{CanAudit};
 ghost use Rattle.selftest_command.specs.Selftests.{IsGenerated, IsGeneratedRefused, IsSelftestOf, IsSelftestRefused, generated_text, unwaived_status};
 
 mod counts;
@@ -14,8 +18,9 @@ use crate::counts::counts;
 use crate::state::state_bits;
 use cdc_base::limits::MAX_FILE_BYTES;
 use cdc_base::{List, NoMemory};
+use cdc_model::Verdict;
 use cell_graph::Net;
-use command_files::{Answer, Ending, Status};
+use command_files::{Answer, Ending, Status, or_refused};
 use described_design::{constrained, read_source};
 use domains::Domains;
 use generated_design::{selftest_constraints, selftest_source};
@@ -47,6 +52,15 @@ fn generated(alloc: Global, channels: u32) -> Result<(Net, Domains), Ending>
     constrained(alloc, &source, &constraints)
 }
 
+/// The verdict on a net without FIFOs and its domains. Refused as the netlist where it has too many crossings.
+fn verdict_on(alloc: Global, net: &Net, domains: &Domains) -> Result<Verdict, Ending>
+    ensures of_files { IfErr result IsOfFiles }
+    ensures exact { CanAudit net.now domains.now → IfOk result (IsVerdictOn none_extra net.now domains.now) }
+    ensures refused { CanAudit net.now domains.now → IfErr result (HasCause (λ status fault. AreTooMany net.now domains.now fault status)) }
+{
+    or_refused(Status::Netlist, obligations::audit(alloc, net, domains))
+}
+
 /// The status of an audit without waivers.
 fn unwaived(findings: usize) -> Status
     ensures exact { result ≡ unwaived_status findings }
@@ -66,7 +80,7 @@ pub fn selftest(alloc: Global, channels: u32) -> Result<Answer, Ending>
     ensures ended { MatchResult result (λ answer. IsEnd answer.status) IsOfFiles }
 {
     let (net, domains) = generated(alloc, channels)?;
-    let verdict = audit_command::verdict_on(alloc, &net, &domains)?;
+    let verdict = verdict_on(alloc, &net, &domains)?;
     let bits = state_bits(&net, &domains)?;
     let text = counts(alloc, channels, bits, &verdict)?;
     Ok(Answer {

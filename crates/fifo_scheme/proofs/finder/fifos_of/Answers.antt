@@ -1,8 +1,10 @@
-use Rattle.std.proofs.Common.{List, Option, ℕ, None, Some, Contains, subst, sym}
+use Rattle.std.proofs.Common.{◌↔◌, List, Option, ℕ, None, Some, Contains, subst, sym}
+use Rattle.cdc_model.specs.declared.scheme.Crossing.{Crossing}
 use Rattle.fifo_scheme.specs.declared.finder.Key.{Key}
 use Rattle.fifo_scheme.specs.declared.found.Fifo.{Fifo as Entry}
 use Rattle.fifo_scheme.specs.declared.found.FifoPair.{FifoPair}
 use Rattle.fifo_scheme.specs.Candidates.{AreBy, IsFirst, OfOne}
+use Rattle.fifo_scheme.specs.Entries.{IsCrossingOfOne}
 use Rattle.fifo_scheme.specs.Pairs.{AreStoodFor}
 use Rattle.fifo_scheme.proofs.Searched.{IsSearched, all_pairs, are_listed, missing_pair, they_are_stood_for, they_fit, they_have_order}
 use Rattle.fifo_scheme.proofs.finder.fifos_of.Goals as goal
@@ -108,3 +110,8 @@ returns-clause-order c =
       ordered = c.in_ok-fifos.ensures.ordered;
     } in
     λ syncs t given lists rings e h. they_have_order c.args.net.now c.args.domains.now c.args.syncs.now c.args.grays.now P i m fifos is syncs given t lists rings e (subst (λ (es : List Entry). Contains es e) c.in_ok-fifos-in-None.ensures.given.4 h)
+
+pub returns-clause-guards : goal.returns-clause-guards
+returns-clause-guards c =
+    subst (λ (es : List Entry). (k : Crossing) → Contains c.in_ok-fifos-in-None.fifos.crossings k ↔ IsCrossingOfOne es k)
+    (sym c.in_ok-fifos-in-None.ensures.given.4) c.in_ok-fifos-in-None.ensures.all

@@ -1,0 +1,6 @@
+-- The items so far were copied.
+use Rattle.std.proofs.Common.{◌≡◌, ◌++◌, drop}
+use Rattle.obligations.proofs.schemes.copied.Given as goal
+
+abbrev pub invariant-loop-item : goal.invariant-loop-item
+invariant-loop-item g l = l.items ≡ l.copies ++ drop l.item-index l.items
