@@ -1,0 +1,14 @@
+pub mod Bare
+pub mod Certifies
+pub mod FirstFailing
+pub mod GrayItems
+pub mod Lines
+pub mod Meant
+pub mod Searches
+pub mod SyncItems
+pub mod Walks
+pub mod FirstFlops
+pub mod Firsts
+pub mod ListedLoads
+pub mod ListedRings
+pub mod Neighbours
