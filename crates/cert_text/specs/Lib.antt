@@ -1,6 +1,0 @@
-pub mod Names
-pub mod Read
-pub mod Tables
-pub mod Texts
-pub mod Told
-pub mod Words
