@@ -175,21 +175,28 @@ fn a_fifo_in_modules(rt: HostRuntime) -> Result<(), Fail> {
     Ok(())
 }
 
+/// The outline where one register of two bits reads the words of `FIFO`, where another four bits do, and where no FIFO is found.
+const ONE: &str = "fifo 1: wb -> rb depth 4 crossings 8\nclean crossings=14\n0\n";
+
+const TWO: &str = "fifo 1: wb -> rb depth 4 crossings 16\nclean crossings=22\n0\n";
+
+const NONE: &str = "violations=8 crossings=14\n1\n";
+
+/// Where the words of `FIFO` are written, and where they are read.
+const PUSH: &str = "begin mem[wb[1:0]] <= d;";
+
+const POP: &str = "if (pop && !empty) begin x <= mem[rb[1:0]];";
+
 /// What is written, who reads it, and which pointers start where.
 #[test]
 fn words_and_readers(rt: HostRuntime) -> Result<(), Fail> {
-    let one = "fifo 1: wb -> rb depth 4 crossings 8\nclean crossings=14\n0\n";
-    let two = "fifo 1: wb -> rb depth 4 crossings 16\nclean crossings=22\n0\n";
-    let none = "violations=8 crossings=14\n1\n";
-    let push = "begin mem[wb[1:0]] <= d;";
-    let pop = "if (pop && !empty) begin x <= mem[rb[1:0]];";
     audit_all(
         &rt,
         rt.alloc(),
         FIFO,
         FIFO_CONSTRAINTS,
         &[
-            (&[("r1 = 0", "r1")], none),
+            (&[("r1 = 0", "r1")], NONE),
             (
                 &[(
                     "assign q = x;",
@@ -202,15 +209,15 @@ fn words_and_readers(rt: HostRuntime) -> Result<(), Fail> {
                     "if (push && !full) begin mem[wb[1:0]] <= d;",
                     "if (!full) mem[wb[1:0]] <= d; if (push && !full) begin",
                 )],
-                one,
+                ONE,
             ),
-            (&[(push, "begin if (d[0]) mem[wb[1:0]] <= d;")], none),
+            (&[(PUSH, "begin if (d[0]) mem[wb[1:0]] <= d;")], NONE),
             (
                 &[(
                     "if (push && !full) begin mem[wb[1:0]] <= d;",
                     "mem[wb[1:0]] <= d; if (push && !full) begin",
                 )],
-                none,
+                NONE,
             ),
             (
                 &[(
@@ -219,22 +226,22 @@ fn words_and_readers(rt: HostRuntime) -> Result<(), Fail> {
 always @(posedge ca) if (push && !full) tag[wb[1:0]] <= ~d;
 always @(posedge cb) if (pop && !empty) y <= tag[rb[1:0]];",
                 )],
-                two,
+                TWO,
             ),
             (
                 &[(
-                    pop,
+                    POP,
                     "if (!empty) x <= mem[rb[1:0]]; if (pop && !empty) begin",
                 )],
-                one,
+                ONE,
             ),
-            (&[("x <= mem[rb[1:0]]", "x <= x ^ mem[rb[1:0]]")], one),
+            (&[("x <= mem[rb[1:0]]", "x <= x ^ mem[rb[1:0]]")], ONE),
             (
                 &[(
-                    pop,
+                    POP,
                     "x <= empty ? 2'd0 : mem[rb[1:0]]; if (pop && !empty) begin",
                 )],
-                one,
+                ONE,
             ),
             (
                 &[
@@ -248,21 +255,21 @@ always @(posedge cb) if (pop && !empty) y <= tag[rb[1:0]];",
                         "rb[1:0] == 0 ? m0 : 1 == rb[1:0] ? m1 : rb[1:0] == 2 ? m2 : m3",
                     ),
                 ],
-                one,
+                ONE,
             ),
             (
                 &[(
                     "x <= mem[rb[1:0]];",
                     "x <= rb[1] ? (rb[0] ? mem[3] : mem[2]) : (rb[0] ? mem[1] : mem[0]);",
                 )],
-                none,
+                NONE,
             ),
             (
                 &[(
                     "assign q = x;",
                     "assign q = x; reg y; always @(posedge cb) y <= !empty & ^mem[rb[1:0]];",
                 )],
-                two,
+                TWO,
             ),
             (
                 &[(
