@@ -90,7 +90,7 @@ fn add_crossings_into(
 }
 
 /// The groups of the signals below each cell.
-fn groups_below(alloc: Global, net: &Net, domains: &Domains) -> Result<Below, NoMemory>
+pub fn groups_below(alloc: Global, net: &Net, domains: &Domains) -> Result<Below, NoMemory>
     ensures { IfOk result (λ below. IsWellFormed net.now.graph → ShowsGroups net.now domains.now below) }
 {
     let groups = groups_of_signals(alloc, domains)?;
@@ -125,7 +125,7 @@ fn group_on(domains: &Domains, clock: Option<u32>) -> Option<u32>
 }
 
 /// Whether a signal of another group stands below the bit's next value.
-fn may_cross(net: &Net, domains: &Domains, below: &Below, to: Bit) -> bool
+pub fn may_cross(net: &Net, domains: &Domains, below: &Below, to: Bit) -> bool
     ensures { result ≡ false → IsNet net.now → HasNextCells net.now → Fit net.now domains.now → ShowsGroups net.now domains.now below.now →
         to.at < bit_count net.now.graph.signals to.sig → crossings_into net.now domains.now to ≡ [] }
 {

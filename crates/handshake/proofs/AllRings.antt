@@ -293,10 +293,10 @@ module _ (net : Net) (domains : Domains) (is : IsNet net) (fit : Fit net domains
       }
 
   -- and a ring is that
-  may : (grays : GrayReg → Bool) (r : Ring) → IsRing (design_of net domains) (net_trees net grays) (syncs_of net domains) r → may_turn net domains r ≡ true
+  pub may : (grays : GrayReg → Bool) (r : Ring) → IsRing (design_of net domains) (net_trees net grays) (syncs_of net domains) r → may_turn net domains r ≡ true
   may grays r h = and_from (are_closed net domains r) (start_alike net r) (is_closed grays r h) (is_start net r h.start)
 
-  does : (grays : GrayReg → Bool) (r : Ring) → IsRing (design_of net domains) (net_trees net grays) (syncs_of net domains) r → turns net r ≡ true
+  pub does : (grays : GrayReg → Bool) (r : Ring) → IsRing (design_of net domains) (net_trees net grays) (syncs_of net domains) r → turns net r ≡ true
   does grays r h =
       and_from (waits net r) (answers net r)
       (and_from (waits_at net r false) (waits_at net r true)

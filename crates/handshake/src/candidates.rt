@@ -153,7 +153,7 @@ fn pair_of(net: &Net, domains: &Domains, syncs: &[Sync], there: usize, back: usi
 }
 
 /// Whether two synchronizers meet each condition of a ring but those on next values.
-fn may_turn(net: &Net, domains: &Domains, there: &Sync, back: &Sync) -> bool
+pub fn may_turn(net: &Net, domains: &Domains, there: &Sync, back: &Sync) -> bool
     ensures { IsNet net.now → (s b : SyncOf) → there.now ≡ sync_entry s → back.now ≡ sync_entry b →
         result ≡ may_turn net.now domains.now (record { there = s; back = b }) }
 {

@@ -85,7 +85,7 @@ fn add_ring(
 }
 
 /// Whether the request waits for the acknowledgement, and the acknowledgement answers it.
-fn turns(alloc: Global, net: &Net, there: &Sync, back: &Sync) -> Result<bool, NoMemory>
+pub fn turns(alloc: Global, net: &Net, there: &Sync, back: &Sync) -> Result<bool, NoMemory>
     ensures { IfOk result (λ yes. IsNet net.now → HasNextCells net.now → (s b : SyncOf) → there.now ≡ sync_entry s → back.now ≡ sync_entry b →
         is_register_bit net.now s.from ≡ true → is_register_bit net.now b.from ≡ true → yes ≡ turns net.now (record { there = s; back = b })) }
 {

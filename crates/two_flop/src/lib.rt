@@ -88,7 +88,7 @@ fn add_sync(
 }
 
 /// Whether a register bit is a plain copy of another bit.
-fn is_copy(net: &Net, table: &Table, bit: Bit, of: Bit) -> bool
+pub fn is_copy(net: &Net, table: &Table, bit: Bit, of: Bit) -> bool
     ensures { IsNet net.now → HasNextCells net.now → ShowsNet net.now [] table.now → is_register_bit net.now bit ≡ true → result ≡ copies net.now bit of }
 {
     match copied_bit(net, table, bit) {
@@ -200,7 +200,7 @@ fn chain(
 }
 
 /// The one reader of the flop, where that is a plain copy on the flop's clock.
-fn next_flop(
+pub fn next_flop(
     net: &Net,
     domains: &Domains,
     table: &Table,
