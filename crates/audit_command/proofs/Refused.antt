@@ -5,7 +5,7 @@ use Rattle.cdc_base.specs.declared.fault.Stop.{Stop}
 use Rattle.cdc_base.specs.declared.fault.Stop.TheVariants as stop
 use Rattle.cdc_base.specs.declared.limits.TheConstants.{MAX_CROSSINGS}
 use Rattle.cell_graph.specs.declared.net.Net.{Net}
-use Rattle.cell_graph.specs.Cells.{HasCause as HasNumber}
+use Rattle.refusals.specs.Limits.{HasCause as HasNumber}
 use Rattle.clock_constraints.specs.declared.Constraints.{Constraints as ConstraintsOf}
 use Rattle.clock_constraints.specs.Refusals.{Gives}
 use Rattle.domains.specs.declared.Domains.{Domains}
@@ -26,7 +26,7 @@ use Rattle.audit_command.specs.Refused.{AreTooMany, IsVerdictRefused, crossings,
 pub crossings_cause : {T : Type 0} (net : Net) (d : Domains) → CanAudit net d → (given : Result T Stop)
     → IfErr given (HasNumber 603 (CanAudit net d → MAX_CROSSINGS < length (crossings_of net d))) → IfErr given (Refuses (λ f. AreTooMany net d f Netlist))
 crossings_cause net d can (Ok v) h = tt
-crossings_cause net d can (Err (stop.Refused f)) h = record { of_netlist = refl; number = h.0; many = h.1 can }
+crossings_cause net d can (Err (stop.Refused f)) h = record { of_netlist = refl; past_limit = h.0; many = h.1 can }
 crossings_cause net d can (Err stop.Memory) h = tt
 
 pub waivers_cause : (c : ConstraintsOf) (net : Net) (d : Domains) (j : Judged) → IsJudged net d j → (given : Result (List (Option ℕ)) Stop)

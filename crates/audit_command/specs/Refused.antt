@@ -2,6 +2,7 @@
 use Rattle.std.specs.Prelude.{◌≡◌, ◌<◌, ℕ, List, length, Err}
 use Rattle.cdc_base.specs.declared.fault.Fault.{Fault}
 use Rattle.cdc_base.specs.declared.limits.TheConstants.{MAX_CROSSINGS}
+use Rattle.refusals.specs.Limits.{IsPastLimit}
 use Rattle.cell_graph.specs.declared.net.Net.{Net}
 use Rattle.clock_constraints.specs.declared.Constraints.{Constraints as ConstraintsOf}
 use Rattle.domains.specs.declared.Domains.{Domains}
@@ -19,7 +20,7 @@ use Rattle.described_design.specs.Refused.{AreTextsRefused}
 -- the net has too many crossings
 pub record AreTooMany (net : Net) (domains : Domains) (fault : Fault) (status : Status) : Type 0 where
   pub of_netlist : status ≡ Netlist
-  pub number : fault.number ≡ 603
+  pub past_limit : IsPastLimit 603 fault
   pub many : MAX_CROSSINGS < length (crossings_of net domains)
 
 -- a net and its domains in an audit: too many crossings; or the first waiver that meets no finding of the verdict over all FIFOs

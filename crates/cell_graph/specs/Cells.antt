@@ -1,8 +1,6 @@
 -- The cells of a graph, and their widths.
 use Rattle.std.specs.Prelude.{◌≡◌, ℕ, ◌+◌, ◌≤◌, ◌<◌, ◌^◌, min, Bool, cond, List, [], ◌∷◌, ◌++◌, length, Option, is_some, slice_get, unwrap_or, position}
 use Rattle.std.specs.Option.{option_map_or}
-use Rattle.cdc_base.specs.declared.fault.Stop.{Stop}
-use Rattle.cdc_base.specs.declared.fault.Stop.TheVariants.{Refused, Memory}
 use Rattle.cdc_base.specs.declared.signal.Signal.{Signal}
 use Rattle.cell_graph.specs.contracts.cell.CellPartialEq.TheImpl as equality
 use Rattle.cell_graph.specs.declared.cell.Cell.{Cell}
@@ -70,8 +68,3 @@ place_of cells c = unwrap_or (place_in cells c) (length cells)
 
 abbrev pub with_cell : List Cell → Cell → List Cell
 with_cell cells c = cond (is_some (place_in cells c)) cells (cells ++ c ∷ [])
-
--- a refusal by this number has this cause; want of memory has none
-abbrev pub HasCause : ℕ → Type 0 → Stop → Type 0
-HasCause number cause (Refused fault) = (fault.number ≡ number) × cause
-HasCause number cause Memory = Unit {0}

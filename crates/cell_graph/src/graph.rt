@@ -1,11 +1,13 @@
 //! A growing graph of cells over the signals of a design.
 ghost use Rattle.std.specs.Prelude.{◌≡◌, ◌+◌, ◌<◌, ◌≤◌, List, [], length, map, Some, slice_get, IfOk, IfErr, OnOk, OnErr};
-ghost use Rattle.cell_graph.specs.Cells.{place_in, place_of, with_cell, cell_at, cell_width, width_of, widths, signal_width, HasCause};
+ghost use Rattle.cell_graph.specs.Cells.{place_in, place_of, with_cell, cell_at, cell_width, width_of, widths, signal_width};
+ghost use Rattle.refusals.specs.Limits.{HasCause};
 ghost use Rattle.cell_graph.specs.Kept.{cells_of};
 
 use crate::cell::{Cell, CellId, Entry};
 use cdc_base::limits::MAX_CELLS;
-use cdc_base::{Fault, List, Name, NoMemory, Signal, Stop};
+use cdc_base::{List, NoMemory, Signal, Stop};
+use refusals::past_limit;
 use std::alloc::Global;
 use std::collections::HashMap;
 use std::marker::Model;
@@ -58,7 +60,7 @@ impl Graph {
         ensures unchanged { OnErr result (self.new ≡ self.old) }
     {
         if self.calls >= MAX_CELLS {
-            return Err(too_many_cells(self.alloc));
+            return Err(past_limit(self.alloc, 602));
         }
         if let Some(id) = self.place(cell) {
             self.calls += 1;
@@ -89,7 +91,7 @@ impl Graph {
         ensures unchanged { OnErr result (self.new ≡ self.old) }
     {
         if calls > MAX_CELLS - self.calls {
-            return Err(too_many_cells(self.alloc));
+            return Err(past_limit(self.alloc, 602));
         }
         self.calls += calls;
         Ok(())
@@ -171,18 +173,5 @@ impl Graph {
             Some(signal) => signal.width,
             None => 1,
         }
-    }
-}
-
-fn too_many_cells(alloc: Global) -> Stop
-    ensures { HasCause 602 (Unit {0}) result }
-{
-    match Name::from_text(alloc, "") {
-        Ok(name) => Stop::Refused(Fault {
-            number: 602,
-            place: None,
-            name,
-        }),
-        Err(_) => Stop::Memory,
     }
 }

@@ -10,7 +10,7 @@ use Rattle.cdc_base.specs.declared.fault.Stop.TheVariants.{Refused, Memory}
 use Rattle.cell_graph.specs.declared.cell.CellId.{CellId}
 use Rattle.cell_graph.specs.declared.cell.Node.{Node}
 use Rattle.cell_graph.specs.declared.net.Net.{Net}
-use Rattle.cell_graph.specs.Cells.{HasCause}
+use Rattle.refusals.specs.Limits.{HasCause}
 use Rattle.cell_graph.specs.Cofactor.{reads}
 use Rattle.domains.specs.declared.Domains.{Domains}
 use Rattle.domains.specs.Assignment.{group_of}

@@ -3,7 +3,6 @@
 
 ghost use Rattle.std.specs.Prelude.{◌≡◌, false, Some, [], ◌++◌, ◌<◌, ◌≤◌, List, length, map, option_and_then, slice_get, IfOk, IfErr};
 ghost use Rattle.std.specs.List.{Contains};
-ghost use Rattle.cell_graph.specs.Cells.{HasCause};
 ghost use Rattle.cell_graph.specs.Unfolded.{IsWellFormed};
 ghost use Rattle.domains.specs.Fit.{Fit};
 ghost use Rattle.domains.specs.Nets.{IsNet};
@@ -12,18 +11,20 @@ ghost use Rattle.cdc_model.specs.Listed.{IsPathOf};
 ghost use Rattle.cdc_model.specs.Nets.{HasNextCells, bit_count};
 ghost use Rattle.cdc_model.specs.Tables.{ShowsNet};
 ghost use Rattle.crossings.specs.Groups.{ShowsGroups};
+ghost use Rattle.refusals.specs.Limits.{HasCause};
 ghost use Rattle.refusals.specs.Numbers.{HasNumberIn, crossing_numbers};
 
 pub mod paths;
 
 use cdc_base::limits::MAX_CROSSINGS;
-use cdc_base::{Bit, Fault, List, Name, NoMemory, Stop};
+use cdc_base::{Bit, List, NoMemory, Stop};
 use cdc_model::view::{are_apart, bits_read, next_node, plain_table, register_bits};
 use cdc_model::{Below, Crossing, Marks};
 use cell_graph::{Net, Node};
 use cofactor::Table;
 use domains::Domains;
 pub use paths::Paths;
+use refusals::past_limit;
 use std::alloc::Global;
 
 /// All crossings of the net, in order. Refused with E603 where there are more than the limit.
@@ -177,14 +178,7 @@ fn too_many(alloc: Global) -> Stop
     ensures numbered { HasNumberIn crossing_numbers result }
     ensures cause { HasCause 603 (Unit {0}) result }
 {
-    match Name::from_text(alloc, "") {
-        Ok(name) => Stop::Refused(Fault {
-            number: 603,
-            place: None,
-            name,
-        }),
-        Err(_) => Stop::Memory,
-    }
+    past_limit(alloc, 603)
 }
 
 /// The path of a crossing, from the next value of its end to the node of its source. Where many paths are asked for,

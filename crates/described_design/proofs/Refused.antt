@@ -19,7 +19,8 @@ use Rattle.verilog_reading.specs.Refusals.{IsEnded}
 use Rattle.verilog_reading.specs.SourceTree.{ModuleTree}
 use Rattle.flat_form.specs.declared.flat.Flat.{Flat}
 use Rattle.flat_unfolding.specs.Unfolding.{IsUnfolding, unfolded}
-use Rattle.elaborate.specs.Refusals.{IsRefusedFor, Tells}
+use Rattle.refusals.specs.Limits.{Tells}
+use Rattle.elaborate.specs.Refusals.{IsRefusedFor}
 use Rattle.command_files.specs.declared.answer.Ending.{Ending}
 use Rattle.command_files.specs.declared.answer.Ending.TheVariants.{Refused, Memory}
 use Rattle.command_files.specs.declared.status.Status.{Status}

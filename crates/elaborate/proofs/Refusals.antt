@@ -7,6 +7,7 @@ use Rattle.cdc_base.specs.declared.fault.Fault.{Fault}
 use Rattle.cdc_base.specs.declared.fault.Stop.{Stop}
 use Rattle.cdc_base.specs.declared.fault.Stop.TheVariants.{Refused, Memory}
 use Rattle.cdc_base.specs.declared.signal.Signal.{Signal}
+use Rattle.refusals.specs.Limits.{IsPastLimit, Tells}
 use Rattle.refusals.specs.Numbers.{HasNumberIn, elaboration_numbers, is_listed}
 use Rattle.flat_meaning.specs.Design.{Flat}
 use Rattle.flat_meaning.specs.Segments.{IsLoopFree}
@@ -18,7 +19,7 @@ use Rattle.cdc_base.specs.declared.limits.TheConstants.{MAX_STATE_BITS}
 use Rattle.flat_form.specs.declared.flat.Flat.{Flat as Flattened}
 use Rattle.flat_form.specs.View.{flat_of}
 use Rattle.elaborate.specs.Limits.{state_bits}
-use Rattle.elaborate.specs.Refusals.{IsDesignOf, IsFirstMarked, IsFlattened, IsNetRefusedFor, IsPastLimit, IsRefusedFor, NamesFirstLoop, NamesPiece, NamesSignal, Tells}
+use Rattle.elaborate.specs.Refusals.{IsDesignOf, IsFirstMarked, IsFlattened, IsNetRefusedFor, IsRefusedFor, NamesFirstLoop, NamesPiece, NamesSignal}
 
 pub tells-also : (P Q : Fault → Type 0) → ((fault : Fault) → P fault → Q fault) → (stop : Stop) → Tells P stop → Tells Q stop
 tells-also P Q step (Refused fault) told = step fault told

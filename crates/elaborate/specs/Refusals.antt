@@ -1,11 +1,10 @@
 -- What a refusal of elaboration tells of the design.
-use Rattle.std.specs.Prelude.{◌≡◌, ℕ, ◌+◌, ◌<◌, ◌≤◌, Bool, true, List, [], length, map, Some, None, slice_get}
+use Rattle.std.specs.Prelude.{◌≡◌, ℕ, ◌+◌, ◌<◌, ◌≤◌, Bool, true, List, [], length, map, Some, slice_get}
 use Rattle.std.specs.List.{Contains}
 use Rattle.cdc_base.specs.declared.fault.Fault.{Fault}
-use Rattle.cdc_base.specs.declared.fault.Stop.{Stop}
-use Rattle.cdc_base.specs.declared.fault.Stop.TheVariants.{Refused, Memory}
 use Rattle.cdc_base.specs.declared.limits.TheConstants.{MAX_STATE_BITS}
 use Rattle.cdc_base.specs.declared.signal.Signal.{Signal}
+use Rattle.refusals.specs.Limits.{IsPastLimit}
 use Rattle.cell_graph.specs.Nets.{register_signals}
 use Rattle.flat_meaning.specs.Design as d
 use Rattle.flat_meaning.specs.Segments.{IsLoopFree}
@@ -23,12 +22,6 @@ use Rattle.loop_law.specs.Loops.{IsFirstLoop}
 use Rattle.elaborate.specs.Counts.{HasRoom, HasTooManyCells}
 use Rattle.elaborate.specs.Limits.{state_bits}
 
--- what is past a limit has neither a place nor a name
-pub record IsPastLimit (n : ℕ) (fault : Fault) : Type 0 where
-  pub number : fault.number ≡ n
-  pub place : fault.place ≡ None
-  pub name : fault.name ≡ []
-
 -- E312 names a signal, at its declaration
 pub record NamesSignal (s : Signal) (fault : Fault) : Type 0 where
   pub number : fault.number ≡ 312
@@ -42,11 +35,6 @@ pub record NamesFirstLoop (f : d.Flat) (fault : Fault) : Type 0 where
   pub stands : slice_get f.signals sig ≡ Some signal
   pub first : IsFirstLoop f sig
   pub names : NamesSignal signal fault
-
--- a refusal that isn't for want of memory tells this
-abbrev pub Tells : (Fault → Type 0) → Stop → Type 0
-Tells P (Refused fault) = P fault
-Tells P Memory = Unit {0}
 
 -- ---- causes, in the order in which they are tried
 

@@ -2,7 +2,8 @@
 ghost use Rattle.std.specs.Prelude.{◌≡◌, ◌<◌, ◌↔◌, IsTrue};
 ghost use Rattle.refusals.specs.Numbers.{HasNumberIn, elaboration_numbers};
 ghost use Rattle.elaborate.specs.Limits.{state_bits, own_bits as bits_of};
-ghost use Rattle.elaborate.specs.Refusals.{IsPastLimit, NamesSignal, Tells};
+ghost use Rattle.refusals.specs.Limits.{Tells};
+ghost use Rattle.elaborate.specs.Refusals.{NamesSignal};
 
 use cdc_base::limits::MAX_STATE_BITS;
 use cdc_base::{Fault, Name, NoMemory, SigKind, Signal, Stop};
@@ -17,20 +18,6 @@ pub fn combinational_loop(alloc: Global, signal: &Signal) -> Stop
         Ok(name) => Stop::Refused(Fault {
             number: 312,
             place: Some(signal.place),
-            name,
-        }),
-        Err(NoMemory) => Stop::Memory,
-    }
-}
-
-/// The design is past the limit with this number.
-pub fn past_limit(alloc: Global, number: u16) -> Stop
-    ensures told { Tells (IsPastLimit number) result }
-{
-    match Name::from_text(alloc, "") {
-        Ok(name) => Stop::Refused(Fault {
-            number,
-            place: None,
             name,
         }),
         Err(NoMemory) => Stop::Memory,

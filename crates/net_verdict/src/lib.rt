@@ -3,7 +3,7 @@
 
 ghost use Rattle.std.specs.Prelude.{◌<◌, length, IfOk, IfErr};
 ghost use Rattle.cdc_base.specs.declared.limits.TheConstants.{MAX_CROSSINGS};
-ghost use Rattle.cell_graph.specs.Cells.{HasCause};
+ghost use Rattle.refusals.specs.Limits.{HasCause};
 ghost use Rattle.cdc_model.specs.Found.{crossings_of};
 ghost use Rattle.net_verdict.specs.Judged.{IsJudged};
 ghost use Rattle.obligations.specs.Judged.{CanAudit};

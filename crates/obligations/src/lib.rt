@@ -4,7 +4,7 @@
 ghost use Rattle.std.specs.Prelude.{◌≡◌, ◌<◌, ℕ, [], Bool, true, List, length, map, IfOk, IfErr};
 ghost use Rattle.cdc_base.specs.declared.bit.Bit.{Bit};
 ghost use Rattle.cdc_base.specs.declared.limits.TheConstants.{MAX_CROSSINGS};
-ghost use Rattle.cell_graph.specs.Cells.{HasCause};
+ghost use Rattle.refusals.specs.Limits.{HasCause};
 ghost use Rattle.cdc_model.specs.declared.scheme.GrayReg.{GrayReg as GrayRegOf};
 ghost use Rattle.cdc_model.specs.declared.scheme.Ring.{Ring as RingEntry};
 ghost use Rattle.cdc_model.specs.Facts.{none_extra};

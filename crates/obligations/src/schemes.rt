@@ -1,7 +1,7 @@
 //! The schemes by which all else in a net is judged.
 ghost use Rattle.std.specs.Prelude.{◌≡◌, ◌<◌, [], length, IfOk, IfErr};
 ghost use Rattle.cdc_base.specs.declared.limits.TheConstants.{MAX_CROSSINGS};
-ghost use Rattle.cell_graph.specs.Cells.{HasCause};
+ghost use Rattle.refusals.specs.Limits.{HasCause};
 ghost use Rattle.cdc_model.specs.Found.{crossings_of};
 ghost use Rattle.cdc_model.specs.Tables.{ShowsNet};
 ghost use Rattle.obligations.specs.Judged.{CanAudit};

@@ -51,15 +51,16 @@ stop_fault f stop.Memory = f
 pub stops_for_memory : (ts : List Token) (h : Halt) (s : Stop) → s ≡ stop.Memory → TellsWhere ts h s
 stops_for_memory ts h s e before t more deep f x y z = absurd (search (rules, sym e ∙ z))
 
-pub told_where : (ts : List Token) (h : Halt) (s : Stop) (deep : Bool) (left : ℕ) (g : Fault) → h ≡ halt.Refused deep left → s ≡ stop.Refused g → g.number ≡ number_of deep
+pub told_where : (ts : List Token) (h : Halt) (s : Stop) (deep : Bool) (left : ℕ) (g : Fault) → h ≡ halt.Refused deep left → s ≡ stop.Refused g → g.number ≡ number_of deep → g.name ≡ []
     → ((t : Token) → slice_get ts (length ts - left) ≡ Some t → g.place ≡ Some t.place) → TellsWhere ts h s
 unfolding halt_deep halt_left stop_fault
-told_where ts h s deep left g e k n p before t more d f x y z =
+told_where ts h s deep left g e k n m p before t more d f x y z =
     let b : deep ≡ d = ap (halt_deep deep) (sym e ∙ y) in
     let l : left ≡ length (t ∷ more) = ap (halt_left left) (sym e ∙ y) in
     let q : g ≡ f = ap (stop_fault g) (sym k ∙ z) in
     record {
       number = subst (λ (u : Fault). u.number ≡ number_of d) q (n ∙ ap number_of b);
+      name = subst (λ (u : Fault). u.name ≡ []) q m;
       place = subst (λ (u : Fault). u.place ≡ Some t.place) q (p t (token_left ts before t more left (length ts - left) x l refl));
     }
 

@@ -1,5 +1,5 @@
 -- What a refusal of the parser tells.
-use Rattle.std.specs.Prelude.{ℕ, ◌≡◌, Bool, List, ◌∷◌, ◌++◌, length, Some, if◌then◌else◌}
+use Rattle.std.specs.Prelude.{ℕ, ◌≡◌, Bool, List, [], ◌∷◌, ◌++◌, length, Some, if◌then◌else◌}
 use Rattle.cdc_base.specs.declared.fault.Fault.{Fault}
 use Rattle.cdc_base.specs.declared.fault.Stop.{Stop}
 use Rattle.cdc_base.specs.declared.fault.Stop.TheVariants as stop
@@ -12,10 +12,11 @@ use Rattle.verilog_reading.specs.Refusals.{IsFirstRefused}
 abbrev pub number_of : Bool → ℕ
 number_of deep = if deep then 202 else 201
 
--- the fault has that number, and the place of that token
+-- the fault has that number, the place of that token, and no name
 pub record Tells (deep : Bool) (t : Token) (f : Fault) : Type 0 where
   pub number : f.number ≡ number_of deep
   pub place : f.place ≡ Some t.place
+  pub name : f.name ≡ []
 
 -- the fault tells of the first token that no source of so many levels below the first goes on with
 pub record TellsFirst (n : ℕ) (ts : List Token) (f : Fault) : Type 0 where

@@ -6,7 +6,8 @@ use Rattle.cell_graph.specs.declared.net.Reg.{Reg}
 use Rattle.elaborate.proofs.Fits.{fit-net, fit-next, registers-kept, words-started}
 use Rattle.elaborate.proofs.Refusals.{err-also, limit-numbered, net-refused, tells-also}
 use Rattle.elaborate.specs.Limits.{state_bits}
-use Rattle.elaborate.specs.Refusals.{IsDesignOf, IsFlattened, IsNetRefusedFor, IsPastLimit, IsRefusedFor, Tells}
+use Rattle.refusals.specs.Limits.{IsPastLimit, Tells}
+use Rattle.elaborate.specs.Refusals.{IsDesignOf, IsFlattened, IsNetRefusedFor, IsRefusedFor}
 use Rattle.elaborate.specs.Words.{AreStarted}
 use Rattle.flat_form.specs.View.{flat_of}
 use Rattle.elaborate.proofs.elaborate.Goals as goal

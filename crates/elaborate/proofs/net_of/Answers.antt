@@ -7,7 +7,8 @@ use Rattle.driver_loops.specs.Orders.{HasLoop, IsFront, IsOrderOf}
 use Rattle.refusals.specs.Numbers.{elaboration_numbers}
 use Rattle.elaborate.specs.Counts.{HasRoom, HasTooManyCells, capped, draft_cells}
 use Rattle.elaborate.specs.Lowered.{AreNeeded, EndsStandBefore}
-use Rattle.elaborate.specs.Refusals.{IsNetRefusedFor, IsPastLimit, NamesPiece}
+use Rattle.refusals.specs.Limits.{IsPastLimit}
+use Rattle.elaborate.specs.Refusals.{IsNetRefusedFor, NamesPiece}
 use Rattle.elaborate.specs.Words.{as_word}
 use Rattle.elaborate.proofs.Orders.{IsWalked, front-counted, front-needed, front-sorted, loop-named, walked-free}
 use Rattle.elaborate.proofs.Refusals.{limit-numbered, tells-also}
