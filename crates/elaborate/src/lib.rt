@@ -43,7 +43,6 @@ mod refusal;
 use crate::builder::sized;
 use crate::count::Counts;
 use crate::lower::Lowering;
-use refusals::past_limit;
 use cdc_base::limits::MAX_CELLS;
 use cdc_base::{List, NoMemory, SigKind, Signal, Stop};
 use cell_graph::word::low_bits;
@@ -53,6 +52,7 @@ use driver_trees::Sketch;
 use driver_trees::memory::{numbered, push};
 use flat_form::Flat;
 use loop_law::{first_loop_is_first, signals_lie_on_loops, well_sized_is_filled};
+use refusals::past_limit;
 use std::alloc::Global;
 
 /// Makes the cells of the design's registers and outputs.
