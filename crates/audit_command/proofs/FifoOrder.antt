@@ -50,8 +50,9 @@ use Rattle.flat_model.proofs.Meanings.{same_design}
 use Rattle.flat_model.proofs.PinnedRuns.{clocked_free, flipped_pinned, pinned_run, run_pinned}
 use Rattle.flat_model.proofs.Words.{cond_self}
 use Rattle.fifo_scheme.specs.declared.found.Fifo.{Fifo as FifoEntry}
+use Rattle.fifo_scheme.specs.Entries.{IsEntry}
 use Rattle.net_verdict.specs.Fifos.{IsInOrder}
-use Rattle.audit_command.specs.Audits.{IsInOrderBy, levels_of, run_at, state_at}
+use Rattle.audit_command.specs.Audits.{IsInOrderBy, KeepsOrder, levels_of, run_at, state_at}
 use Rattle.audit_command.proofs.FifoNext.{fifo_same}
 
 -- ---- levels
@@ -279,22 +280,31 @@ module _ (f : Flat) (c : Constraints) (d : Design) (m : IsMeaning f c d) where
           (λ e. differ (next_at r x lies (now_kept past) ∙ e
           ∙ sym (next_at (flipped (bit_eq b) r) x lies (flip_kept k.write.clock b on r (now_kept past)))))
 
--- words that go through the net's FIFO in order do so in all that the flat design means
+-- words that go in order through a FIFO of the net over listed synchronizers and Gray registers do so in all that the flat design means
+pub in_order_over : (f : Flat) (sel : Selects) (c : Constraints) (net : Net) (domains : Domains) → IsNetOf f sel c net domains
+    → (syncs : List Sync) (grays : List GrayReg) (entry : FifoEntry) (fifo : Fifo)
+    → IsFifo (net_model.design_of net domains) (net_model.next_tree net) syncs grays fifo → IsEntry net.graph fifo entry
+    → ((run : Trace) → IsRun (net_model.design_of net domains) run → IsWithinDepth fifo run)
+    → ((past : Trace) (edges : ℕ → Bool) (new : State) → IsRun (net_model.design_of net domains) (Then past edges new)
+    → ReadsOldest (net_model.design_of net domains) fifo past edges new) → IsInOrderBy f c net.graph syncs grays entry
+in_order_over f sel c net domains n syncs grays entry fifo is_fifo is_entry within oldest d m =
+    let at = run_at (levels_of f c d m) in
+    let is_run = is_run_at f c d m sel net domains n in
+    record {
+      fifo = fifo;
+      is_fifo = fifo_is f c d m sel net domains n syncs grays fifo is_fifo;
+      entry = is_entry;
+      within = λ run is. within_at f c d m sel net domains n syncs grays fifo is_fifo run (within (at run) (is_run run is));
+      oldest = λ past edges new is.
+          let there = state_at (levels_of f c d m) new in
+          oldest_at f c d m sel net domains n syncs grays fifo is_fifo past edges there
+          (oldest (at past) edges there (is_run (Then past edges new) is));
+    }
+
+-- so do those that go through a FIFO over all synchronizers, by a verdict's
 pub in_order_by : (f : Flat) (sel : Selects) (c : Constraints) (net : Net) (domains : Domains) → IsNetOf f sel c net domains
     → (extra : Bit → Bit → Bool) (e : VerdictEntry) (w : IsVerdictOf net domains extra e) (entry : FifoEntry)
     → IsInOrder net domains e.grays entry → IsInOrderBy f c net.graph w.syncs e.grays entry
 in_order_by f sel c net domains n extra e w entry order d m =
-    let at = run_at (levels_of f c d m) in
-    let syncs = syncs_of net domains in
-    let is_run = is_run_at f c d m sel net domains n in
-    record {
-      fifo = order.fifo;
-      is_fifo = subst (λ (ss : List Sync). IsFifo d (next_tree f m.sel) ss e.grays order.fifo) (same_syncs f c d m sel net domains n extra e w)
-          (fifo_is f c d m sel net domains n syncs e.grays order.fifo order.is_fifo);
-      entry = order.entry;
-      within = λ run is. within_at f c d m sel net domains n syncs e.grays order.fifo order.is_fifo run (order.within (at run) (is_run run is));
-      oldest = λ past edges new is.
-          let there = state_at (levels_of f c d m) new in
-          oldest_at f c d m sel net domains n syncs e.grays order.fifo order.is_fifo past edges there
-          (order.oldest (at past) edges there (is_run (Then past edges new) is));
-    }
+    subst (λ (ss : List Sync). KeepsOrder f c d m net.graph ss e.grays entry) (same_syncs f c d m sel net domains n extra e w)
+    (in_order_over f sel c net domains n (syncs_of net domains) e.grays entry order.fifo order.is_fifo order.entry order.within order.oldest d m)

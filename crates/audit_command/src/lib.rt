@@ -23,7 +23,7 @@ use report::text::Text;
 use std::alloc::Global;
 
 /// The verdict on a net with its domains and all its FIFOs. Refused as the netlist where it has too many crossings.
-fn verdict_on(alloc: Global, net: &Net, domains: &Domains) -> Result<Judged, Ending>
+pub fn verdict_on(alloc: Global, net: &Net, domains: &Domains) -> Result<Judged, Ending>
     ensures of_files { IfErr result IsOfFiles }
     ensures exact { CanAudit net.now domains.now → IfOk result (IsJudged net.now domains.now) }
     ensures refused { CanAudit net.now domains.now → IfErr result (HasCause (λ status fault. AreTooMany net.now domains.now fault status)) }

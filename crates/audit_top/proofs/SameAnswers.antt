@@ -17,6 +17,12 @@ use Rattle.described_design.specs.SameConstraints.{HaveSameConstraints}
 use Rattle.described_design.proofs.SameConstraints.{same_design, same_refusal}
 use Rattle.audit_command.specs.Audits.{IsAuditOf}
 use Rattle.audit_command.specs.Refused.{IsAuditRefused, texts, verdict}
+use Rattle.certify_command.specs.Certifies.{IsCertifyOf}
+use Rattle.certify_command.specs.Refused.{IsCertifyRefused}
+use Rattle.certify_command.specs.Refused as certify
+use Rattle.check_command.specs.Checks.{IsCheckOf}
+use Rattle.check_command.specs.Refused.{IsCheckRefused}
+use Rattle.check_command.specs.Refused as check
 use Rattle.replay_command.specs.Replays.{IsReplayUnder}
 
 one_token_list : (a b : List Token) (r : Result (List Token) Fault) → r ≡ Ok a → r ≡ Ok b → a ≡ b
@@ -68,6 +74,53 @@ module _ (net word con other_word other_con : List ℕ) (also : HaveSameConstrai
     design = same r.constraints r.net r.domains r.design;
     replayed = r.replayed;
   }
+
+  pub same_certify : (status : Status) (text : List ℕ) → IsCertifyOf word net con status text → IsCertifyOf other_word net other_con status text
+  same_certify status text a = record {
+    constraints = a.constraints;
+    net = a.net;
+    domains = a.domains;
+    design = same a.constraints a.net a.domains a.design;
+    meaning = a.meaning;
+    listed = a.listed;
+    fifos = a.fifos;
+    are_fifos = a.are_fifos;
+    is_verdict = a.is_verdict;
+    exact = a.exact;
+    clean = a.clean;
+    certifies = a.certifies;
+    status_is = a.status_is;
+    answer_is = a.answer_is;
+  }
+
+  pub same_check : (cert : List ℕ) (status : Status) (text : List ℕ) → IsCheckOf word net con cert status text
+      → IsCheckOf other_word net other_con cert status text
+  same_check cert status text a = record {
+    constraints = a.constraints;
+    net = a.net;
+    domains = a.domains;
+    design = same a.constraints a.net a.domains a.design;
+    meaning = a.meaning;
+    certificate = a.certificate;
+    reads = a.reads;
+    checked = a.checked;
+    exact = a.exact;
+    certified = a.certified;
+    holding = a.holding;
+    status_is = a.status_is;
+    answer_is = a.answer_is;
+  }
+
+  pub same_certify_refusal : (fault : Fault) (status : Status) → IsCertifyRefused word net con fault status → IsCertifyRefused other_word net other_con fault status
+  same_certify_refusal fault status (certify.texts h) = certify.texts (same_refusal net word con other_word other_con also fault status h)
+  same_certify_refusal fault status (certify.crossings c made domains design h) =
+      certify.crossings c made domains (same c made domains design) h
+
+  pub same_check_refusal : (cert : List ℕ) (fault : Fault) (status : Status) → IsCheckRefused word net con cert fault status
+      → IsCheckRefused other_word net other_con cert fault status
+  same_check_refusal cert fault status (check.texts h) = check.texts (same_refusal net word con other_word other_con also fault status h)
+  same_check_refusal cert fault status (check.certificate c made domains design h) =
+      check.certificate c made domains (same c made domains design) h
 
   pub same_audit_refusal : (fault : Fault) (status : Status) → IsAuditRefused word net con fault status → IsAuditRefused other_word net other_con fault status
   same_audit_refusal fault status (texts h) = texts (same_refusal net word con other_word other_con also fault status h)

@@ -7,9 +7,13 @@ use Rattle.command_files.specs.declared.status.Status.TheVariants.{Done}
 use Rattle.command_files.specs.Endings.{IsCausedBy, IsCausedByAny}
 use Rattle.command_files.specs.Files.{Seen, Text, AreAllTold, AreTold}
 use Rattle.command_files.specs.Statuses.{IsEnd, IsOfStatus}
-use Rattle.command_line.specs.Asked.{Asked, audit, replay, selftest, shown}
+use Rattle.command_line.specs.Asked.{Asked, audit, replay, selftest, certify, check, shown}
 use Rattle.audit_command.specs.Audits.{IsAuditOf}
 use Rattle.audit_command.specs.Refused.{IsAuditRefused}
+use Rattle.certify_command.specs.Certifies.{IsCertifyOf}
+use Rattle.certify_command.specs.Refused.{IsCertifyRefused}
+use Rattle.check_command.specs.Checks.{IsCheckOf}
+use Rattle.check_command.specs.Refused.{IsCheckRefused}
 use Rattle.replay_command.specs.Replays.{IsReplayDone, IsReplayRefused}
 use Rattle.selftest_command.specs.Selftests.{IsSelftestOf, IsSelftestRefused}
 use Rattle.audit_top.specs.Pages.{page_text}
@@ -40,4 +44,6 @@ abbrev pub IsAnsweredTo : Asked → Seen → Status → Text → Type 0
 IsAnsweredTo (audit json net con) now status text = IsAnsweredBoth (IsAuditOf json con) (IsAuditRefused con) now net con status text
 IsAnsweredTo (replay net con run) now status text = IsAnsweredAll (IsReplayDone con) (IsReplayRefused con) now net con run status text
 IsAnsweredTo (selftest channels) now status text = IsAnswered (IsSelftestOf channels) (IsSelftestRefused channels) status text
+IsAnsweredTo (certify net con) now status text = IsAnsweredBoth (IsCertifyOf con) (IsCertifyRefused con) now net con status text
+IsAnsweredTo (check net con cert) now status text = IsAnsweredAll (IsCheckOf con) (IsCheckRefused con) now net con cert status text
 IsAnsweredTo (shown page) now status text = (status ≡ Done) × (text ≡ page_text page)

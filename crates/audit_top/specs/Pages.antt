@@ -10,20 +10,23 @@ help_lines =
     ∷ codes "  audit [--json] NET CON  the verdict on all crossings, as text or as JSON"
     ∷ codes "  replay NET CON RUN      the run that a record fixes"
     ∷ codes "  selftest N              audit of the generated design of N channels"
+    ∷ codes "  certify NET CON         a certificate of a clean design"
+    ∷ codes "  check NET CON CERT      does the certificate hold?"
     ∷ codes "  help, --help, -h        this page"
     ∷ codes "  version, --version, -V  name and version"
     ∷ []
-    ∷ codes "  NET  a netlist in Verilog"
-    ∷ codes "  CON  clock constraints in TOML, or in SDC where the word ends in .sdc"
-    ∷ codes "  RUN  a run record in JSON"
-    ∷ codes "  N    a number from 1 to 10000"
+    ∷ codes "  NET   a netlist in Verilog"
+    ∷ codes "  CON   clock constraints in TOML, or in SDC where the word ends in .sdc"
+    ∷ codes "  RUN   a run record in JSON"
+    ∷ codes "  CERT  a certificate"
+    ∷ codes "  N     a number from 1 to 10000"
     ∷ []
     ∷ codes "status 0  clean, or done"
-    ∷ codes "status 1  a finding without a waiver"
+    ∷ codes "status 1  a finding without a waiver, or a certificate that fails"
     ∷ codes "status 2  the words are refused"
     ∷ codes "status 3  NET is refused"
     ∷ codes "status 4  CON is refused"
-    ∷ codes "status 5  RUN is refused"
+    ∷ codes "status 5  RUN or CERT is refused"
     ∷ codes "status 6  a file can't be read"
     ∷ codes "status 7  the output can't be written"
     ∷ codes "status 8  out of memory"
@@ -49,4 +52,4 @@ page_text page = text_of_lines (lines_of page)
 
 -- the line for words that are refused
 abbrev pub usage_line : List ℕ
-usage_line = codes "usage: cdcaudit audit [--json] NET CON | replay NET CON RUN | selftest N | help" ++ 10 ∷ []
+usage_line = codes "usage: cdcaudit audit [--json] NET CON | replay NET CON RUN | selftest N | certify NET CON | check NET CON CERT | help" ++ 10 ∷ []

@@ -9,6 +9,8 @@ use crate::output::write_lines;
 use crate::page;
 use audit_command::audit;
 use cdc_base::{Files, List, NoMemory, Sink, SinkFault};
+use certify_command::certify;
+use check_command::check;
 use command_files::{Answer, Status, answer_of};
 use command_line::{Refusal, Request};
 use replay_command::replay;
@@ -16,7 +18,7 @@ use selftest_command::selftest;
 use std::alloc::Global;
 
 const USAGE: &str =
-    "usage: cdcaudit audit [--json] NET CON | replay NET CON RUN | selftest N | help\n";
+    "usage: cdcaudit audit [--json] NET CON | replay NET CON RUN | selftest N | certify NET CON | check NET CON CERT | help\n";
 
 fn usage(alloc: Global) -> Result<Answer, NoMemory>
     ensures { IfOk result IsUsage }
@@ -47,6 +49,8 @@ fn answer_request<F: Files>(
         Request::Audit { json, net, con } => answer_of(alloc, audit(alloc, files, json, net, con)),
         Request::Replay { net, con, run } => answer_of(alloc, replay(alloc, files, net, con, run)),
         Request::Selftest { channels } => answer_of(alloc, selftest(alloc, channels)),
+        Request::Certify { net, con } => answer_of(alloc, certify(alloc, files, net, con)),
+        Request::Check { net, con, cert } => answer_of(alloc, check(alloc, files, net, con, cert)),
         Request::Show(page) => page::show(alloc, page),
     }
 }

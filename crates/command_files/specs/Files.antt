@@ -49,9 +49,13 @@ abbrev pub IsTooLong : Seen → Seen → Fault → Type 0
 IsTooLong before now fault = IsLastAsked fault.name now × (fault ≡ fault_at 600 fault.name)
     × RoseBy (max_bytes + 1) before.taken now.taken
 
--- what a record may be refused for, once it was read: its own rules, and those of its steps
+-- the rule of a certificate's lines
+abbrev pub certificate_numbers : List ℕ
+certificate_numbers = 510 ∷ []
+
+-- what a record may be refused for, once it was read: its own rules, and those of its steps; or a certificate
 abbrev pub all_record_numbers : List ℕ
-all_record_numbers = record_numbers ++ step_numbers
+all_record_numbers = record_numbers ++ step_numbers ++ certificate_numbers
 
 -- the rules of an SDC text
 abbrev pub sdc_numbers : List ℕ

@@ -80,7 +80,7 @@ pub fn read_three<F: Files>(
     ensures files { let before : Seen = record { held = F.held files.old; asked = F.asked files.old; taken = F.taken files.old; faults = F.faults files.old } in
         let now : Seen = record { held = F.held files.new; asked = F.asked files.new; taken = F.taken files.new; faults = F.faults files.new } in
         IsReadOfThree net.now con.now run.now before now result }
-    ensures within { IfOk result (λ texts. length texts.0 ≤ max_bytes) }
+    ensures within { IfOk result (λ texts. (length texts.0 ≤ max_bytes) × (length texts.1 ≤ max_bytes) × (length texts.2 ≤ max_bytes)) }
     ensures content { IfOk result (λ texts. (F.held files.new net.now ≡ Some texts.0) × (F.held files.new con.now ≡ Some texts.1) × (F.held files.new run.now ≡ Some texts.2)) }
     ensures of_length { IfErr result (IsOfLength run.now) }
     ensures unread { IfErr result (IsUnreadOfThree net.now con.now run.now) }

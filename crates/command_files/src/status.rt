@@ -3,8 +3,9 @@ ghost use Rattle.std.specs.Prelude.{◌≡◌};
 ghost use Rattle.command_files.specs.Statuses.{code_of};
 
 /// How a run of the program ended. The first and `Violations`, `Waived` come after an audit: no finding, a finding
-/// without a waiver, or findings that each have one. `Usage` refuses the words; `Netlist`, `Constraints` and `Record`
-/// refuse a file; `ReadFault` and `WriteFault` come of the outside; `Memory` is want of memory.
+/// without a waiver, or findings that each have one. `Violations` comes also of a certificate that fails. `Usage` refuses
+/// the words; `Netlist`, `Constraints` and `Record`, which stands for the record of a run and for a certificate, refuse a
+/// file; `ReadFault` and `WriteFault` come of the outside; `Memory` is want of memory.
 #[derive(Clone, Copy, PartialEq, Eq, Debug, Drop)]
 pub enum Status {
     Done,

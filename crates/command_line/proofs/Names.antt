@@ -27,7 +27,7 @@ use Rattle.clap.specs.declared.parser.matches.ArgMatches.{ArgMatches}
 use Rattle.clap.specs.declared.parser.matches.ArgMatches.TheViews.{out-ArgMatches, out-SubCommand}
 use Rattle.clap.specs.declared.parser.matches.SubCommand.{SubCommand}
 use Rattle.clap.proofs.ValueTestLemmas.{accepts-Accepts}
-use Rattle.command_line.specs.Cli.{cli, HasNumber, IsTaken, digits_of, audit_app, replay_app, selftest_app}
+use Rattle.command_line.specs.Cli.{cli, HasNumber, IsTaken, digits_of, audit_app, replay_app, selftest_app, certify_app, check_app}
 use Rattle.command_line.proofs.Numbers.{written}
 use Rattle.command_line.proofs.Rows.{Each, found_each, help_keeps, level_one, or_empty, own_keeps}
 
@@ -125,12 +125,18 @@ selftest_takes ws none =
     (own_keeps (codes "N") channels_parser 1, (help_keeps (codes "N") channels_parser 2, tt)) (sub selftest_app) refl refl ws none
     (λ e. given (is_given (codes "N") (rows_after (sub selftest_app).rules [] ws)) (all_given (sub selftest_app) (rows_after (sub selftest_app).rules [] ws) refl e).0) in
     record {
-      command = inr (inr refl);
+      command = inr (inr (inl refl));
       channels = λ e. number_there 1 10000 (codes "N") (rows_after (sub selftest_app).rules [] ws) t is passes;
     }
 
+certify_takes : TakesOwn (sub certify_app)
+certify_takes ws none = record { command = inr (inr (inr (inl refl))); channels = λ e. absurd (other_name (codes "certify") (codes "selftest") refl refl e) }
+
+check_takes : TakesOwn (sub check_app)
+check_takes ws none = record { command = inr (inr (inr (inr refl))); channels = λ e. absurd (other_name (codes "check") (codes "selftest") refl refl e) }
+
 all_take : Each TakesOwn (built cli).subs
-all_take = (audit_takes, (replay_takes, (selftest_takes, tt)))
+all_take = (audit_takes, (replay_takes, (selftest_takes, (certify_takes, (check_takes, tt)))))
 
 entered_one : (stop : Option (Text × List Text)) → is_some (entered (built cli) stop) ≡ true → entered_fault (built cli) stop ≡ [] → IsTakenOne (entered (built cli) stop)
 entered_one None e none = cc

@@ -9,9 +9,9 @@ use Rattle.clap.specs.Words.{first_of, one_of, fault_of, subcommand_of}
 use Rattle.clap.specs.Simple.{on_top}
 use Rattle.clap.specs.declared.builder.action.ArgAction.TheVariants.{SetTrue}
 use Rattle.clap.specs.declared.builder.value_parser.ValueParser.TheVariants as vp
-use Rattle.command_line.specs.Asked.{Asked, audit, replay, selftest, shown}
+use Rattle.command_line.specs.Asked.{Asked, audit, replay, selftest, certify, check, shown}
 use Rattle.command_line.specs.declared.Request.{Request}
-use Rattle.command_line.specs.declared.Request.TheVariants.{Audit, Replay, Selftest, Show}
+use Rattle.command_line.specs.declared.Request.TheVariants.{Audit, Replay, Selftest, Certify, Check, Show}
 use Rattle.command_line.specs.declared.Page.{Page}
 use Rattle.command_line.specs.declared.Page.TheVariants.{Help, Version}
 
@@ -41,13 +41,23 @@ replay_app = with_rule (with_rule (with_rule (new_app (codes "replay")) (require
 abbrev pub selftest_app : App
 selftest_app = with_rule (new_app (codes "selftest")) (number_rule (codes "N") 1 10000)
 
+-- `certify NET CON`
+abbrev pub certify_app : App
+certify_app = with_rule (with_rule (new_app (codes "certify")) (required_rule (codes "NET"))) (required_rule (codes "CON"))
+
+-- `check NET CON CERT`
+abbrev pub check_app : App
+check_app = with_rule (with_rule (with_rule (new_app (codes "check")) (required_rule (codes "NET")))
+    (required_rule (codes "CON"))) (required_rule (codes "CERT"))
+
 -- the command takes no word for the program's name and wants a subcommand
 abbrev pub cli_head : App
 cli_head = on_top (λ s. record s { no_binary_name = true; subcommand_required = true; disable_help_subcommand = true }) (new_app (codes "cdcaudit"))
 
 -- it has these subcommands
 abbrev pub cli : App
-cli = with_subcommand (with_subcommand (with_subcommand cli_head audit_app.top) replay_app.top) selftest_app.top
+cli = with_subcommand (with_subcommand (with_subcommand (with_subcommand (with_subcommand cli_head
+    audit_app.top) replay_app.top) selftest_app.top) certify_app.top) check_app.top
 
 -- the words for a page, which stand alone
 abbrev pub pages : List (Text × Page)
@@ -97,7 +107,9 @@ asked_by name rows =
     if bytes_eq name (codes "audit") then Some (audit (bytes_eq (text_of (codes "json") rows) (codes "true")) (text_of (codes "NET") rows) (text_of (codes "CON") rows))
     else (if bytes_eq name (codes "replay") then Some (replay (text_of (codes "NET") rows) (text_of (codes "CON") rows) (text_of (codes "RUN") rows))
     else (if bytes_eq name (codes "selftest") then Some (selftest (number_of (codes "N") rows))
-    else None))
+    else (if bytes_eq name (codes "certify") then Some (certify (text_of (codes "NET") rows) (text_of (codes "CON") rows))
+    else (if bytes_eq name (codes "check") then Some (check (text_of (codes "NET") rows) (text_of (codes "CON") rows) (text_of (codes "CERT") rows))
+    else None))))
 
 abbrev pub asked_from : Option Page → Option (Text × List Row) → Option Asked
 asked_from (Some page) found = Some (shown page)
@@ -123,6 +135,8 @@ abbrev pub named_files : Asked → List Text
 named_files (audit json net con) = net ∷ con ∷ []
 named_files (replay net con run) = net ∷ con ∷ run ∷ []
 named_files (selftest channels) = []
+named_files (certify net con) = net ∷ con ∷ []
+named_files (check net con cert) = net ∷ con ∷ cert ∷ []
 named_files (shown page) = []
 
 -- the files that the words name
@@ -134,11 +148,13 @@ abbrev pub asked_of : Request → Asked
 asked_of (Audit json net con) = audit json net.now con.now
 asked_of (Replay net con run) = replay net.now con.now run.now
 asked_of (Selftest channels) = selftest channels
+asked_of (Certify net con) = certify net.now con.now
+asked_of (Check net con cert) = check net.now con.now cert.now
 asked_of (Show page) = shown page
 
 -- a name of one of the subcommands
 abbrev pub IsCommand : Text → Type 0
-IsCommand name = (name ≡ codes "audit") ⊎ ((name ≡ codes "replay") ⊎ (name ≡ codes "selftest"))
+IsCommand name = (name ≡ codes "audit") ⊎ ((name ≡ codes "replay") ⊎ ((name ≡ codes "selftest") ⊎ ((name ≡ codes "certify") ⊎ (name ≡ codes "check"))))
 
 -- a subcommand with the values that it has where the command takes the words: its number is there and in its range
 pub record IsTaken (name : Text) (rows : List Row) : Type 0 where

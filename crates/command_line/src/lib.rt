@@ -5,7 +5,7 @@ ghost use Rattle.std.specs.Prelude.{◌≡◌, ◌≢◌, [], None, Option, IfOk
 ghost use Rattle.std.specs.Prelude.{codes};
 ghost use Rattle.clap.specs.Words.{app_of, fault_of, subcommand_of, subcommand_rows_of, rows_of, found_of, with_subcommand};
 ghost use Rattle.clap.specs.declared.builder.command.Command.TheViews.{out-Command};
-ghost use Rattle.command_line.specs.Cli.{audit_app, replay_app, selftest_app, cli_head, cli};
+ghost use Rattle.command_line.specs.Cli.{audit_app, replay_app, selftest_app, certify_app, check_app, cli_head, cli};
 ghost use Rattle.command_line.specs.Cli.{page_named as named_page, page_of as asked_page, text_of, number_of, HasNumber, IsTaken};
 ghost use Rattle.command_line.specs.Cli.{asked_by, asked_from, asked_of, AsksFor, HasReading, IsAccepted, IsInRange};
 
@@ -13,8 +13,8 @@ use clap::error::ErrorKind;
 use clap::{Arg, ArgAction, ArgMatches, Command};
 use std::alloc::{AllocError, Global};
 
-/// What the words ask for. `net`, `con` and `run` are the names of the netlist, the constraint file and the record of a
-/// run; `channels` counts the channels of the generated design, 1 to 10,000.
+/// What the words ask for. `net`, `con`, `run` and `cert` are the names of the netlist, the constraint file, the record of
+/// a run and the certificate; `channels` counts the channels of the generated design, 1 to 10,000.
 pub enum Request<'a> {
     Audit {
         json: bool,
@@ -28,6 +28,15 @@ pub enum Request<'a> {
     },
     Selftest {
         channels: u32,
+    },
+    Certify {
+        net: &'a str,
+        con: &'a str,
+    },
+    Check {
+        net: &'a str,
+        con: &'a str,
+        cert: &'a str,
     },
     Show(Page),
 }
@@ -85,6 +94,23 @@ fn selftest_command<'a>(alloc: Global) -> Result<Command<'a>, AllocError>
     Command::new(alloc, "selftest").arg(channels)
 }
 
+fn certify_command<'a>(alloc: Global) -> Result<Command<'a>, AllocError>
+    ensures { IfOk result (λ c. (app_of c ≡ certify_app) × ((out-Command c).has_globals ≡ false)) }
+{
+    let net = Arg::new(alloc, "NET").required(true);
+    let con = Arg::new(alloc, "CON").required(true);
+    Command::new(alloc, "certify").arg(net)?.arg(con)
+}
+
+fn check_command<'a>(alloc: Global) -> Result<Command<'a>, AllocError>
+    ensures { IfOk result (λ c. (app_of c ≡ check_app) × ((out-Command c).has_globals ≡ false)) }
+{
+    let net = Arg::new(alloc, "NET").required(true);
+    let con = Arg::new(alloc, "CON").required(true);
+    let cert = Arg::new(alloc, "CERT").required(true);
+    Command::new(alloc, "check").arg(net)?.arg(con)?.arg(cert)
+}
+
 /// The command without its subcommands.
 fn bare_command<'a>(alloc: Global) -> Command<'a>
     ensures { (app_of result ≡ cli_head) × ((out-Command result).has_globals ≡ false) }
@@ -109,7 +135,9 @@ fn command<'a>(alloc: Global) -> Result<Command<'a>, AllocError>
     let command = bare_command(alloc);
     let command = with_command(command, audit_command(alloc)?)?;
     let command = with_command(command, replay_command(alloc)?)?;
-    with_command(command, selftest_command(alloc)?)
+    let command = with_command(command, selftest_command(alloc)?)?;
+    let command = with_command(command, certify_command(alloc)?)?;
+    with_command(command, check_command(alloc)?)
 }
 
 fn matches<'a>(alloc: Global, words: &'a [String]) -> Result<ArgMatches<'a>, Refusal>
@@ -154,8 +182,17 @@ fn read_request<'a>(name: &str, found: &ArgMatches<'a>) -> Request<'a>
             con: text(found, "CON"),
             run: text(found, "RUN"),
         },
-        _ => Request::Selftest {
+        "selftest" => Request::Selftest {
             channels: number(found, "N"),
+        },
+        "certify" => Request::Certify {
+            net: text(found, "NET"),
+            con: text(found, "CON"),
+        },
+        _ => Request::Check {
+            net: text(found, "NET"),
+            con: text(found, "CON"),
+            cert: text(found, "CERT"),
         },
     }
 }

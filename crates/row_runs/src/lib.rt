@@ -64,6 +64,30 @@ pub fn audited(alloc: Global, net: &[u8], con: &str) -> Result<String, Fail> {
     audited_under(alloc, net, "con.toml", con)
 }
 
+/// The answer to the writing of a certificate over files and an output that don't fail.
+pub fn certified(alloc: Global, net: &str, con: &str) -> Result<String, Fail> {
+    let outside = Outside {
+        net: net.as_bytes(),
+        con,
+        run: "",
+        reads: &[],
+        puts: &[],
+    };
+    answered(alloc, "certify net.v con.toml", &outside)
+}
+
+/// The answer to the check of this certificate, which lies where a record does, over files and an output that don't fail.
+pub fn checked(alloc: Global, net: &str, con: &str, cert: &str) -> Result<String, Fail> {
+    let outside = Outside {
+        net: net.as_bytes(),
+        con,
+        run: cert,
+        reads: &[],
+        puts: &[],
+    };
+    answered(alloc, "check net.v con.toml run.json", &outside)
+}
+
 /// The answer to a replay of this record over files and an output that don't fail.
 pub fn replayed(alloc: Global, net: &str, con: &str, run: &str) -> Result<String, Fail> {
     let outside = Outside {

@@ -7,7 +7,7 @@ use std::test::Fail;
 fn words_and_reads(rt: HostRuntime) -> Result<(), Fail> {
     let alloc = rt.alloc();
     let usage =
-        "usage: cdcaudit audit [--json] NET CON | replay NET CON RUN | selftest N | help\n2";
+        "usage: cdcaudit audit [--json] NET CON | replay NET CON RUN | selftest N | certify NET CON | check NET CON CERT | help\n2";
     let json =
         "{\"clean\":true,\"covers\":[{\"from\":\"a\",\"n\":2,\"scheme\":\"two-flop\",\"to\":\"s1\"}],\"crossings\":1,\"findings\":[],\"gray\":[],\"rings\":[]}\n0";
     let con = constraints(alloc, "d")?;

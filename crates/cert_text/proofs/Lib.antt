@@ -1,0 +1,12 @@
+pub mod Ascii
+pub mod Counts
+pub mod Cuts
+pub mod Entries
+pub mod Feeds
+pub mod Firsts
+pub mod Joined
+pub mod Named
+pub mod Spelled
+pub mod Stops
+pub mod Worded
+pub mod Written

@@ -1,0 +1,10 @@
+use Rattle.std.proofs.Common.{arith}
+use Rattle.std.proofs.lemmas.Grind.{common_steps}
+use Rattle.cert_text.proofs.Firsts.{or-step, or-none}
+use Rattle.cert_text.proofs.names.bit_table.Goals as goal
+
+pub loop-name-preserved : goal.loop-name-preserved
+loop-name-preserved c = λ q. grind (arith, common_steps, or-step, c.loop-name.invariant q)
+
+pub returns : goal.returns
+returns c = λ q. grind (arith, common_steps, or-none, c.loop-name.invariant q)

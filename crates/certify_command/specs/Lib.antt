@@ -1,0 +1,2 @@
+pub mod Certifies
+pub mod Refused
