@@ -1,5 +1,5 @@
 -- The certificate of a verdict without findings, and what is answered where there are some.
-use Rattle.std.proofs.Common.{◌≡◌, ◌≢◌, ◌∙◌, ℕ, ◌==◌, Bool, true, false, List, [], ◌∷◌, length, map, Result, Ok, Err, refl, sym, ap, subst, arith}
+use Rattle.std.proofs.Common.{◌≡◌, ◌∙◌, ℕ, ◌==◌, Bool, true, false, List, [], ◌∷◌, length, map, Result, Ok, Err, refl, sym, ap, subst, arith}
 use Rattle.std.specs.Prelude.{IfErr, if◌then◌else◌}
 use Rattle.cell_graph.specs.declared.net.Net.{Net}
 use Rattle.clock_constraints.specs.declared.Constraints.{Constraints}
@@ -42,7 +42,7 @@ use Rattle.audit_command.proofs.Audits.{told_by}
 use Rattle.described_design.specs.Designs.{IsDesignOf}
 use Rattle.described_design.specs.Refused.{AreTextsRefused}
 use Rattle.described_design.proofs.Described.{net_of_design}
-use Rattle.certify_command.specs.Certifies.{IsCertifyOf, IsTextOf, ListsAll, certified_status, none_text}
+use Rattle.certify_command.specs.Certifies.{IsCertifyOf, IsTextOf, ListsAll, certified_status}
 use Rattle.certify_command.specs.Refused.{IsCertifyRefused, crossings, texts}
 
 -- ---- findings
@@ -109,12 +109,6 @@ module _ (net : Net) (domains : Domains) (can : CanAudit net domains) (j : Judge
   text_written c text none lists told = record {
     written = λ _. (c, lists, told);
     none = λ some. absurd (some (no_items j.verdict.findings none));
-  }
-
-  pub text_none : (text : List ℕ) → length j.verdict.findings ≢ 0 → text ≡ none_text (length j.verdict.findings) → IsTextOf net domains j is text
-  text_none text some told = record {
-    written = λ none. absurd (some (ap length none));
-    none = λ _. told;
   }
 
 -- ---- the texts
