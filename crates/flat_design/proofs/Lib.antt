@@ -1,5 +1,6 @@
 pub mod Begun
 pub mod Changes
+pub mod Chosen
 pub mod Connected
 pub mod Counted
 pub mod DeclaredResets
@@ -32,4 +33,5 @@ pub mod TopPorts
 pub mod Unfolded
 pub mod Visits
 pub mod Wired
+pub mod WiresSized
 pub mod Flattened

@@ -1,4 +1,5 @@
 pub mod Finishing
+pub mod Chosen
 pub mod Visiting
 pub mod Flattened
 pub mod Freeing
