@@ -1,4 +1,5 @@
 pub mod Added
+pub mod Chosen
 pub mod CodeNodes
 pub mod Comparing
 pub mod FlagOrder

@@ -18,7 +18,7 @@ use cdc_base::{Bit, List, NoMemory};
 use cdc_model::view::{has_bit, next_node, register_bits};
 use cell_graph::{Net, Node};
 use cofactor::Table;
-use fifo_nodes::{Taken, Term, has_term, taken_by};
+use fifo_nodes::{Conditions, Taken, Term, has_term, taken_by};
 use std::alloc::Global;
 
 /// A register bit, and the node that it takes under terms.
@@ -33,10 +33,11 @@ pub fn takings(alloc: Global, net: &Net, table: &Table) -> Result<List<Taking>, 
     ensures { IfOk result (λ takings. IsShown net.now table.now → AreTakings net.now takings) }
 {
     let mut takings = List::new(alloc);
+    let mut known = Conditions::none(alloc);
     let bits = register_bits(alloc, net)?;
     for bit in bits.as_slice() {
         if let Some(next) = next_node(net, *bit) {
-            let taken = taken_by(alloc, net, table, *bit, next)?;
+            let taken = taken_by(alloc, net, table, *bit, next, &mut known)?;
             takings.push(Taking { bit: *bit, taken })?;
         }
     }

@@ -7,7 +7,6 @@ pub mod Gathered
 pub mod Growing
 pub mod IndexLooks
 pub mod IndexMade
-pub mod IndexMarks
 pub mod IndexPlaces
 pub mod IndexReadings
 pub mod Items

@@ -68,11 +68,12 @@ abbrev pub MayTell : Net → Domains → List Sync → (near far : SideEntry) �
 MayTell net domains syncs near far apart None = (over : List Sync) → AreBrought net domains syncs far.reg.gray near.clock over → ⊥
 MayTell net domains syncs near far apart (Some t) = IsTold net domains syncs near far apart t
 
--- What a search has found, and two sides with what they tell, of which the one that writes is among those found.
+-- What a search has found, and two sides of two groups with what they tell, of which the one that writes is among those found.
 pub record IsMet (net : Net) (domains : Domains) (table : Rows) (syncs : List Sync) (grays : List GrayReg) (i : Index) (p : Pair) (write read : Side) : Type 0 where
   pub shown : IsShown net table
   pub index : IsIndex net domains syncs grays i
   pub pair : IsPair net domains p write read
+  pub apart : (design_of net domains).group_of write.clock ≢ (design_of net domains).group_of read.clock
   pub listed : IsCounter i.sides.items write.reg.count
 
 -- P holds of the sides of the pair

@@ -41,7 +41,7 @@ use cdc_base::{Bit, List, NoMemory};
 use cdc_model::view::{are_apart, next_node};
 use cdc_model::{Crossing, Sync};
 use cell_graph::{Net, Node};
-use fifo_nodes::{Apart, terms};
+use fifo_nodes::{Apart, copied, terms};
 use fifo_parts::brought::brought;
 use fifo_parts::pair::{Pair, Shown, Teller, is_register_on};
 use fifo_parts::side::Side;
@@ -428,7 +428,7 @@ fn sought_of(
         Contains sought.tests p ↔ HasEmptyTest (design_of shown.entry.net.now shown.entry.domains.now) (next_tree shown.entry.net.now) write read (guard_terms shown.entry.net.now.graph p)) }
 {
     let tests = tests_of(alloc, shown, pair, words.as_slice(), roots)?;
-    let reads = nodes_again(alloc, reads.nodes.as_slice())?;
+    let reads = copied(alloc, reads.nodes.as_slice())?;
     Ok(Sought {
         words,
         reads,
@@ -456,16 +456,6 @@ fn is_true(answers: &[bool], place: usize) -> bool
         Some(answer) => *answer,
         None => false,
     }
-}
-
-fn nodes_again(alloc: Global, nodes: &[Node]) -> Result<List<Node>, NoMemory>
-    ensures { IfOk result (λ copies. copies ≡ nodes.now) }
-{
-    let mut copies = List::new(alloc);
-    for node in nodes {
-        copies.push(*node)?;
-    }
-    Ok(copies)
 }
 
 /// The nodes of the next values of register bits.
