@@ -1,5 +1,5 @@
 -- The next value of a register bit that is a choice's compares nothing.
-use Rattle.std.proofs.Common.{◌≡◌, ◌∙◌, sym, ap, ap₂, subst, refl, inl, inr, ℕ, Bool, true, not, Option, Some, None, option_map, List, [], ◌∷◌, Contains}
+use Rattle.std.proofs.Common.{◌≡◌, ◌∙◌, sym, ap, ap₂, subst, refl, ℕ, Bool, true, not, Option, Some, None, option_map, List, [], ◌∷◌, Contains}
 use Rattle.cdc_base.specs.declared.bit.Bit.{Bit}
 use Rattle.cell_graph.specs.declared.cell.Cell.TheVariants.{Mux}
 use Rattle.cell_graph.specs.declared.cell.CellId.{CellId}

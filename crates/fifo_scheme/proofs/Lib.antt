@@ -27,6 +27,7 @@ pub mod MetReads
 pub mod MetSides
 pub mod MetTests
 pub mod Numbered
+pub mod Numbers
 pub mod OneFifo
 pub mod Order
 pub mod Passed

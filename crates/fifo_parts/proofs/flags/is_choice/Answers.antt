@@ -1,5 +1,5 @@
 -- A choice of which nothing is known.
-use Rattle.std.proofs.Common.{rules, ◌≡◌, ◌∙◌, sym, None, []}
+use Rattle.std.proofs.Common.{◌≡◌, ◌∙◌, sym}
 use Rattle.cdc_model.proofs.Found.{net_ascends}
 use Rattle.fifo_parts.proofs.Chosen.{adds_nothing}
 use Rattle.fifo_parts.proofs.Tests.{next_in, plain_net}
@@ -14,8 +14,7 @@ returns-in-Mux c = λ yes shown register.
     let next = sym (c.next_node.ensures (net_ascends net shown.is_net)) ∙ c.in-Some.is in
     let there = next_in net table shown domains c.args.bit register n next in
     let well = (plain_net net table shown).well in
-    let m = c.in-Some-origin.node in
-    let is = (c.origin.ensures.within well there m c.in-Some-origin.is).0 in
-    let none : c.known_value.result ≡ None = search rules in
-    adds_nothing net table shown domains c.args.bit register n next c.origin.result (c.origin.ensures.exact well there) m c.in-Some-origin.is is
-    c.in-Mux.cond c.in-Mux.yes c.in-Mux.other (sym c.cell.ensures ∙ c.in-Mux.is) (sym (c.known_value.ensures.net net [] shown.shows is) ∙ none)
+    let m = c.in-Some-2.node in
+    let is = (c.origin.ensures.within well there m c.in-Some-2.is).0 in
+    adds_nothing net table shown domains c.args.bit register n next c.origin.result (c.origin.ensures.exact well there) m c.in-Some-2.is is
+    c.in-Mux.cond c.in-Mux.yes c.in-Mux.other (sym c.cell.ensures ∙ c.in-Mux.is) ?
