@@ -1,0 +1,17 @@
+pub mod LaneRows
+pub mod Counted
+pub mod Drawing
+pub mod Ordered
+pub mod Written
+pub mod Passing
+pub mod DrawnInputs
+pub mod FlopRaces
+pub mod Members
+pub mod LooseBits
+pub mod StepInputs
+pub mod Steps
+pub mod PlanLists
+pub mod RunSteps
+pub mod RunOnce
+pub mod RunLists
+pub mod Faultless
