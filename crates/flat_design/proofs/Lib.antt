@@ -1,6 +1,5 @@
 pub mod Begun
 pub mod Changes
-pub mod Chosen
 pub mod Connected
 pub mod Counted
 pub mod DeclaredResets
@@ -33,5 +32,4 @@ pub mod TopPorts
 pub mod Unfolded
 pub mod Visits
 pub mod Wired
-pub mod WiresSized
 pub mod Flattened

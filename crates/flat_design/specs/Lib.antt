@@ -1,5 +1,4 @@
 pub mod Finishing
-pub mod Chosen
 pub mod Visiting
 pub mod Flattened
 pub mod Freeing

@@ -13,10 +13,9 @@ ghost use Rattle.flat_design.specs.Flattened.{IsFlattened};
 mod finish;
 mod free;
 mod instance;
-pub mod resets;
+mod resets;
 mod top_ports;
 mod visit;
-mod wiring;
 
 use cdc_base::{Name, ResetPin, Stop};
 use finish::checked;
@@ -25,7 +24,6 @@ use flat_names::fault::{Rule, refused};
 use std::alloc::Global;
 use verilog_ast::Source;
 use visit::{Library, Visit, visit_top};
-pub use wiring::wires;
 
 /// Unfolds the source from its module `top`. A signal of one bit with the printed name of a reset reads as the reset's
 /// inactive level, in whichever module it is declared, and so does each input port that is connected to it by its plain name.
@@ -48,7 +46,7 @@ pub fn flatten(
     ensures fact { IsSourceFormed (source_of source.now) → IsSourceVisible (source_of source.now) → IfOk result IsFlattened }
     ensures numbered { IfErr result (HasNumberIn unfolding_numbers) }
 {
-    let library = Library::new(alloc, source, resets, false)?;
+    let library = Library::new(alloc, source, resets)?;
     let Some(number) = library.number(top) else {
         return refused(alloc, Rule::NoTop, None, top.as_str());
     };

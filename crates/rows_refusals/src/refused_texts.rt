@@ -53,30 +53,6 @@ fn tokens_and_grammar(rt: HostRuntime) -> Result<(), Fail> {
                 "error E201: no reading at 1:26",
             ),
             (
-                "module m; always @* case (s) 4'b1?: ; endcase endmodule",
-                "error E201: no reading at 1:30",
-            ),
-            (
-                "module m; always @* casez (s) (4'b1?): ; endcase endmodule",
-                "error E201: no reading at 1:32",
-            ),
-            (
-                "module m; assign a = 4'b1?; endmodule",
-                "error E201: no reading at 1:22",
-            ),
-            (
-                "module m; initial a = #1 b; endmodule",
-                "error E201: no reading at 1:23",
-            ),
-            (
-                "module m; initial a <= #(1, 2) b; endmodule",
-                "error E201: no reading at 1:27",
-            ),
-            (
-                "module m; wire [1 +: 1] a; endmodule",
-                "error E201: no reading at 1:19",
-            ),
-            (
                 "`celldefine wire w;",
                 "error E104: directive left out at 1:1: celldefine",
             ),

@@ -140,15 +140,13 @@ pub enum EdgeKind {
     Level,
 }
 
-/// A statement. Only one that doesn't block has a `delay`. `masks` tells a `casez`, whose labels may be masks; the
-/// `default` stands apart from the items, wherever the text has it.
+/// A statement. The `default` of a `case` stands apart from its items, wherever the text has it.
 #[derive(Drop)]
 #[cycle(stmt)]
 pub enum Stmt {
     Null,
     Set {
         blocking: bool,
-        delay: Option<Delay>,
         target: Target,
         value: Expr,
     },
@@ -158,7 +156,6 @@ pub enum Stmt {
         other: Option<Box<Stmt>>,
     },
     Case {
-        masks: bool,
         subject: Expr,
         items: List<CaseItem>,
         default: Option<Box<Stmt>>,
@@ -166,49 +163,19 @@ pub enum Stmt {
     Block(List<Stmt>),
 }
 
-/// The delay of an assignment, as it is written.
-#[derive(Drop)]
-pub enum Delay {
-    Number(u64),
-    Name(Name),
-}
-
 #[derive(Drop)]
 #[cycle(stmt)]
 pub struct CaseItem {
-    pub labels: List<Label>,
+    pub labels: List<Expr>,
     pub body: Stmt,
-}
-
-/// What a subject is compared with: a value, or a mask, whose `value` is 0 at the bits of `open`.
-#[derive(Drop)]
-pub enum Label {
-    Value(Expr),
-    Mask { value: u64, open: u64, width: u8 },
-}
-
-/// What stands between the brackets of a part: `[left:right]`, `[left +: right]`, `[left -: right]`.
-#[derive(Clone, Copy, PartialEq, Eq, Debug, Drop)]
-pub enum PartKind {
-    Range,
-    Up,
-    Down,
 }
 
 /// What is assigned: a whole name, an index or a part of it, or a concatenation, whose first part has the highest bits.
 #[derive(Drop)]
 pub enum Target {
     Whole(Name),
-    At {
-        name: Name,
-        index: Expr,
-    },
-    Part {
-        name: Name,
-        kind: PartKind,
-        left: Expr,
-        right: Expr,
-    },
+    At { name: Name, index: Expr },
+    Part { name: Name, left: Expr, right: Expr },
     Join(List<Target>),
 }
 
@@ -227,7 +194,6 @@ pub enum Expr {
     },
     Part {
         name: Name,
-        kind: PartKind,
         left: Box<Expr>,
         right: Box<Expr>,
     },
@@ -253,10 +219,9 @@ pub enum Expr {
     Paren(Box<Expr>),
 }
 
-/// `- ~ ! & | ^ ~& ~| ~^`, in this order.
+/// `~ ! & | ^ ~& ~| ~^`, in this order.
 #[derive(Clone, Copy, PartialEq, Eq, Debug, Drop)]
 pub enum UnaryOp {
-    Minus,
     Not,
     LogicNot,
     And,

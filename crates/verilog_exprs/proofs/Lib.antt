@@ -1,4 +1,3 @@
 pub mod Steps
 pub mod ExprSteps
 pub mod TokenSteps
-pub mod DvalSteps

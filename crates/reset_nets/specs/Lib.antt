@@ -1,4 +1,0 @@
-pub mod Nets
-pub mod Finding
-pub mod Shown
-pub mod Designs
