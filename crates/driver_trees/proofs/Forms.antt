@@ -2,7 +2,7 @@
 use Rattle.std.proofs.Common.{◌≡◌, ℕ, zero, suc, ◌+◌, ◌*◌, ◌^◌, ◌<◌, ◌≤◌, max, Bool, true, false, ◌&&◌, ◌==◌, nat_lt, nat_le, List, [], ◌∷◌, map, Box, Global, refl, sym, ap, subst, ◌∙◌, arith, ltb-true, eqb-true}
 use Rattle.std.proofs.lemmas.Bool.{and_parts}
 use Rattle.std.proofs.lemmas.Nat.{pow_pos}
-use Rattle.verilog_ast.specs.declared.UnaryOp.{UnaryOp}
+use Rattle.flat_form.specs.declared.flat.FUnaryOp.{FUnaryOp}
 use Rattle.verilog_ast.specs.declared.BinaryOp.{BinaryOp}
 use Rattle.flat_form.specs.declared.flat.FExpr.{FExpr}
 use Rattle.flat_form.specs.declared.flat.FExpr.TheVariants as e
@@ -111,7 +111,7 @@ module _ (wid : ℕ → ℕ) (x : FExpr) (is : IsRead wid x) where
       let t = fits _ g in
       (g, record { sized = ap is_sized d ∙ p.1; fits = t.2 }, (let a = pow_pos (f.size (expr_of y)) in let b = t.1 in omega arith))
 
-  pub of-Unary : (op : UnaryOp) (a : Box FExpr Global) (width : ℕ) (y : FExpr) → x ≡ e.Unary op a width → y ≡ a.value → (expr_of x ≡ f.Unary (unary_of op) (expr_of y)) × IsRead wid y
+  pub of-Unary : (op : FUnaryOp) (a : Box FExpr Global) (width : ℕ) (y : FExpr) → x ≡ e.Unary op a width → y ≡ a.value → (expr_of x ≡ f.Unary (unary_of op) (expr_of y)) × IsRead wid y
   of-Unary op a width y h d =
       let k = sized _ (ap kept_of h ∙ kept_of-Unary op a width) in
       let p = and_parts (width == f.unary_size (unary_of op) (kept_of a.value).width) (is_sized a.value) k in

@@ -1,8 +1,8 @@
 -- The cells of operators make their trees.
 use Rattle.std.proofs.Common.{◌≡◌, ℕ, ◌<◌, ◌≤◌, ◌^◌, Bool, true, false, cond, max, List, [], length, Option, Some, None, MatchOption, nat_lt, inl, inr, refl, sym, ap, ap₂, ◌∙◌, arith, ltb-true}
 use Rattle.std.proofs.lemmas.Bool.{cases_Bool}
-use Rattle.verilog_ast.specs.declared.UnaryOp.{UnaryOp}
-use Rattle.verilog_ast.specs.declared.UnaryOp.TheVariants as u
+use Rattle.flat_form.specs.declared.flat.FUnaryOp.{FUnaryOp}
+use Rattle.flat_form.specs.declared.flat.FUnaryOp.TheVariants as u
 use Rattle.verilog_ast.specs.declared.BinaryOp.{BinaryOp}
 use Rattle.verilog_ast.specs.declared.BinaryOp.TheVariants as b
 use Rattle.cell_graph.specs.declared.cell.Cell.{Cell}
@@ -17,7 +17,7 @@ use Rattle.driver_trees.specs.declared.draft.Draft.{Draft}
 use Rattle.driver_trees.specs.Drafts.{IsMade, IsDraftOf}
 use Rattle.driver_trees.specs.Operators.{reduction, negates, not_if, bit_tree, operand_tree, operand_bits, operator_cell}
 
-pub unary-steps : (op : UnaryOp) → (op ≡ u.Not → ⊥) → (W w : ℕ) (t : Tree) → fit W 1 (not_if (negates op) (bit_tree (reduction op) w t)) ≡ unary_tree (unary_of op) W w t
+pub unary-steps : (op : FUnaryOp) → (op ≡ u.Not → ⊥) → (W w : ℕ) (t : Tree) → fit W 1 (not_if (negates op) (bit_tree (reduction op) w t)) ≡ unary_tree (unary_of op) W w t
 unary-steps u.Not h W w t = absurd (h refl)
 unary-steps u.LogicNot h W w t = refl
 unary-steps u.And h W w t = refl

@@ -1,8 +1,8 @@
 -- The cells of operators.
 use Rattle.std.specs.Prelude.{◌≡◌, ℕ, Bool, true, false, cond, List, Option, Some, None}
 use Rattle.std.specs.Option.{option_map_or}
-use Rattle.verilog_ast.specs.declared.UnaryOp.{UnaryOp}
-use Rattle.verilog_ast.specs.declared.UnaryOp.TheVariants as u
+use Rattle.flat_form.specs.declared.flat.FUnaryOp.{FUnaryOp}
+use Rattle.flat_form.specs.declared.flat.FUnaryOp.TheVariants as u
 use Rattle.verilog_ast.specs.declared.BinaryOp.{BinaryOp}
 use Rattle.verilog_ast.specs.declared.BinaryOp.TheVariants as b
 use Rattle.cell_graph.specs.declared.cell.Cell.{Cell}
@@ -17,7 +17,7 @@ use Rattle.driver_trees.specs.declared.draft.Draft.{Draft}
 use Rattle.driver_trees.specs.Drafts.{tree_in, IsDraftOf}
 use Rattle.driver_trees.specs.Growth.{Grows}
 
-abbrev pub reduction : UnaryOp → Option ReduceKind
+abbrev pub reduction : FUnaryOp → Option ReduceKind
 reduction u.Not = None
 reduction u.LogicNot = None
 reduction u.And = Some kind.And
@@ -27,7 +27,7 @@ reduction u.Nand = Some kind.And
 reduction u.Nor = Some kind.Or
 reduction u.Xnor = Some kind.Xor
 
-abbrev pub negates : UnaryOp → Bool
+abbrev pub negates : FUnaryOp → Bool
 negates u.Not = true
 negates u.LogicNot = true
 negates u.And = false

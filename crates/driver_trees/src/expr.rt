@@ -17,10 +17,10 @@ use crate::memory::push;
 use crate::present::Present;
 use cdc_base::NoMemory;
 use cell_graph::{Cell, CellId, ReduceKind};
-use flat_form::FExpr;
 use flat_form::size::{left_size, operand_size, right_size, width_of};
+use flat_form::{FExpr, FUnaryOp};
 use std::alloc::Global;
-use verilog_ast::{BinaryOp, UnaryOp};
+use verilog_ast::BinaryOp;
 
 /// A choice around an expression, which is taken where it doesn't hold.
 #[derive(Clone, Copy, Drop)]
@@ -245,12 +245,12 @@ fn repeated(drafts: &mut Drafts, word: CellId, count: u8) -> Result<CellId, NoMe
     Ok(copies)
 }
 
-fn unary(drafts: &mut Drafts, op: UnaryOp, a: CellId, width: u8) -> Result<CellId, NoMemory>
+fn unary(drafts: &mut Drafts, op: FUnaryOp, a: CellId, width: u8) -> Result<CellId, NoMemory>
     ensures built { (wid : ℕ → ℕ) (own : ℕ) → AreDrafts wid drafts.old → IsDraftOf drafts.old a (unary_at (unary_of op) width own) → 1 ≤ width → width ≤ 64
         → IfOk result (λ id. IsBuilt wid drafts.old drafts.new id width (λ sel. unary_tree (unary_of op) width (unary_at (unary_of op) width own) (tree_in sel drafts.old a))) }
 {
     match op {
-        UnaryOp::Not => drafts.add(Cell::Not { a }),
+        FUnaryOp::Not => drafts.add(Cell::Not { a }),
         _ => {
             let bit = unary_bit(drafts, op, a)?;
             let bit = negated_if(drafts, is_negated(op), bit)?;
@@ -260,7 +260,7 @@ fn unary(drafts: &mut Drafts, op: UnaryOp, a: CellId, width: u8) -> Result<CellI
 }
 
 /// The bit of a reduction or of `!` before it is negated.
-fn unary_bit(drafts: &mut Drafts, op: UnaryOp, a: CellId) -> Result<CellId, NoMemory>
+fn unary_bit(drafts: &mut Drafts, op: FUnaryOp, a: CellId) -> Result<CellId, NoMemory>
     ensures built { (wid : ℕ → ℕ) (m : ℕ) → AreDrafts wid drafts.old → IsDraftOf drafts.old a m
         → IfOk result (λ id. IsBuilt wid drafts.old drafts.new id 1 (λ sel. bit_tree (reduction op) m (tree_in sel drafts.old a))) }
 {
@@ -271,24 +271,25 @@ fn unary_bit(drafts: &mut Drafts, op: UnaryOp, a: CellId) -> Result<CellId, NoMe
 }
 
 /// How the operator reduces its operand; None where it takes its truth, or all its bits.
-fn reduction_of(op: UnaryOp) -> Option<ReduceKind>
+fn reduction_of(op: FUnaryOp) -> Option<ReduceKind>
     ensures { result ≡ reduction op }
 {
     match op {
-        UnaryOp::Not | UnaryOp::LogicNot => None,
-        UnaryOp::And | UnaryOp::Nand => Some(ReduceKind::And),
-        UnaryOp::Or | UnaryOp::Nor => Some(ReduceKind::Or),
-        UnaryOp::Xor | UnaryOp::Xnor => Some(ReduceKind::Xor),
+        FUnaryOp::Not | FUnaryOp::LogicNot => None,
+        FUnaryOp::And | FUnaryOp::Nand => Some(ReduceKind::And),
+        FUnaryOp::Or | FUnaryOp::Nor => Some(ReduceKind::Or),
+        FUnaryOp::Xor | FUnaryOp::Xnor => Some(ReduceKind::Xor),
     }
 }
 
 /// Whether the operator negates what it makes of its operand.
-fn is_negated(op: UnaryOp) -> bool
+fn is_negated(op: FUnaryOp) -> bool
     ensures { result ≡ negates op }
 {
     match op {
-        UnaryOp::And | UnaryOp::Or | UnaryOp::Xor => false,
-        UnaryOp::Not | UnaryOp::LogicNot | UnaryOp::Nand | UnaryOp::Nor | UnaryOp::Xnor => true,
+        FUnaryOp::And | FUnaryOp::Or | FUnaryOp::Xor => false,
+        FUnaryOp::Not | FUnaryOp::LogicNot | FUnaryOp::Nand | FUnaryOp::Nor | FUnaryOp::Xnor =>
+            true,
     }
 }
 

@@ -9,7 +9,9 @@ use Rattle.flat_unfolding.specs.Outcome.{Text, Broken, breaks, breaks_if}
 use Rattle.flat_unfolding.specs.Names.{Range, Param, Meaning, a_param, a_signal, a_memory, no_value, Look, meaning, unknown}
 use Rattle.flat_unfolding.specs.Constants.{counted_size, whole}
 use Rattle.flat_unfolding.specs.Signs.{compares_signed, is_unsized}
-use Rattle.flat_unfolding.specs.Expressions.{Term, is_sound, as_constant, as_bound, as_count, all_broken, range_of, Select, is_whole_only, judged_whole, param_bits, signal_bits, word_bits, binary_term, meant_term, meant_index, meant_part, read, read_parts}
+use Rattle.verilog_ast.specs.declared.PartKind.{PartKind}
+use Rattle.verilog_ast.specs.declared.PartKind.TheVariants as k
+use Rattle.flat_unfolding.specs.Expressions.{Term, is_sound, as_constant, as_bound, as_second, as_count, all_broken, range_of, Select, is_whole_only, judged_whole, param_bits, signal_bits, word_bits, binary_term, meant_term, meant_index, meant_part, read, read_parts}
 use Rattle.flat_unfolding.specs.Parameters.{bounds_read}
 use Rattle.flat_unfolding.specs.Formed.{IsFormed}
 use Rattle.flat_names.specs.declared.fault.Order.TheVariants as order
@@ -116,17 +118,22 @@ index-other l x t (Some (a_memory a)) = cond-other t.is_constant _ _ (word-other
 index-other l x t (Some no_value) = tt
 index-other l x t None = tt
 
-part-other : (l : Look) (x : Text) (o : Option Range) (m : Option Meaning) → EachIs IsOther (meant_part l x o m).broken
-part-other l x (Some p) (Some (a_param a)) = param-other l x a _
-part-other l x None (Some (a_param a)) = tt
-part-other l x (Some p) (Some (a_signal s)) = signal-other l x s _
-part-other l x None (Some (a_signal s)) = tt
-part-other l x (Some p) (Some (a_memory m)) = break-other 319 x (λ e. omega arith)
-part-other l x None (Some (a_memory m)) = break-other 319 x (λ e. omega arith)
-part-other l x (Some p) (Some no_value) = tt
-part-other l x None (Some no_value) = tt
-part-other l x (Some p) None = tt
-part-other l x None None = tt
+part-other : (l : Look) (x : Text) (kind : PartKind) (o : Option Range) (m : Option Meaning) → EachIs IsOther (meant_part l x kind o m).broken
+part-other l x kind (Some p) (Some (a_param a)) = param-other l x a _
+part-other l x kind None (Some (a_param a)) = tt
+part-other l x kind (Some p) (Some (a_signal s)) = signal-other l x s _
+part-other l x kind None (Some (a_signal s)) = tt
+part-other l x kind (Some p) (Some (a_memory m)) = break-other 319 x (λ e. omega arith)
+part-other l x kind None (Some (a_memory m)) = break-other 319 x (λ e. omega arith)
+part-other l x kind (Some p) (Some no_value) = tt
+part-other l x kind None (Some no_value) = tt
+part-other l x kind (Some p) None = tt
+part-other l x kind None None = tt
+
+second-other : (kind : PartKind) (t : Term) → EachIs IsOther t.broken → EachIs IsOther (as_second kind t).broken
+second-other k.Range t h = bound-other t h
+second-other k.Up t h = count-other t h
+second-other k.Down t h = count-other t h
 
 whole-other : (l : Look) (k n : Option ℕ) (t : Term) → EachIs IsOther t.broken → EachIs IsOther (judged_whole l k n t).broken
 whole-other l None n t h = h
@@ -140,10 +147,11 @@ mutual
   read-other l (index x i) =
       both-other (unknown l x ++ (read l i).broken) _ (both-other (unknown l x) (read l i).broken (unknown-other l x) (read-other l i))
       (cond-other (is_sound (read l i)) _ _ (index-other l x (read l i) (meaning l x)) tt)
-  read-other l (part x a b) =
-      both-other (unknown l x ++ (as_bound (read l a)).broken ++ (as_bound (read l b)).broken) _
-      (both-other (unknown l x ++ (as_bound (read l a)).broken) _ (both-other (unknown l x) _ (unknown-other l x) (bound-other (read l a) (read-other l a))) (bound-other (read l b) (read-other l b)))
-      (part-other l x (range_of (as_bound (read l a)) (as_bound (read l b))) (meaning l x))
+  read-other l (part x kind a b) =
+      both-other (unknown l x ++ (as_bound (read l a)).broken ++ (as_second kind (read l b)).broken) _
+      (both-other (unknown l x ++ (as_bound (read l a)).broken) _ (both-other (unknown l x) _ (unknown-other l x) (bound-other (read l a) (read-other l a)))
+      (second-other kind (read l b) (read-other l b)))
+      (part-other l x kind (range_of (as_bound (read l a)) (as_second kind (read l b))) (meaning l x))
   read-other l (unary op a) = whole-other l (counted_size l.names (unary op a)) (whole l.names (unary op a)) _ (read-other l a)
   read-other l (binary op a b) = whole-other l (counted_size l.names (binary op a b)) (whole l.names (binary op a b)) _
       (both-other (binary_term op (read l a) (read l b)).broken _

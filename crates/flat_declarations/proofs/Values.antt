@@ -1,6 +1,7 @@
 -- Counted expressions have the size that counts, and a value that stands as a plain number.
 use Rattle.std.proofs.Common.{◌≡◌, ℕ, ◌^◌, ◌<◌, max, Bool, true, false, cond, ◌&&◌, ◌==◌, List, [], ◌∷◌, ◌++◌, Option, Some, None, refl, sym, ap, ap₂, subst, ◌∙◌, arith, rules, eqb-true, lt-ltb}
 use Rattle.std.specs.Prelude.{is_some, option_map, option_and_then}
+use Rattle.std.specs.Option.{option_map_or}
 use Rattle.cell_graph.specs.Tree.{bit_at}
 use Rattle.cell_graph.proofs.Words.{is_number, number-lt}
 use Rattle.cdc_base.specs.declared.size.NumberSize.TheVariants as z
@@ -9,12 +10,13 @@ use Rattle.verilog_reading.specs.ExprTree.{ExprTree, number as number_tree, name
 use Rattle.flat_meaning.specs.Flat.{unary_size, binary_size, Expr, Number, size}
 use Rattle.flat_meaning.specs.Meaning.{value}
 use Rattle.flat_meaning.specs.Full.{nothing}
+use Rattle.flat_form.specs.declared.flat.FUnaryOp.{FUnaryOp}
 use Rattle.flat_form.specs.View.{unary_of, binary_of}
 use Rattle.flat_unfolding.specs.Outcome.{Broken, breaks_if}
 use Rattle.flat_unfolding.specs.Names.{Param, Meaning, a_param, a_signal, a_memory, no_value, Look, meaning}
-use Rattle.flat_unfolding.specs.Constants.{assigned_value, if_counted, both, counted_size, whole, within}
+use Rattle.flat_unfolding.specs.Constants.{assigned_value, plain_unary, own_unary, if_counted, both, counted_size, whole, within}
 use Rattle.flat_unfolding.specs.Signs.{compares_signed}
-use Rattle.flat_unfolding.specs.Expressions.{Term, also, unary_term, binary_term, choice_term, meant_term, judged_whole, whole_number, read}
+use Rattle.flat_unfolding.specs.Expressions.{Term, also, unary_expr, unary_term, binary_term, choice_term, meant_term, judged_whole, whole_number, read}
 use Rattle.flat_unfolding.specs.Formed.{IsFormed}
 use Rattle.flat_unfolding.proofs.Steps.{none_of_both}
 use Rattle.flat_names.specs.Pieces.{is_counted_size}
@@ -58,9 +60,13 @@ module _ (l : Look) where
   name-size x (Some no_value) k c b = none-some k c
   name-size x None k c b = none-some k c
 
-  unary-size : (op : _) (a : ExprTree) (o : Option ℕ) (k : ℕ) → option_map (unary_size (unary_of op)) o ≡ Some k → ((j : ℕ) → o ≡ Some j → (read l a).broken ≡ [] → size (read l a).expr ≡ j)
+  expr-size : (o : Option FUnaryOp) (x : Expr) → size (unary_expr o x) ≡ option_map_or (λ f. unary_size (unary_of f) (size x)) o (size x)
+  expr-size None x = omega arith
+  expr-size (Some f) x = refl
+
+  unary-size : (op : _) (a : ExprTree) (o : Option ℕ) (k : ℕ) → option_map (own_unary op) o ≡ Some k → ((j : ℕ) → o ≡ Some j → (read l a).broken ≡ [] → size (read l a).expr ≡ j)
       → (read l a).broken ≡ [] → size (unary_term op (read l a)).expr ≡ k
-  unary-size op a (Some j) k c h b = ap (unary_size (unary_of op)) (h j refl b) ∙ some-same _ k c
+  unary-size op a (Some j) k c h b = expr-size (plain_unary op) (read l a).expr ∙ ap (own_unary op) (h j refl b) ∙ some-same _ k c
   unary-size op a None k c h b = none-some k c
 
   binary-size : (op : BinaryOp) (a b : ExprTree) (o q : Option ℕ) (k : ℕ) → both (binary_size (binary_of op)) o q ≡ Some k
@@ -92,7 +98,7 @@ module _ (l : Look) where
   counted-size (number_tree v w z.Sized) k c b = none-some k c
   counted-size (name x) k c b = name-size x (meaning l x) k c b
   counted-size (index x i) k c b = none-some k c
-  counted-size (part x i j) k c b = none-some k c
+  counted-size (part x kind i j) k c b = none-some k c
   counted-size (unary op a) k c b = judged-has (counted_size l.names (unary op a)) (whole l.names (unary op a)) (unary_term op (read l a)) k c (unary-size op a (counted_size l.names a) k c (counted-size a)) b
   counted-size (binary op x y) k c b = judged-has (counted_size l.names (binary op x y)) (whole l.names (binary op x y)) (ordered_term l op x y) k c
       (λ w. binary-size op x y (counted_size l.names x) (counted_size l.names y) k c (counted-size x) (counted-size y) (none_of_both (binary_term op (read l x) (read l y)).broken _ w).0) b
@@ -132,7 +138,7 @@ module _ (l : Look) where
     counted-plain (number_tree v w z.Sized) f c b = none-some 32 c
     counted-plain (name x) f c b = name-plain x (meaning l x) refl c
     counted-plain (index x i) f c b = none-some 32 c
-    counted-plain (part x i j) f c b = none-some 32 c
+    counted-plain (part x kind i j) f c b = none-some 32 c
     counted-plain (unary op a) f c b = judged-plain (counted_size l.names (unary op a)) (whole l.names (unary op a)) (unary_term op (read l a)) c (λ m d. (fit l is (unary op a) f).wholes 32 m c d) b
     counted-plain (binary op x y) f c b = judged-plain (counted_size l.names (binary op x y)) (whole l.names (binary op x y)) (ordered_term l op x y) c (λ m d. (fit l is (binary op x y) f).wholes 32 m c d) b
     counted-plain (choice i x y) f c b = judged-plain (counted_size l.names (choice i x y)) (whole l.names (choice i x y)) (choice_term (read l i) (read l x) (read l y)) c (λ m d. (fit l is (choice i x y) f).wholes 32 m c d) b

@@ -1,7 +1,7 @@
 -- The value of a constant expression, one form at a time.
 use Rattle.std.proofs.Common.{◌≡◌, ℕ, ◌*◌, ◌^◌, ◌<◌, ◌≤◌, max, Bool, true, false, cond, not, ◌&&◌, ◌==◌, nat_lt, List, map, Box, Global, zero, suc, zero-mul, suc-mul, refl, sym, ap, ap₂, subst, ◌∙◌, arith, eqb-true, ltb-true}
 use Rattle.std.proofs.lemmas.Bool.{and_parts}
-use Rattle.verilog_ast.specs.declared.UnaryOp.{UnaryOp}
+use Rattle.flat_form.specs.declared.flat.FUnaryOp.{FUnaryOp}
 use Rattle.verilog_ast.specs.declared.BinaryOp.{BinaryOp}
 use Rattle.cell_graph.specs.Tree.{bit_at, number, any_below}
 use Rattle.cell_graph.proofs.Words.{number-lt, number-has, has-number, any-bit}
@@ -60,7 +60,7 @@ unary-fits f.reduce_nand W m h k l = record { room = omega arith; small = k; sam
 unary-fits f.reduce_nor W m h k l = record { room = omega arith; small = k; same = refl }
 unary-fits f.reduce_xnor W m h k l = record { room = omega arith; small = k; same = refl }
 
-pub unary-form : (op : UnaryOp) (a : Box FExpr Global) (w W at r ra : ℕ) → Values a.value at ra → at ≡ unary_at (unary_of op) W (kept_of a.value).width
+pub unary-form : (op : FUnaryOp) (a : Box FExpr Global) (w W at r ra : ℕ) → Values a.value at ra → at ≡ unary_at (unary_of op) W (kept_of a.value).width
     → ((g : Word) (whole : ℕ) → at ≤ 64 → 1 ≤ whole → unary_at (unary_of op) whole at ≡ at → ra ≡ number g at → r ≡ number (unary (unary_of op) at g) whole) → Values (e.Unary op a w) W r
 unary-form op a w W at r ra va ea u = finish _ W r _ _ (kept_of-Unary op a w) (expr_of-Unary op a w) (λ s l k t.
     let o = unary_of op in

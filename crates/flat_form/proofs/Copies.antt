@@ -1,6 +1,6 @@
 -- A choice that is put around or taken off, and copies form by form.
 use Rattle.std.proofs.Common.{◌≡◌, ℕ, ◌*◌, ◌&&◌, ◌==◌, List, [], ◌∷◌, ◌++◌, map, Box, Global, refl, sym, ap, ap₂, ◌∙◌}
-use Rattle.verilog_ast.specs.declared.UnaryOp.{UnaryOp}
+use Rattle.flat_form.specs.declared.flat.FUnaryOp.{FUnaryOp}
 use Rattle.verilog_ast.specs.declared.BinaryOp.{BinaryOp}
 use Rattle.flat_form.specs.declared.flat.FExpr.{FExpr}
 use Rattle.flat_form.specs.declared.flat.FExpr.TheVariants as e
@@ -51,7 +51,7 @@ at-same sig x y w h = (
   kept_of-At sig x w ∙ ap (λ (k : Kept). let z : Kept = record { width = w; right = (w == 1) && k.right } in z) h.1 ∙ sym (kept_of-At sig y w),
 )
 
-pub unary-same : (op : UnaryOp) (x y : Box FExpr Global) (w : ℕ) → AreSame x.value y.value → AreSame (e.Unary op x w) (e.Unary op y w)
+pub unary-same : (op : FUnaryOp) (x y : Box FExpr Global) (w : ℕ) → AreSame x.value y.value → AreSame (e.Unary op x w) (e.Unary op y w)
 unary-same op x y w h = (
   expr_of-Unary op x w ∙ ap (λ z. f.Unary (unary_of op) z) h.0 ∙ sym (expr_of-Unary op y w),
   kept_of-Unary op x w ∙ ap (λ (k : Kept). let z : Kept = record { width = w; right = (w == f.unary_size (unary_of op) k.width) && k.right } in z) h.1 ∙ sym (kept_of-Unary op y w),

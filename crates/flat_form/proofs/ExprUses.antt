@@ -3,7 +3,7 @@ use Rattle.std.proofs.Common.{◌≡◌, ℕ, ◌+◌, ◌<◌, Bool, true, fals
 use Rattle.std.proofs.lemmas.List.{drop_more}
 use Rattle.std.proofs.Math.Bool.{or-false}
 use Rattle.cell_graph.specs.Tree.{bit_at}
-use Rattle.verilog_ast.specs.declared.UnaryOp.{UnaryOp}
+use Rattle.flat_form.specs.declared.flat.FUnaryOp.{FUnaryOp}
 use Rattle.verilog_ast.specs.declared.BinaryOp.{BinaryOp}
 use Rattle.flat_meaning.specs.Flat as f
 use Rattle.flat_meaning.specs.Deps.{Bits, union, span}
@@ -83,5 +83,5 @@ module _ (wid : ℕ → ℕ) (old : Masks) (now : Masks) (whole : Bits) (x : FEx
     pub reads-repeat : (count : ℕ) (parts : List FExpr) (w : ℕ) → x ≡ e.Repeat count parts w → Adds now next (exprs_read wid (exprs_of (map expr_of parts))) → Adds old next whole
     reads-repeat count parts w is k = left-last old now next (exprs_read wid (exprs_of (map expr_of parts))) whole (seen (f.Repeat count (exprs_of (map expr_of parts))) (ap expr_of is ∙ expr_of-Repeat count parts w)) k
 
-  pub reads-unary : (op : UnaryOp) (a : Box FExpr Global) (w : ℕ) → x ≡ e.Unary op a w → Left (bits_in old) now (expr_reads wid (expr_of a.value)) whole
+  pub reads-unary : (op : FUnaryOp) (a : Box FExpr Global) (w : ℕ) → x ≡ e.Unary op a w → Left (bits_in old) now (expr_reads wid (expr_of a.value)) whole
   reads-unary op a w is = seen (f.Unary (unary_of op) (expr_of a.value)) (ap expr_of is ∙ expr_of-Unary op a w)

@@ -1,6 +1,6 @@
 -- What each form of an expression, a target and a statement is, one level down: its meaning, and its kept width.
 use Rattle.std.proofs.Common.{◌≡◌, ℕ, ◌+◌, ◌*◌, ◌^◌, max, ◌&&◌, ◌==◌, nat_lt, nat_le, List, map, Box, Global, sym, ap, ◌∙◌}
-use Rattle.verilog_ast.specs.declared.UnaryOp.{UnaryOp}
+use Rattle.flat_form.specs.declared.flat.FUnaryOp.{FUnaryOp}
 use Rattle.verilog_ast.specs.declared.BinaryOp.{BinaryOp}
 use Rattle.flat_form.specs.declared.flat.FExpr.{FExpr}
 use Rattle.flat_form.specs.declared.flat.FExpr.TheOpen.{FExpr-F}
@@ -33,10 +33,10 @@ expr_of-At sig index width = ap expr_of (sym (e.rolls-At sig index width)) ∙ f
 pub kept_of-At : (sig : ℕ) (index : Box FExpr Global) (width : ℕ) → kept_of (e.At sig index width) ≡ record { width = width; right = (width == 1) && is_sized index.value }
 kept_of-At sig index width = ap kept_of (sym (e.rolls-At sig index width)) ∙ fold-roll-FExpr Kept kept_step (FExpr-F.At sig index width)
 
-pub expr_of-Unary : (op : UnaryOp) (a : Box FExpr Global) (width : ℕ) → expr_of (e.Unary op a width) ≡ f.Unary (unary_of op) (expr_of a.value)
+pub expr_of-Unary : (op : FUnaryOp) (a : Box FExpr Global) (width : ℕ) → expr_of (e.Unary op a width) ≡ f.Unary (unary_of op) (expr_of a.value)
 expr_of-Unary op a width = ap expr_of (sym (e.rolls-Unary op a width)) ∙ fold-roll-FExpr f.Expr expr_step (FExpr-F.Unary op a width)
 
-pub kept_of-Unary : (op : UnaryOp) (a : Box FExpr Global) (width : ℕ) → kept_of (e.Unary op a width) ≡ record { width = width; right = (width == f.unary_size (unary_of op) (kept_of a.value).width) && is_sized a.value }
+pub kept_of-Unary : (op : FUnaryOp) (a : Box FExpr Global) (width : ℕ) → kept_of (e.Unary op a width) ≡ record { width = width; right = (width == f.unary_size (unary_of op) (kept_of a.value).width) && is_sized a.value }
 kept_of-Unary op a width = ap kept_of (sym (e.rolls-Unary op a width)) ∙ fold-roll-FExpr Kept kept_step (FExpr-F.Unary op a width)
 
 pub expr_of-Binary : (op : BinaryOp) (a b : Box FExpr Global) (width : ℕ) → expr_of (e.Binary op a b width) ≡ f.Binary (binary_of op) (expr_of a.value) (expr_of b.value)

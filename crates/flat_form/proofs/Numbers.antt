@@ -4,8 +4,8 @@ use Rattle.std.specs.Prelude.{bit_and, bit_or, bit_xor, count_ones}
 use Rattle.std.proofs.Math.Nat.{mod-le, div-le_self}
 use Rattle.cell_graph.specs.Tree.{bit_at, number, all_below, any_below, odd_below}
 use Rattle.cell_graph.proofs.Words.{HasBits, number-same, number-has, has-number, has-same, bit-has, bit-zero, wider-has, low-has, not-has, and-has, or-has, xor-has, add-has, sub-has, up-has, down-has, narrow, any-bit, all-bits, odd-bits}
-use Rattle.verilog_ast.specs.declared.UnaryOp.{UnaryOp}
-use Rattle.verilog_ast.specs.declared.UnaryOp.TheVariants as u
+use Rattle.flat_form.specs.declared.flat.FUnaryOp.{FUnaryOp}
+use Rattle.flat_form.specs.declared.flat.FUnaryOp.TheVariants as u
 use Rattle.verilog_ast.specs.declared.BinaryOp.{BinaryOp}
 use Rattle.verilog_ast.specs.declared.BinaryOp.TheVariants as b
 use mir.Val.{bool_byte}
@@ -179,12 +179,12 @@ not-is r a w W g small p e d = d ∙ has-number (not-has g g w a small (has-word
 
 -- ---- the operators of the code
 
-pub reduced-none : (op : UnaryOp) (w : ℕ) (g : Word) (b : Bool) → (op ≡ u.Not) ⊎ ((op ≡ u.LogicNot) ⊎ (op ≡ u.Nor)) → unary_of op ≢ f.complement → b ≡ not (any_below g w) → b ≡ unary (unary_of op) w g 0
+pub reduced-none : (op : FUnaryOp) (w : ℕ) (g : Word) (b : Bool) → (op ≡ u.Not) ⊎ ((op ≡ u.LogicNot) ⊎ (op ≡ u.Nor)) → unary_of op ≢ f.complement → b ≡ not (any_below g w) → b ≡ unary (unary_of op) w g 0
 reduced-none op w g b (inl p) n e = absurd (n (ap unary_of p))
-reduced-none op w g b (inr (inl p)) n e = subst (λ (op : UnaryOp). b ≡ unary (unary_of op) w g 0) (sym p) e
-reduced-none op w g b (inr (inr p)) n e = subst (λ (op : UnaryOp). b ≡ unary (unary_of op) w g 0) (sym p) e
+reduced-none op w g b (inr (inl p)) n e = subst (λ (op : FUnaryOp). b ≡ unary (unary_of op) w g 0) (sym p) e
+reduced-none op w g b (inr (inr p)) n e = subst (λ (op : FUnaryOp). b ≡ unary (unary_of op) w g 0) (sym p) e
 
-pub no-complement : (op : UnaryOp) → op ≢ u.Not → unary_of op ≢ f.complement
+pub no-complement : (op : FUnaryOp) → op ≢ u.Not → unary_of op ≢ f.complement
 no-complement u.Not n = absurd (n refl)
 no-complement u.LogicNot n = λ e. cc
 no-complement u.And n = λ e. cc

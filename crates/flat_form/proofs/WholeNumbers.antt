@@ -2,8 +2,8 @@
 use Rattle.std.proofs.Common.{◌≡◌, ◌≢◌, ℕ, zero, suc, ◌-◌, ◌*◌, ◌^◌, ◌<◌, ◌≤◌, Bool, true, false, cond, ◌==◌, nat_le, Option, Some, None, refl, sym, ap, ◌∙◌, arith, mul-suc, leb-true, le-leb, ne_eqb}
 use Rattle.std.specs.Option.{option_and_then, SomeIff}
 use Rattle.std.proofs.Math.Pow.{pow_mono}
-use Rattle.verilog_ast.specs.declared.UnaryOp.{UnaryOp}
-use Rattle.verilog_ast.specs.declared.UnaryOp.TheVariants as u
+use Rattle.flat_form.specs.declared.flat.FUnaryOp.{FUnaryOp}
+use Rattle.flat_form.specs.declared.flat.FUnaryOp.TheVariants as u
 use Rattle.verilog_ast.specs.declared.BinaryOp.{BinaryOp}
 use Rattle.verilog_ast.specs.declared.BinaryOp.TheVariants as b
 use Rattle.cell_graph.specs.Tree.{bit_at}
@@ -73,7 +73,7 @@ other-number b.Ne m n o = refl
 other-number b.LogicAnd m n o = refl
 other-number b.LogicOr m n o = refl
 
-pub other-unary : (op : UnaryOp) (w n : ℕ) → op ≢ u.Not → unary_number op w n ≡ Some (one_if (unary (unary_of op) w (bit_at n) 0))
+pub other-unary : (op : FUnaryOp) (w n : ℕ) → op ≢ u.Not → unary_number op w n ≡ Some (one_if (unary (unary_of op) w (bit_at n) 0))
 other-unary u.Not w n h = absurd (h refl)
 other-unary u.LogicNot w n h = refl
 other-unary u.And w n h = refl

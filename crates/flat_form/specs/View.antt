@@ -1,8 +1,8 @@
 -- The flat designs that the Rust types stand for, without pointers. The widths that the types keep are left out: a size is computed.
 use Rattle.std.specs.Prelude.{ℕ, List, [], ◌∷◌, map, Option, Some, None, Box}
 use Rattle.std.specs.declared.alloc.Global.{Global}
-use Rattle.verilog_ast.specs.declared.UnaryOp.{UnaryOp}
-use Rattle.verilog_ast.specs.declared.UnaryOp.TheVariants as u
+use Rattle.flat_form.specs.declared.flat.FUnaryOp.{FUnaryOp}
+use Rattle.flat_form.specs.declared.flat.FUnaryOp.TheVariants as u
 use Rattle.verilog_ast.specs.declared.BinaryOp.{BinaryOp}
 use Rattle.verilog_ast.specs.declared.BinaryOp.TheVariants as b
 use Rattle.flat_form.specs.declared.flat.Flat.{Flat}
@@ -23,7 +23,7 @@ use Rattle.flat_form.specs.declared.flat.FStmt.TheFolds.{fold-FStmt, fold-FCaseI
 use Rattle.flat_meaning.specs.Flat as f
 use Rattle.flat_meaning.specs.Design as d
 
-abbrev pub unary_of : UnaryOp → f.UnaryOp
+abbrev pub unary_of : FUnaryOp → f.UnaryOp
 unary_of u.Not = f.complement
 unary_of u.LogicNot = f.logical_not
 unary_of u.And = f.reduce_and

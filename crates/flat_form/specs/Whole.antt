@@ -2,8 +2,8 @@
 -- its own size is 1; one that breaks this, or divides by 0, is None, and so is what is made of it.
 use Rattle.std.specs.Prelude.{ℕ, ◌+◌, ◌-◌, ◌*◌, ◌/◌, ◌%◌, ◌^◌, Bool, cond, ◌==◌, nat_le, Option, Some, None, bit_and, bit_or, bit_xor}
 use Rattle.std.specs.Option.{option_and_then}
-use Rattle.verilog_ast.specs.declared.UnaryOp.{UnaryOp}
-use Rattle.verilog_ast.specs.declared.UnaryOp.TheVariants as u
+use Rattle.flat_form.specs.declared.flat.FUnaryOp.{FUnaryOp}
+use Rattle.flat_form.specs.declared.flat.FUnaryOp.TheVariants as u
 use Rattle.verilog_ast.specs.declared.BinaryOp.{BinaryOp}
 use Rattle.verilog_ast.specs.declared.BinaryOp.TheVariants as b
 use Rattle.cell_graph.specs.Tree.{bit_at}
@@ -23,7 +23,7 @@ abbrev pub one_if : Bool → ℕ
 one_if b = cond b 1 0
 
 -- `~`, `!` or a reduction of an operand of own size w
-abbrev pub unary_number : UnaryOp → (w n : ℕ) → Option ℕ
+abbrev pub unary_number : FUnaryOp → (w n : ℕ) → Option ℕ
 unary_number u.Not w n = judged w (opposite n)
 unary_number op w n = Some (one_if (unary (unary_of op) w (bit_at n) 0))
 
@@ -42,7 +42,7 @@ binary_number b.Shl m n = Some (m * 2 ^ n)
 binary_number b.Shr m n = Some (m / 2 ^ n)
 binary_number op m n = Some (one_if (comparison op m n))
 
-abbrev pub unary_whole : UnaryOp → ℕ → Option ℕ → Option ℕ
+abbrev pub unary_whole : FUnaryOp → ℕ → Option ℕ → Option ℕ
 unary_whole op w a = option_and_then (unary_number op w) a
 
 abbrev pub binary_whole : BinaryOp → ℕ → Option ℕ → Option ℕ → Option ℕ

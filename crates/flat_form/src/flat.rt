@@ -1,7 +1,7 @@
 //! The form of a flat design. Signals are numbered by their place in the list of signals, and `width` counts the bits
 //! of an expression's own size.
 use cdc_base::{List, Signal};
-use verilog_ast::{BinaryOp, UnaryOp};
+use verilog_ast::BinaryOp;
 
 /// A design without instances. `outputs` are the outputs of the top.
 #[derive(Drop)]
@@ -60,7 +60,7 @@ pub enum FExpr {
         width: u8,
     },
     Unary {
-        op: UnaryOp,
+        op: FUnaryOp,
         a: Box<FExpr>,
         width: u8,
     },
@@ -89,6 +89,19 @@ pub enum FExpr {
         parts: List<FExpr>,
         width: u8,
     },
+}
+
+/// `~ ! & | ^ ~& ~| ~^`, in this order. The unary `-` stands as a difference from 0.
+#[derive(Clone, Copy, PartialEq, Eq, Debug, Drop)]
+pub enum FUnaryOp {
+    Not,
+    LogicNot,
+    And,
+    Or,
+    Xor,
+    Nand,
+    Nor,
+    Xnor,
 }
 
 /// A target. `Part` is a constant select, whose lowest bit is `at`.

@@ -13,5 +13,5 @@ pub mod value;
 pub mod whole;
 
 pub use flat::{
-    FCaseItem, FExpr, FStmt, FTarget, Flat, FlatAssign, FlatClocked, FlatComb, FlatReset,
+    FCaseItem, FExpr, FStmt, FTarget, FUnaryOp, Flat, FlatAssign, FlatClocked, FlatComb, FlatReset,
 };

@@ -7,8 +7,8 @@ ghost use Rattle.flat_form.specs.View.{expr_of, unary_of, binary_of};
 ghost use Rattle.flat_form.specs.Sizes.{kept_of, is_sized};
 ghost use Rattle.flat_form.specs.Operators.{family};
 
-use crate::flat::FExpr;
-use verilog_ast::{BinaryOp, UnaryOp};
+use crate::flat::{FExpr, FUnaryOp};
+use verilog_ast::BinaryOp;
 
 /// The own size of an expression.
 pub fn width_of(expr: &FExpr) -> u8
@@ -77,10 +77,10 @@ pub fn is_whole_only(op: BinaryOp) -> bool
 }
 
 /// The own size of a unary expression over an operand of size `a`.
-pub fn unary_size(op: UnaryOp, a: u8) -> u8
+pub fn unary_size(op: FUnaryOp, a: u8) -> u8
     ensures { result ≡ unary_size_of (unary_of op) a }
 {
-    if op == UnaryOp::Not { a } else { 1 }
+    if op == FUnaryOp::Not { a } else { 1 }
 }
 
 /// The own size of a binary expression over operands of sizes `a` and `b`.
@@ -95,10 +95,10 @@ pub fn binary_size(op: BinaryOp, a: u8, b: u8) -> u8
 }
 
 /// The size at which the operand of a unary expression of size `size` is evaluated.
-pub fn operand_size(op: UnaryOp, size: u8, a: u8) -> u8
+pub fn operand_size(op: FUnaryOp, size: u8, a: u8) -> u8
     ensures { result ≡ unary_at (unary_of op) size a }
 {
-    if op == UnaryOp::Not { size } else { a }
+    if op == FUnaryOp::Not { size } else { a }
 }
 
 /// The size at which the left operand of a binary expression of size `size` is evaluated.

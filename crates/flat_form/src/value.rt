@@ -10,10 +10,10 @@ ghost use Rattle.flat_form.specs.Sizes.{kept_of, is_sized, sum, all_bits, all_ri
 ghost use Rattle.flat_form.specs.Operators.{comparison};
 
 use crate::bits::is_odd;
-use crate::flat::FExpr;
+use crate::flat::{FExpr, FUnaryOp};
 use crate::size::{left_size, operand_size, right_size, width_of};
 use cell_graph::word::{low_bits, mask, shifted_left, shifted_right};
-use verilog_ast::{BinaryOp, UnaryOp};
+use verilog_ast::BinaryOp;
 
 /// Whether the expression reads no signal.
 #[cycle(constant)]
@@ -157,27 +157,27 @@ fn repeated(word: u64, width: u64, count: u8) -> u64
 }
 
 /// The value of a unary operator over a word of `size` bits.
-fn unary_value(op: UnaryOp, a: u64, size: u8) -> u64
+fn unary_value(op: FUnaryOp, a: u64, size: u8) -> u64
     ensures { (f : Word) (whole : ℕ) → size ≤ 64 → 1 ≤ whole → unary_at (unary_of op) whole size ≡ size → a ≡ number f size
         → result ≡ number (unary (unary_of op) size f) whole }
 {
     match op {
-        UnaryOp::Not => low_bits(!a, size),
+        FUnaryOp::Not => low_bits(!a, size),
         _ => u64::from(reduced(op, a, size)),
     }
 }
 
 /// The value of `!` or of a reduction over a word of `size` bits.
-pub fn reduced(op: UnaryOp, a: u64, size: u8) -> bool
+pub fn reduced(op: FUnaryOp, a: u64, size: u8) -> bool
     ensures { (f : Word) → size ≤ 64 → unary_of op ≢ complement → a ≡ number f size → result ≡ unary (unary_of op) size f 0 }
 {
     match op {
-        UnaryOp::Not | UnaryOp::LogicNot | UnaryOp::Nor => a == 0,
-        UnaryOp::And => a == mask(size),
-        UnaryOp::Nand => a != mask(size),
-        UnaryOp::Or => a != 0,
-        UnaryOp::Xor => is_odd(a),
-        UnaryOp::Xnor => !is_odd(a),
+        FUnaryOp::Not | FUnaryOp::LogicNot | FUnaryOp::Nor => a == 0,
+        FUnaryOp::And => a == mask(size),
+        FUnaryOp::Nand => a != mask(size),
+        FUnaryOp::Or => a != 0,
+        FUnaryOp::Xor => is_odd(a),
+        FUnaryOp::Xnor => !is_odd(a),
     }
 }
 

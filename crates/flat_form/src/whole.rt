@@ -4,9 +4,10 @@ ghost use Rattle.std.specs.Prelude.{◌≡◌, ℕ, ◌*◌, ◌-◌, ◌<◌, �
 ghost use Rattle.std.specs.Option.{option_and_then};
 ghost use Rattle.flat_form.specs.Whole.{judged, opposite, binary_number, unary_whole, binary_whole, choice_whole};
 
+use crate::flat::FUnaryOp;
 use crate::value::{compared, reduced};
 use cell_graph::word::shifted_right;
-use verilog_ast::{BinaryOp, UnaryOp};
+use verilog_ast::BinaryOp;
 
 /// The greatest whole number.
 pub const MAX_WHOLE: u64 = 2_147_483_647;
@@ -20,12 +21,12 @@ pub fn within(size: u8, value: u64) -> Option<u64>
 }
 
 /// A unary operator over `a`, whose own size is `size`. The complement is taken of a word of 32 bits.
-pub fn whole_unary(op: UnaryOp, a: Option<u64>, size: u8) -> Option<u64>
+pub fn whole_unary(op: FUnaryOp, a: Option<u64>, size: u8) -> Option<u64>
     ensures { size ≤ 64 → ((n : ℕ) → a ≡ Some n → n < 2 ^ size) → result ≡ unary_whole op size a }
 {
     let a = a?;
     match op {
-        UnaryOp::Not => within(size, complement(a)),
+        FUnaryOp::Not => within(size, complement(a)),
         _ => Some(u64::from(reduced(op, a, size))),
     }
 }

@@ -4,25 +4,25 @@ use Rattle.std.specs.Prelude.{option_and_then, unwrap_or}
 use Rattle.std.proofs.lemmas.Bool.{false≢true}
 use Rattle.verilog_ast.specs.declared.UnaryOp.{UnaryOp}
 use Rattle.verilog_ast.specs.declared.BinaryOp.{BinaryOp}
-use Rattle.flat_meaning.specs.Flat.{Unary, Binary, Choose, unary_size, binary_size}
+use Rattle.flat_meaning.specs.Flat.{Binary, Choose, binary_size}
 use Rattle.flat_form.specs.declared.flat.FExpr.{FExpr}
-use Rattle.flat_form.specs.View.{expr_of, unary_of, binary_of}
+use Rattle.flat_form.specs.View.{expr_of, binary_of}
 use Rattle.flat_form.specs.Sizes.{Kept, kept_of, is_sized}
 use Rattle.flat_form.specs.Whole as form
 use Rattle.flat_unfolding.specs.Outcome.{Broken, breaks_if}
 use Rattle.flat_unfolding.specs.Names.{Look}
-use Rattle.flat_unfolding.specs.Constants.{both, within, whole_unary, whole_binary}
+use Rattle.flat_unfolding.specs.Constants.{both, own_unary, within, whole_unary, whole_binary}
 use Rattle.flat_unfolding.specs.Expressions.{Term, also, is_empty, is_sound, unary_term, binary_term, choice_term, is_whole_only}
 use Rattle.flat_names.specs.declared.resolved.Count.{Count}
 use Rattle.flat_names.specs.declared.resolved.Resolved.{Resolved}
 use Rattle.flat_names.specs.Noting.{Noted, noted, all_noted}
 use Rattle.flat_names.specs.declared.signs.Signs.{Signs}
 use Rattle.flat_names.specs.Signs.{number_signs, judged_signs, unary_signs, binary_signs, choice_signs, orders_signed}
-use Rattle.flat_names.specs.Pieces.{EachIs, IsRead, Makes, Piece, IsPiece, IsFitPiece, out_of_range, as_part, pending, numbered, flagged, judged_piece, unary_piece, binary_piece, choice_piece, binary_notes, choice_notes}
+use Rattle.flat_names.specs.Pieces.{EachIs, IsRead, Makes, IsOver, Piece, IsPiece, IsFitPiece, out_of_range, as_part, pending, numbered, flagged, judged_piece, unary_piece, binary_piece, choice_piece, binary_notes, choice_notes}
 use Rattle.flat_names.proofs.Notes.{noted-once, then-noted}
 use Rattle.flat_names.proofs.Options.{none-some}
-use Rattle.flat_names.proofs.Wholes.{within-below, within-limit, unary-whole, binary-whole, choice-whole}
-use Rattle.flat_names.proofs.Terms.{with_size, empty-both, is-unary, is-binary, is-choice, counted-unary, counted-binary, counted-max, counted-is, counted-whole, counted-of, open-of, number-piece, flag-piece, open-piece}
+use Rattle.flat_names.proofs.Wholes.{within-below, within-limit, binary-whole, choice-whole}
+use Rattle.flat_names.proofs.Terms.{with_size, empty-both, is-unary, is-binary, is-choice, counted-own, counted-binary, counted-max, counted-is, counted-whole, counted-of, open-of, number-piece, flag-piece, open-piece}
 use Rattle.flat_names.proofs.Fit.{then-within, both-within, choice-within}
 
 pub empty-none : {A : Type 0} (xs : List A) → is_empty xs ≡ true → xs ≡ []
@@ -97,35 +97,36 @@ judged-flag l k v t e s g z d h i j = subst (λ u. IsPiece (judged_piece l (Some
 
 -- ---- a unary operator
 
-pub unary-number : (l : Look) (op : UnaryOp) (p : Piece) (k : ℕ) (v : Option ℕ) → IsFitPiece p → p.size ≡ Some k → unary_size (unary_of op) k ≢ 1 → v ≡ form.unary_whole op k p.whole
+-- its value, where the operand counts with the size k
+abbrev pub unary_value : UnaryOp → ℕ → Option ℕ → Option ℕ
+unary_value op k a = option_and_then (λ m. option_and_then (within (own_unary op k)) (whole_unary op k m)) a
+
+pub unary-number : (l : Look) (op : UnaryOp) (p : Piece) (k : ℕ) (v : Option ℕ) → IsFitPiece p → p.size ≡ Some k → own_unary op k ≢ 1 → v ≡ unary_value op k p.whole
     → IsPiece (unary_piece l op p) (numbered v (unwrap_or v 0) 32 number_signs)
-unary-number l op p k v h e d i =
-    let u = unary_size (unary_of op) k in
-    let value : v ≡ option_and_then (λ m. within u (whole_unary op k m)) p.whole = i ∙ unary-whole op k p.whole in
+unary-number l op p k v h e d value =
+    let u = own_unary op k in
     subst (λ s. IsPiece (unary_piece l op (with_size p s)) (numbered v (unwrap_or v 0) 32 number_signs)) (sym e)
     (subst (λ x. IsPiece (judged_piece l (Some u) x (unary_term op p.term) (unary_signs op p.signs)) (numbered v (unwrap_or v 0) 32 number_signs)) value
-    (judged-number l u v (unary_term op p.term) (unary_signs op p.signs) (counted-whole u (counted-unary (unary_of op) k (h.sizes k e)) d) (λ n j. then-within u (whole_unary op k) p.whole n (sym value ∙ j))))
+    (judged-number l u v (unary_term op p.term) (unary_signs op p.signs) (counted-whole u (counted-own op k (h.sizes k e)) d) (λ n j. then-within u (whole_unary op k) p.whole n (sym value ∙ j))))
 
-pub unary-flag : (l : Look) (op : UnaryOp) (p : Piece) (a : Resolved) (x : FExpr) (k : ℕ) (v : Option ℕ) (z : Signs) → IsPiece p a → IsFitPiece p → p.size ≡ Some k → unary_size (unary_of op) k ≡ 1 → v ≡ form.unary_whole op k p.whole
-    → Makes x (Unary (unary_of op) (expr_of a.expr)) (record { width = unary_size (unary_of op) k; right = is_sized a.expr })
-    → z ≡ unary_signs op a.signs → IsPiece (unary_piece l op p) (flagged x a.is_sound v z)
-unary-flag l op p a x k v z g h e d i m f =
-    let u = unary_size (unary_of op) k in
-    let value : v ≡ option_and_then (λ m. within u (whole_unary op k m)) p.whole = i ∙ unary-whole op k p.whole in
-    let shape = is-unary op p.term a x u (Some (record { whole = v })) z g.is m in
+pub unary-flag : (l : Look) (op : UnaryOp) (p : Piece) (a : Resolved) (x : FExpr) (k : ℕ) (v : Option ℕ) (z : Signs) → IsPiece p a → IsFitPiece p → p.size ≡ Some k → own_unary op k ≡ 1 → v ≡ unary_value op k p.whole
+    → IsOver op a.expr x → z ≡ unary_signs op a.signs → IsPiece (unary_piece l op p) (flagged x a.is_sound v z)
+unary-flag l op p a x k v z g h e d value m f =
+    let u = own_unary op k in
+    let shape = is-unary op p.term a x (Some (record { whole = v })) z g.is m in
     let constant : a.is_constant ≡ true = g.is.constant ∙ h.constant k e in
     subst (λ s. IsPiece (unary_piece l op (with_size p s)) (flagged x a.is_sound v z)) (sym e)
     (subst (λ y. IsPiece (judged_piece l (Some u) y (unary_term op p.term) (unary_signs op p.signs)) (flagged x a.is_sound v z)) value
     (judged-flag l u v (unary_term op p.term) x a.is_sound (unary_signs op p.signs) z d
-    (subst (λ b. IsRead (unary_term op p.term) (record { expr = x; is_sound = a.is_sound; is_constant = b; count = Some (record { whole = v }); signs = z })) constant shape) (ap (λ (y : Kept). y.width) m.kept)
+    (subst (λ b. IsRead (unary_term op p.term) (record { expr = x; is_sound = a.is_sound; is_constant = b; count = Some (record { whole = v }); signs = z })) constant shape)
+    (ap (λ (y : Kept). y.width) m.kept ∙ ap (own_unary op) (g.width k e))
     (f ∙ ap (unary_signs op) g.signs)))
 
-pub unary-open : (l : Look) (op : UnaryOp) (p : Piece) (a : Resolved) (x : FExpr) (n : ℕ) (z : Signs) → IsPiece p a → a.count ≡ None
-    → Makes x (Unary (unary_of op) (expr_of a.expr)) (record { width = n; right = is_sized a.expr })
+pub unary-open : (l : Look) (op : UnaryOp) (p : Piece) (a : Resolved) (x : FExpr) (z : Signs) → IsPiece p a → a.count ≡ None → IsOver op a.expr x
     → z ≡ unary_signs op a.signs → IsPiece (unary_piece l op p) (record { expr = x; is_sound = a.is_sound; is_constant = a.is_constant; count = None; signs = z })
-unary-open l op p a x n z g e m f =
+unary-open l op p a x z g e m f =
     subst (λ s. IsPiece (unary_piece l op (with_size p s)) (record { expr = x; is_sound = a.is_sound; is_constant = a.is_constant; count = None; signs = z })) (sym (open-of p a g e))
-    (open-piece l _ (unary_term op p.term) (unary_signs op p.signs) _ (is-unary op p.term a x n None z g.is m) refl (f ∙ ap (unary_signs op) g.signs))
+    (open-piece l _ (unary_term op p.term) (unary_signs op p.signs) _ (is-unary op p.term a x None z g.is m) refl (f ∙ ap (unary_signs op) g.signs))
 
 -- ---- a binary operator
 

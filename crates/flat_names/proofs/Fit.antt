@@ -3,14 +3,16 @@ use Rattle.std.proofs.Common.{◌≡◌, ◌≢◌, ℕ, ◌^◌, ◌<◌, max, 
 use Rattle.std.specs.Prelude.{option_map, option_and_then}
 use Rattle.cdc_base.specs.declared.size.NumberSize.TheVariants as z
 use Rattle.verilog_ast.specs.declared.UnaryOp.{UnaryOp}
+use Rattle.verilog_ast.specs.declared.PartKind.{PartKind}
+use Rattle.verilog_ast.specs.declared.PartKind.TheVariants as k
 use Rattle.verilog_ast.specs.declared.BinaryOp.{BinaryOp}
 use Rattle.verilog_reading.specs.ExprTree.{ExprTree, number, name, index, part, unary, binary, choice, join, repeat, paren, ExprTrees, no_trees, and_trees}
-use Rattle.flat_meaning.specs.Flat.{size, unary_size, binary_size}
-use Rattle.flat_form.specs.View.{unary_of, binary_of}
+use Rattle.flat_meaning.specs.Flat.{size, binary_size}
+use Rattle.flat_form.specs.View.{binary_of}
 use Rattle.flat_unfolding.specs.Outcome.{Text, Broken, breaks, breaks_if}
 use Rattle.flat_unfolding.specs.Names.{Range, Param, Meaning, a_param, a_signal, a_memory, no_value, Look, meaning, unknown}
-use Rattle.flat_unfolding.specs.Constants.{within, whole_unary, whole_binary}
-use Rattle.flat_unfolding.specs.Expressions.{Term, also, is_empty, is_sound, all_broken, spoilt, as_constant, as_bound, as_count, range_of, Select, param_bits, signal_bits, word_bits, index_term, part_term, unary_term, binary_term, choice_term, join_term, repeat_term, is_whole_only, whole_number, read, read_parts}
+use Rattle.flat_unfolding.specs.Constants.{own_unary, within, whole_unary, whole_binary}
+use Rattle.flat_unfolding.specs.Expressions.{Term, also, is_empty, is_sound, all_broken, spoilt, as_constant, as_bound, as_count, as_second, range_of, Select, param_bits, signal_bits, word_bits, index_term, part_term, unary_term, binary_term, choice_term, join_term, repeat_term, is_whole_only, whole_number, read, read_parts}
 use Rattle.flat_names.specs.declared.signs.Signs.{Signs}
 use Rattle.flat_names.specs.Signs.{unary_signs, binary_signs, choice_signs, orders_signed}
 use Rattle.flat_names.specs.Pieces.{EachIs, Piece, piece, IsFitPiece, out_of_range, is_counted_size, judged_piece, unary_piece, binary_piece, choice_piece}
@@ -20,7 +22,7 @@ use Rattle.flat_names.specs.Looks.{IsFitParam, IsFit}
 use Rattle.flat_names.proofs.Notes.{IsOne}
 use Rattle.flat_names.proofs.Options.{none-some, some-same}
 use Rattle.flat_names.proofs.Wholes.{within-same}
-use Rattle.flat_names.proofs.Terms.{with_size, counted-is, counted-unary, counted-binary, counted-max}
+use Rattle.flat_names.proofs.Terms.{with_size, counted-is, counted-own, counted-binary, counted-max}
 
 -- ---- E307 is told in one way
 
@@ -50,6 +52,11 @@ one-bound t h = ones-both (as_constant t).broken _ (one-constant t h) (one-range
 
 one-count : (t : Term) → EachIs IsOne t.broken → EachIs IsOne (as_count t).broken
 one-count t h = ones-both (as_bound t).broken _ (one-bound t h) (one-range _)
+
+one-second : (kind : PartKind) (t : Term) → EachIs IsOne t.broken → EachIs IsOne (as_second kind t).broken
+one-second k.Range t h = one-bound t h
+one-second k.Up t h = one-count t h
+one-second k.Down t h = one-count t h
 
 -- ---- all breaks of some terms
 
@@ -141,26 +148,26 @@ fit-name l x h None e = open-fit _ refl (one-unknown l x)
 
 -- ---- parts
 
-pub part-is : (l : Look) (x : Text) (t u : Term) → part_term l x t u
-    ≡ behind (unknown l x ++ (as_bound t).broken ++ (as_bound u).broken) (part_at l x (range_of (as_bound t) (as_bound u)) (meaning l x))
-part-is l x t u = refl
+pub part-is : (l : Look) (x : Text) (kind : PartKind) (t u : Term) → part_term l x kind t u
+    ≡ behind (unknown l x ++ (as_bound t).broken ++ (as_second kind u).broken) (part_at l x kind (range_of (as_bound t) (as_second kind u)) (meaning l x))
+part-is l x kind t u = refl
 
-one-part_at : (l : Look) (x : Text) (r : Option Range) (m : Option Meaning) → EachIs IsOne (part_at l x r m).broken
-one-part_at l x (Some p) (Some (a_param a)) = one-param_bits l x a _
-one-part_at l x (Some p) (Some (a_signal s)) = one-signal_bits l x s _
-one-part_at l x (Some p) (Some (a_memory a)) = one-break 319 x (λ e. omega arith)
-one-part_at l x (Some p) (Some no_value) = tt
-one-part_at l x (Some p) None = tt
-one-part_at l x None (Some (a_param a)) = tt
-one-part_at l x None (Some (a_signal s)) = tt
-one-part_at l x None (Some (a_memory a)) = one-break 319 x (λ e. omega arith)
-one-part_at l x None (Some no_value) = tt
-one-part_at l x None None = tt
+one-part_at : (l : Look) (x : Text) (kind : PartKind) (r : Option Range) (m : Option Meaning) → EachIs IsOne (part_at l x kind r m).broken
+one-part_at l x kind (Some p) (Some (a_param a)) = one-param_bits l x a _
+one-part_at l x kind (Some p) (Some (a_signal s)) = one-signal_bits l x s _
+one-part_at l x kind (Some p) (Some (a_memory a)) = one-break 319 x (λ e. omega arith)
+one-part_at l x kind (Some p) (Some no_value) = tt
+one-part_at l x kind (Some p) None = tt
+one-part_at l x kind None (Some (a_param a)) = tt
+one-part_at l x kind None (Some (a_signal s)) = tt
+one-part_at l x kind None (Some (a_memory a)) = one-break 319 x (λ e. omega arith)
+one-part_at l x kind None (Some no_value) = tt
+one-part_at l x kind None None = tt
 
-one-part : (l : Look) (x : Text) (t u : Term) → EachIs IsOne t.broken → EachIs IsOne u.broken → EachIs IsOne (part_term l x t u).broken
-one-part l x t u h i = subst (λ v. EachIs IsOne v.broken) (sym (part-is l x t u))
-    (ones-both (unknown l x ++ (as_bound t).broken ++ (as_bound u).broken) _
-    (ones-both (unknown l x ++ (as_bound t).broken) _ (ones-both (unknown l x) _ (one-unknown l x) (one-bound t h)) (one-bound u i)) (one-part_at l x _ (meaning l x)))
+one-part : (l : Look) (x : Text) (kind : PartKind) (t u : Term) → EachIs IsOne t.broken → EachIs IsOne u.broken → EachIs IsOne (part_term l x kind t u).broken
+one-part l x kind t u h i = subst (λ v. EachIs IsOne v.broken) (sym (part-is l x kind t u))
+    (ones-both (unknown l x ++ (as_bound t).broken ++ (as_second kind u).broken) _
+    (ones-both (unknown l x ++ (as_bound t).broken) _ (ones-both (unknown l x) _ (one-unknown l x) (one-bound t h)) (one-second kind u i)) (one-part_at l x kind _ (meaning l x)))
 
 -- ---- operators
 
@@ -190,13 +197,13 @@ judged-fit l k v t g h w b o c = counted-is k (λ k. ((n : ℕ) → v ≡ Some n
     }
     whole-fit (Some m) w = number-fit (whole_number l (Some m)) 32 (Some m) _ refl refl refl refl w
 
-pub then-within : (k : ℕ) (f : ℕ → ℕ) (v : Option ℕ) (n : ℕ) → option_and_then (λ m. within k (f m)) v ≡ Some n → within k n ≡ Some n
-then-within k f None n h = none-some n h
-then-within k f (Some m) n h = within-same k (f m) n h
-
 some-within : (k : ℕ) (v : Option ℕ) (n : ℕ) → option_and_then (within k) v ≡ Some n → within k n ≡ Some n
 some-within k None n h = none-some n h
 some-within k (Some m) n h = within-same k m n h
+
+pub then-within : (k : ℕ) (f : ℕ → Option ℕ) (v : Option ℕ) (n : ℕ) → option_and_then (λ m. option_and_then (within k) (f m)) v ≡ Some n → within k n ≡ Some n
+then-within k f None n h = none-some n h
+then-within k f (Some m) n h = some-within k (f m) n h
 
 pub both-within : (k : ℕ) (f : ℕ → ℕ → Option ℕ) (u v : Option ℕ) (n : ℕ) → option_and_then (λ m. option_and_then (λ n. option_and_then (within k) (f m n)) v) u ≡ Some n → within k n ≡ Some n
 both-within k f None v n h = none-some n h
@@ -220,7 +227,7 @@ fit-unary l op p h = go p.size h
   where
     go : (s : Option ℕ) → IsFitPiece (with_size p s) → IsFitPiece (unary_piece l op (with_size p s))
     go None i = open-fit _ refl i.one
-    go (Some k) i = judged-fit l (unary_size (unary_of op) k) _ (unary_term op p.term) (unary_signs op p.signs) (counted-unary (unary_of op) k (i.sizes k refl)) (then-within (unary_size (unary_of op) k) (whole_unary op k) p.whole)
+    go (Some k) i = judged-fit l (own_unary op k) _ (unary_term op p.term) (unary_signs op p.signs) (counted-own op k (i.sizes k refl)) (then-within (own_unary op k) (whole_unary op k) p.whole)
         (i.bounds k refl) i.one (i.constant k refl)
 
 one-binary : (op : BinaryOp) (t u : Term) (w : Bool) → EachIs IsOne t.broken → EachIs IsOne u.broken → EachIs IsOne (also (binary_term op t u) (breaks_if w 307 [])).broken
@@ -275,7 +282,7 @@ mutual
   fit l h (number v w z.Sized) k = open-fit _ refl tt
   fit l h (name x) k = fit-name l x h (meaning l x) refl
   fit l h (index x i) k = open-fit _ refl (one-index l x (read l i) (fit l h i k).one)
-  fit l h (part x a b) k = open-fit _ refl (one-part l x (read l a) (read l b) (fit l h a k.0).one (fit l h b k.1).one)
+  fit l h (part x kind a b) k = open-fit _ refl (one-part l x kind (read l a) (read l b) (fit l h a k.0).one (fit l h b k.1).one)
   fit l h (unary op a) k = fit-unary l op (piece l a) (fit l h a k)
   fit l h (binary op a b) k = fit-binary l op (piece l a) (piece l b) (fit l h a k.0) (fit l h b k.1)
   fit l h (choice c a b) k = fit-choice l (piece l c) (piece l a) (piece l b) (fit l h c k.0) (fit l h a k.1) (fit l h b k.2)

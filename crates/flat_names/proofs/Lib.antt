@@ -5,6 +5,7 @@ pub mod Terms
 pub mod Fit
 pub mod Counted
 pub mod Made
+pub mod Over
 pub mod Joined
 pub mod Repeats
 pub mod Arms

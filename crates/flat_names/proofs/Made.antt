@@ -1,6 +1,6 @@
 -- Forms over parts in boxes.
 use Rattle.std.proofs.Common.{◌≡◌, ℕ, max, Bool, ◌&&◌, ◌==◌, ap, ap₂, ◌∙◌, Box, Global, eq-eqb}
-use Rattle.verilog_ast.specs.declared.UnaryOp.{UnaryOp}
+use Rattle.flat_form.specs.declared.flat.FUnaryOp.{FUnaryOp}
 use Rattle.verilog_ast.specs.declared.BinaryOp.{BinaryOp}
 use Rattle.flat_meaning.specs.Flat.{Unary, Binary, Choose, unary_size, binary_size}
 use Rattle.flat_form.specs.declared.flat.FExpr.{FExpr}
@@ -14,7 +14,7 @@ use Rattle.flat_names.specs.Pieces.{Makes}
 abbrev with_right : ℕ → Bool → Kept
 with_right w r = record { width = w; right = r }
 
-pub makes-unary : (op : UnaryOp) (a : FExpr) (p : Box FExpr Global) (w : ℕ) → p.value ≡ a → w ≡ unary_size (unary_of op) (kept_of a).width
+pub makes-unary : (op : FUnaryOp) (a : FExpr) (p : Box FExpr Global) (w : ℕ) → p.value ≡ a → w ≡ unary_size (unary_of op) (kept_of a).width
     → Makes (f.Unary op p w) (Unary (unary_of op) (expr_of a)) (with_right w (is_sized a))
 makes-unary op a p w e h = record {
   expr = expr_of-Unary op p w ∙ ap (λ x. Unary (unary_of op) (expr_of x)) e;

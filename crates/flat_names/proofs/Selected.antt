@@ -2,6 +2,7 @@
 use Rattle.std.proofs.Common.{◌≡◌, Result, Ok, Err, Box, Global, ℕ, suc, ◌+◌, ◌-◌, ◌*◌, ◌/◌, ◌%◌, ◌^◌, ◌<◌, ◌≤◌, Bool, true, false, cond, not, ◌&&◌, ◌==◌, nat_lt, nat_le, List, [], ◌++◌, length, Option, Some, None, is_none, is_some, refl, sym, ap, ap₂, subst, ◌∙◌, arith, lt-ltb, le-leb, leb-true, eq-eqb, ne_eqb, pow_pos, pow_mono}
 use Rattle.std.specs.Prelude.{option_map, option_and_then, slice_get, IfOk}
 use Rattle.std.specs.Option.{option_map_or}
+use Rattle.std.proofs.lemmas.List.{append_assoc}
 use Rattle.std.proofs.Math.Nat.{mod-lt, div-eq_of_lt, lt-div-mul-add}
 use Rattle.std.proofs.lemmas.Bool.{and_parts, false≢true}
 use Rattle.cell_graph.specs.Tree.{number}
@@ -15,12 +16,14 @@ use Rattle.flat_form.specs.View.{expr_of}
 use Rattle.flat_form.specs.Sizes.{Kept, is_word, kept_of, is_sized}
 use Rattle.flat_form.proofs.Folds.{expr_of-Number, kept_of-Number, kept_of-Read, expr_of-At, kept_of-At}
 use Rattle.flat_form.proofs.Sized.{IsWidth, word_width, width_word, sized_width, sized_word}
+use Rattle.verilog_ast.specs.declared.PartKind.{PartKind}
+use Rattle.verilog_ast.specs.declared.PartKind.TheVariants as k
 use Rattle.flat_unfolding.specs.Outcome.{Text, Broken, breaks, breaks_if}
 use Rattle.flat_unfolding.specs.Names as n
 use Rattle.flat_unfolding.specs.Names.{Range, span, offset, offset_in, width_of, range_at, width_at, reset_at}
 use Rattle.flat_unfolding.specs.Constants.{own_value, both}
 use Rattle.flat_unfolding.specs.Expressions as definition
-use Rattle.flat_unfolding.specs.Expressions.{Term, is_empty, is_sound, as_constant, as_bound, range_of, spoilt, no_expr, Select, one_bit, bit_select, word_bits, word_of, words_from, variable, is_index, bits_between, part_select, param_bits, signal_bits, param_index, signal_index, index_term, part_term}
+use Rattle.flat_unfolding.specs.Expressions.{Term, is_empty, is_sound, as_constant, as_bound, as_count, as_second, range_of, spoilt, no_expr, Select, one_bit, bit_select, word_bits, word_of, words_from, variable, is_index, bits_between, ascends, part_select, indices_select, kind_select, param_bits, signal_bits, param_index, signal_index, index_term, part_term}
 use Rattle.flat_meaning.specs.Law.{expr_reads}
 use Rattle.flat_names.specs.declared.scope.Meaning.{Meaning}
 use Rattle.flat_names.specs.declared.scope.Meaning.TheVariants as m
@@ -32,12 +35,12 @@ use Rattle.flat_names.specs.Looks.{meaning_of, kept_in, as_value, meant, one_if,
 use Rattle.flat_names.specs.Noting.{Noted, noted, all_noted}
 use Rattle.flat_names.specs.declared.signs.Signs.{Signs}
 use Rattle.flat_names.specs.Signs.{no_signs}
-use Rattle.flat_names.specs.Pieces.{IsRead, Makes, SameReads, out_of_range}
-use Rattle.flat_names.specs.Selects.{is_param, index_at, index_of, part_at, bound_notes, part_in, part_notes, StandsFor, IsSelected}
+use Rattle.flat_names.specs.Pieces.{IsRead, Makes, SameReads, out_of_range, count_notes}
+use Rattle.flat_names.specs.Selects.{is_param, index_at, index_of, part_at, bound_notes, second_notes, part_in, part_notes, StandsFor, IsSelected}
 use Rattle.flat_names.proofs.Options.{none-some, some-same}
 use Rattle.flat_names.proofs.Notes.{noted-both}
 use Rattle.flat_names.proofs.Terms.{empty-both, empty-if}
-use Rattle.flat_names.proofs.Repeats.{bound-sound}
+use Rattle.flat_names.proofs.Repeats.{bound-sound, count-sound}
 use Rattle.flat_names.proofs.Looked.{own-is, width-is, meant-is, level-is, bits-expr, is-there}
 
 -- ---- orders
@@ -136,6 +139,44 @@ select-word (Some q) p s h e = go (offset p.left q) (offset p.right q) refl e
     go (Some high) (Some low) i k = by_lt (λ v. cond v None (Some (record { at = low; bits = high - low + 1 })) ≡ Some s → is_word s.bits ≡ true) high low
         (λ l d. none-some s d)
         (λ l d. let w = offset-within p.left q high i in width_word s.bits (subst IsWidth (ap (λ (x : Select). x.bits) (some-same (record { at = low; bits = high - low + 1 }) s d)) (record { some = omega arith; most = omega arith }))) k
+
+pub kind-word : (r : Option Range) (kind : PartKind) (p : Range) (s : Select) → width_of r ≤ 64 → kind_select r kind p ≡ Some s → is_word s.bits ≡ true
+kind-word r k.Range p s h e = select-word r p s h e
+kind-word r k.Up p s h e = select-word r _ s h e
+kind-word r k.Down p s h e = go (nat_lt p.left (p.right - 1)) e
+  where
+    go : (b : Bool) → cond b None (indices_select r (p.left - (p.right - 1)) p.left) ≡ Some s → is_word s.bits ≡ true
+    go true e = none-some s e
+    go false e = select-word r _ s h e
+
+-- the higher index stands first where the range descends
+pub by-ascent : (o : Option Select) (r : Option Range) (low high : ℕ) (b : Bool) → ascends r ≡ b → o ≡ part_select r (as_range (cond b low high) (cond b high low)) → o ≡ indices_select r low high
+by-ascent o r low high b e h = h ∙ ap (λ t. part_select r (as_range (cond t low high) (cond t high low))) (sym e)
+
+-- indices below 0 are outside
+pub down-outside : (r : Option Range) (b n : ℕ) → b < n - 1 → None ≡ kind_select r k.Down (as_range b n)
+down-outside r b n h = by_lt (λ t. None ≡ cond t None (indices_select r (b - (n - 1)) b)) b (n - 1) (λ l. refl) (λ l. absurd (omega arith))
+
+pub down-inside : (r : Option Range) (b n : ℕ) → n - 1 ≤ b → indices_select r (b - (n - 1)) b ≡ kind_select r k.Down (as_range b n)
+down-inside r b n h = by_lt (λ t. indices_select r (b - (n - 1)) b ≡ cond t None (indices_select r (b - (n - 1)) b)) b (n - 1) (λ l. absurd (omega arith)) (λ l. refl)
+
+-- ---- the second number of a part
+
+pub second-broken : (kind : PartKind) (t : Term) → (as_second kind t).broken ≡ (as_constant t).broken ++ second_notes kind t
+second-broken k.Range t = refl
+second-broken k.Up t = append_assoc (as_constant t).broken (bound_notes t) _
+second-broken k.Down t = append_assoc (as_constant t).broken (bound_notes t) _
+
+-- a count is a bound
+pub count-small : (t : Term) (n : ℕ) → cond (is_sound (as_count t)) (Some (own_value t.expr)) None ≡ Some n → n < 2 ^ 31
+count-small t n h = go (is_sound (as_constant t)) (nat_le (2 ^ 31) (own_value t.expr)) (own_value t.expr == 0) refl
+    (ap (λ b. cond b (Some (own_value t.expr)) None) (sym (count-sound t ∙ ap (λ b. b && not (own_value t.expr == 0)) (bound-sound t))) ∙ h)
+  where
+    go : (s b z : Bool) → nat_le (2 ^ 31) (own_value t.expr) ≡ b → cond ((s && not b) && not z) (Some (own_value t.expr)) None ≡ Some n → n < 2 ^ 31
+    go true true z e k = none-some n k
+    go false b z e k = none-some n k
+    go true false true e k = none-some n k
+    go true false false e k = let d = some-same (own_value t.expr) n k in by_le (λ v. v ≡ false → n < 2 ^ 31) (2 ^ 31) (own_value t.expr) (λ l i. absurd (false≢true (sym i))) (λ l i. omega arith) e
 
 -- ---- what stands for what
 
@@ -447,66 +488,66 @@ words-step l a i c w r y n_ p more rest width e d hc sc hw hr m = subst (λ z. S
 
 -- ---- a part
 
-module _ (l : n.Look) (x : Text) (bs : List Broken) (old : Noted) where
-  pub part-param-hit : (p : n.Param) (o : Option Range) (s : Select) → IsFitParam p → is_empty bs ≡ is_some o → Some s ≡ part_in p.range o
-      → IsSelected bs (part_at l x o (Some (n.a_param p))) old (all_noted old (part_notes x p.range o)) (sound_as (f.Number (p.value / 2 ^ s.at % 2 ^ s.bits) s.bits) true)
+module _ (l : n.Look) (x : Text) (kind : PartKind) (bs : List Broken) (old : Noted) where
+  pub part-param-hit : (p : n.Param) (o : Option Range) (s : Select) → IsFitParam p → is_empty bs ≡ is_some o → Some s ≡ part_in p.range kind o
+      → IsSelected bs (part_at l x kind o (Some (n.a_param p))) old (all_noted old (part_notes x p.range kind o)) (sound_as (f.Number (p.value / 2 ^ s.at % 2 ^ s.bits) s.bits) true)
   part-param-hit p None s h b e = none-some s (sym e)
   part-param-hit p (Some q) s h b e = subst (λ z. IsSelected bs (param_bits l x p z) old (all_noted old (breaks_if (is_none z) 314 x)) (sound_as (f.Number (p.value / 2 ^ s.at % 2 ^ s.bits) s.bits) true)) e
-      (select-sound bs (f.Number (p.value / 2 ^ s.at % 2 ^ s.bits) s.bits) (Number s.bits (p.value / 2 ^ s.at % 2 ^ s.bits)) true old b (number-stands (p.value / 2 ^ s.at) s.bits (select-word p.range q s (param-range p h) (sym e))))
+      (select-sound bs (f.Number (p.value / 2 ^ s.at % 2 ^ s.bits) s.bits) (Number s.bits (p.value / 2 ^ s.at % 2 ^ s.bits)) true old b (number-stands (p.value / 2 ^ s.at) s.bits (kind-word p.range kind q s (param-range p h) (sym e))))
 
-  pub part-param-missed : (p : n.Param) (o : Option Range) (y : FExpr) → is_empty bs ≡ is_some o → None ≡ part_in p.range o → y ≡ f.Number 0 1
-      → IsSelected bs (part_at l x o (Some (n.a_param p))) old (all_noted old (part_notes x p.range o)) (broken_as y true)
+  pub part-param-missed : (p : n.Param) (o : Option Range) (y : FExpr) → is_empty bs ≡ is_some o → None ≡ part_in p.range kind o → y ≡ f.Number 0 1
+      → IsSelected bs (part_at l x kind o (Some (n.a_param p))) old (all_noted old (part_notes x p.range kind o)) (broken_as y true)
   part-param-missed p None y b e z = select-broken bs (spoilt no_expr true []) y true old old (ap (λ v. v && true) b) refl (nothing-reads y z) refl
   part-param-missed p (Some q) y b e z = subst (λ w. IsSelected bs (param_bits l x p w) old (all_noted old (breaks_if (is_none w) 314 x)) (broken_as y true)) e (select-missed bs y true x old z)
 
-  pub part-signal-hit : (sig : ℕ) (o : Option Range) (s : Select) (y : FExpr) → is_empty bs ≡ is_some o → Some s ≡ part_in (range_at l.entries sig) o → StandsFor y (n.bits_of l sig s.at s.bits)
-      → IsSelected bs (part_at l x o (Some (n.a_signal sig))) old (all_noted old (part_notes x (range_at l.entries sig) o)) (sound_as y false)
+  pub part-signal-hit : (sig : ℕ) (o : Option Range) (s : Select) (y : FExpr) → is_empty bs ≡ is_some o → Some s ≡ part_in (range_at l.entries sig) kind o → StandsFor y (n.bits_of l sig s.at s.bits)
+      → IsSelected bs (part_at l x kind o (Some (n.a_signal sig))) old (all_noted old (part_notes x (range_at l.entries sig) kind o)) (sound_as y false)
   part-signal-hit sig None s y b e z = none-some s (sym e)
   part-signal-hit sig (Some q) s y b e z = subst (λ w. IsSelected bs (signal_bits l x sig w) old (all_noted old (breaks_if (is_none w) 314 x)) (sound_as y false)) e
       (select-sound bs y (n.bits_of l sig s.at s.bits) false old b z)
 
-  pub part-signal-missed : (sig : ℕ) (o : Option Range) (y : FExpr) → is_empty bs ≡ is_some o → None ≡ part_in (range_at l.entries sig) o → y ≡ f.Number 0 1
-      → IsSelected bs (part_at l x o (Some (n.a_signal sig))) old (all_noted old (part_notes x (range_at l.entries sig) o)) (broken_as y false)
+  pub part-signal-missed : (sig : ℕ) (o : Option Range) (y : FExpr) → is_empty bs ≡ is_some o → None ≡ part_in (range_at l.entries sig) kind o → y ≡ f.Number 0 1
+      → IsSelected bs (part_at l x kind o (Some (n.a_signal sig))) old (all_noted old (part_notes x (range_at l.entries sig) kind o)) (broken_as y false)
   part-signal-missed sig None y b e z = select-broken bs (spoilt no_expr false []) y false old old (ap (λ v. v && true) b) refl (nothing-reads y z) refl
   part-signal-missed sig (Some q) y b e z = subst (λ w. IsSelected bs (signal_bits l x sig w) old (all_noted old (breaks_if (is_none w) 314 x)) (broken_as y false)) e (select-missed bs y false x old z)
 
-  pub part-memory : (a : n.Memory) (o : Option Range) (y : FExpr) → y ≡ f.Number 0 1 → IsSelected bs (part_at l x o (Some (n.a_memory a))) old (missed old 319 x) (broken_as y false)
+  pub part-memory : (a : n.Memory) (o : Option Range) (y : FExpr) → y ≡ f.Number 0 1 → IsSelected bs (part_at l x kind o (Some (n.a_memory a))) old (missed old 319 x) (broken_as y false)
   part-memory a None y z = select-broken bs (spoilt no_expr false (breaks 319 x)) y false old (missed old 319 x) (and-false (is_empty bs)) refl (nothing-reads y z) refl
   part-memory a (Some q) y z = select-broken bs (spoilt no_expr false (breaks 319 x)) y false old (missed old 319 x) (and-false (is_empty bs)) refl (nothing-reads y z) refl
 
-  pub part-word : (r : Option Range) (o : Option Range) (s : Select) → width_of r ≤ 64 → Some s ≡ part_in r o → is_word s.bits ≡ true
+  pub part-word : (r : Option Range) (o : Option Range) (s : Select) → width_of r ≤ 64 → Some s ≡ part_in r kind o → is_word s.bits ≡ true
   part-word r None s h e = none-some s (sym e)
-  part-word r (Some q) s h e = select-word r q s h (sym e)
+  part-word r (Some q) s h e = kind-word r kind q s h (sym e)
 
-pub part-unknown : (l : n.Look) (x : Text) (bs : List Broken) (o : Option Range) (y : FExpr) (old : Noted) → is_empty bs ≡ false → y ≡ f.Number 0 1 → IsSelected bs (part_at l x o None) old old (broken_as y false)
-part-unknown l x bs None y old b z = select-broken bs (spoilt no_expr false []) y false old old (ap (λ v. v && true) b) refl (nothing-reads y z) refl
-part-unknown l x bs (Some q) y old b z = select-broken bs (spoilt no_expr false []) y false old old (ap (λ v. v && true) b) refl (nothing-reads y z) refl
+pub part-unknown : (l : n.Look) (x : Text) (kind : PartKind) (bs : List Broken) (o : Option Range) (y : FExpr) (old : Noted) → is_empty bs ≡ false → y ≡ f.Number 0 1 → IsSelected bs (part_at l x kind o None) old old (broken_as y false)
+part-unknown l x kind bs None y old b z = select-broken bs (spoilt no_expr false []) y false old old (ap (λ v. v && true) b) refl (nothing-reads y z) refl
+part-unknown l x kind bs (Some q) y old b z = select-broken bs (spoilt no_expr false []) y false old old (ap (λ v. v && true) b) refl (nothing-reads y z) refl
 
 -- what the bounds break
-abbrev pub part_broken : Text → Option n.Meaning → Term → Term → List Broken
-part_broken x o t u = breaks_if (is_none o) 305 x ++ (as_bound t).broken ++ (as_bound u).broken
+abbrev pub part_broken : Text → PartKind → Option n.Meaning → Term → Term → List Broken
+part_broken x kind o t u = breaks_if (is_none o) 305 x ++ (as_bound t).broken ++ (as_second kind u).broken
 
-pub part-bounds : (x : Text) (v : n.Meaning) (t u : Term) → is_empty (part_broken x (Some v) t u) ≡ is_some (range_of (as_bound t) (as_bound u))
-part-bounds x v t u = empty-both (as_bound t).broken (as_bound u).broken ∙ go (is_sound (as_bound t) && is_sound (as_bound u))
+pub part-bounds : (x : Text) (kind : PartKind) (v : n.Meaning) (t u : Term) → is_empty (part_broken x kind (Some v) t u) ≡ is_some (range_of (as_bound t) (as_second kind u))
+part-bounds x kind v t u = empty-both (as_bound t).broken (as_second kind u).broken ∙ go (is_sound (as_bound t) && is_sound (as_second kind u))
   where
-    go : (b : Bool) → b ≡ is_some (cond b (Some (as_range (own_value t.expr) (own_value u.expr))) None)
+    go : (b : Bool) → b ≡ is_some (cond b (Some (as_range (own_value t.expr) (own_value (as_second kind u).expr))) None)
     go true = refl
     go false = refl
 
-pub part-done : (l : n.Look) (x : Text) (t u : Term) (o : Option n.Meaning) (p : Option Range) (old mid new : Noted) (q : Resolved) → n.meaning l x ≡ o → p ≡ range_of (as_bound t) (as_bound u) → mid ≡ all_noted old (bound_notes t ++ bound_notes u)
-    → IsSelected (part_broken x o t u) (part_at l x p o) mid new q
-    → IsRead (part_term l x t u) q × (q.count ≡ None) × (new ≡ all_noted old (bound_notes t ++ bound_notes u ++ (part_at l x (range_of (as_bound t) (as_bound u)) (n.meaning l x)).broken)) × (q.signs ≡ no_signs)
-part-done l x t u o p old mid new q e d i s =
-    let g = range_of (as_bound t) (as_bound u) in
-    let k = subst (λ z. IsSelected (part_broken x z t u) (part_at l x p z) mid new q) (sym e) s in
-    let j = subst (λ z. IsSelected (part_broken x (n.meaning l x) t u) (part_at l x z (n.meaning l x)) mid new q) d k in (
-      subst (λ z. IsRead (spoilt z.expr z.is_constant (part_broken x (n.meaning l x) t u ++ z.broken)) q) (sym (same g (n.meaning l x))) j.0,
+pub part-done : (l : n.Look) (x : Text) (kind : PartKind) (t u : Term) (o : Option n.Meaning) (p : Option Range) (old mid new : Noted) (q : Resolved) → n.meaning l x ≡ o → p ≡ range_of (as_bound t) (as_second kind u) → mid ≡ all_noted old (bound_notes t ++ second_notes kind u)
+    → IsSelected (part_broken x kind o t u) (part_at l x kind p o) mid new q
+    → IsRead (part_term l x kind t u) q × (q.count ≡ None) × (new ≡ all_noted old (bound_notes t ++ second_notes kind u ++ (part_at l x kind (range_of (as_bound t) (as_second kind u)) (n.meaning l x)).broken)) × (q.signs ≡ no_signs)
+part-done l x kind t u o p old mid new q e d i s =
+    let g = range_of (as_bound t) (as_second kind u) in
+    let k = subst (λ z. IsSelected (part_broken x kind z t u) (part_at l x kind p z) mid new q) (sym e) s in
+    let j = subst (λ z. IsSelected (part_broken x kind (n.meaning l x) t u) (part_at l x kind z (n.meaning l x)) mid new q) d k in (
+      subst (λ z. IsRead (spoilt z.expr z.is_constant (part_broken x kind (n.meaning l x) t u ++ z.broken)) q) (sym (same g (n.meaning l x))) j.0,
       j.1,
-      j.2 ∙ ap (λ z. all_noted z (part_at l x g (n.meaning l x)).broken) i ∙ sym (noted-both old (bound_notes t ++ bound_notes u) (part_at l x g (n.meaning l x)).broken),
+      j.2 ∙ ap (λ z. all_noted z (part_at l x kind g (n.meaning l x)).broken) i ∙ sym (noted-both old (bound_notes t ++ second_notes kind u) (part_at l x kind g (n.meaning l x)).broken),
       j.3,
     )
   where
-    same : (g : Option Range) (z : Option n.Meaning) → definition.meant_part l x g z ≡ part_at l x g z
+    same : (g : Option Range) (z : Option n.Meaning) → definition.meant_part l x kind g z ≡ part_at l x kind g z
     same None None = refl
     same None (Some (n.a_param p)) = refl
     same None (Some (n.a_signal s)) = refl
@@ -518,11 +559,11 @@ part-done l x t u o p old mid new q e d i s =
     same (Some r) (Some (n.a_memory a)) = refl
     same (Some r) (Some n.no_value) = refl
 
-pub part-all : {E : Type 0} (l : n.Look) (x : Text) (t u : Term) (o : Option n.Meaning) (p : Option Range) (old mid new : Noted) (q : Result Resolved E) → n.meaning l x ≡ o → p ≡ range_of (as_bound t) (as_bound u) → mid ≡ all_noted old (bound_notes t ++ bound_notes u)
-    → IfOk q (λ z. IsSelected (part_broken x o t u) (part_at l x p o) mid new z)
-    → IfOk q (λ z. IsRead (part_term l x t u) z × (z.count ≡ None) × (new ≡ all_noted old (bound_notes t ++ bound_notes u ++ (part_at l x (range_of (as_bound t) (as_bound u)) (n.meaning l x)).broken)) × (z.signs ≡ no_signs))
-part-all l x t u o p old mid new (Ok q) e d i s = part-done l x t u o p old mid new q e d i s
-part-all l x t u o p old mid new (Err q) e d i s = s
+pub part-all : {E : Type 0} (l : n.Look) (x : Text) (kind : PartKind) (t u : Term) (o : Option n.Meaning) (p : Option Range) (old mid new : Noted) (q : Result Resolved E) → n.meaning l x ≡ o → p ≡ range_of (as_bound t) (as_second kind u) → mid ≡ all_noted old (bound_notes t ++ second_notes kind u)
+    → IfOk q (λ z. IsSelected (part_broken x kind o t u) (part_at l x kind p o) mid new z)
+    → IfOk q (λ z. IsRead (part_term l x kind t u) z × (z.count ≡ None) × (new ≡ all_noted old (bound_notes t ++ second_notes kind u ++ (part_at l x kind (range_of (as_bound t) (as_second kind u)) (n.meaning l x)).broken)) × (z.signs ≡ no_signs))
+part-all l x kind t u o p old mid new (Ok q) e d i s = part-done l x kind t u o p old mid new q e d i s
+part-all l x kind t u o p old mid new (Err q) e d i s = s
 
 pub some-map : {A B : Type 0} (g : A → B) (o : Option A) → is_some o ≡ is_some (option_map g o)
 some-map g None = refl

@@ -1,25 +1,28 @@
 -- What the operators make of what was read.
 use Rattle.std.proofs.Common.{◌≡◌, ◌≢◌, ℕ, ◌^◌, ◌<◌, max, Bool, true, false, not, ◌&&◌, ◌||◌, ◌==◌, List, [], ◌∷◌, ◌++◌, Option, Some, None, refl, sym, ap, ap₂, subst, ◌∙◌, eqb-true, lt-ltb}
 use Rattle.std.specs.Prelude.{option_map, unwrap_or}
+use Rattle.std.specs.Option.{option_map_or}
 use Rattle.std.proofs.lemmas.Bool.{and_parts, false≢true}
 use Rattle.verilog_ast.specs.declared.UnaryOp.{UnaryOp}
 use Rattle.verilog_ast.specs.declared.BinaryOp.{BinaryOp}
-use Rattle.flat_meaning.specs.Flat.{Number, Unary, Binary, Choose, unary_size, binary_size}
+use Rattle.flat_form.specs.declared.flat.FUnaryOp.{FUnaryOp}
+use Rattle.flat_meaning.specs.Flat.{Expr, Number, Binary, Choose, unary_size, binary_size}
 use Rattle.flat_meaning.specs.Flat as flat
 use Rattle.flat_form.specs.declared.flat.FExpr.{FExpr}
 use Rattle.flat_form.specs.declared.flat.FExpr.TheVariants as f
 use Rattle.flat_form.specs.View.{expr_of, unary_of, binary_of}
+use Rattle.flat_unfolding.specs.Constants.{plain_unary, own_unary}
 use Rattle.flat_form.specs.Sizes.{Kept, kept_of, is_sized}
 use Rattle.flat_form.proofs.Folds.{expr_of-Number, kept_of-Number}
 use Rattle.flat_unfolding.specs.Outcome.{Text, Broken, breaks_if}
 use Rattle.flat_unfolding.specs.Names.{Look}
-use Rattle.flat_unfolding.specs.Expressions.{Term, also, is_empty, is_sound, unary_term, binary_term, choice_term, is_whole_only}
+use Rattle.flat_unfolding.specs.Expressions.{Term, also, is_empty, is_sound, unary_expr, unary_term, binary_term, choice_term, is_whole_only}
 use Rattle.flat_meaning.specs.Law.{expr_reads}
 use Rattle.flat_names.specs.declared.resolved.Count.{Count}
 use Rattle.flat_names.specs.declared.resolved.Resolved.{Resolved}
 use Rattle.flat_names.specs.declared.signs.Signs.{Signs}
 use Rattle.flat_names.specs.Signs.{number_signs, judged_signs}
-use Rattle.flat_names.specs.Pieces.{IsRead, Makes, Piece, IsPiece, is_counted_size, numbered, flagged, judged_piece}
+use Rattle.flat_names.specs.Pieces.{IsRead, Makes, IsOver, Piece, IsPiece, is_counted_size, numbered, flagged, judged_piece}
 use Rattle.flat_names.proofs.Options.{none-some, some-same}
 
 pub empty-both : (bs cs : List Broken) → is_empty (bs ++ cs) ≡ (is_empty bs && is_empty cs)
@@ -32,15 +35,19 @@ empty-if false n x = refl
 
 -- ---- forms
 
-pub is-unary : (op : UnaryOp) (t : Term) (r : Resolved) (e : FExpr) (n : ℕ) (c : Option Count) (g : Signs) → IsRead t r
-    → Makes e (Unary (unary_of op) (expr_of r.expr)) (record { width = n; right = is_sized r.expr })
+-- a unary expression reads what its operand reads
+over-reads : (o : Option FUnaryOp) (x : Expr) (wid : ℕ → ℕ) (s i : ℕ) → expr_reads wid (unary_expr o x) s i ≡ expr_reads wid x s i
+over-reads None x wid s i = refl
+over-reads (Some op) x wid s i = refl
+
+pub is-unary : (op : UnaryOp) (t : Term) (r : Resolved) (e : FExpr) (c : Option Count) (g : Signs) → IsRead t r → IsOver op r.expr e
     → IsRead (unary_term op t) (record { expr = e; is_sound = r.is_sound; is_constant = r.is_constant; count = c; signs = g })
-is-unary op t r e n c g h m = record {
+is-unary op t r e c g h m = record {
   sound = h.sound;
   constant = h.constant;
-  expr = λ s. m.expr ∙ ap (Unary (unary_of op)) (h.expr s);
+  expr = λ s. m.expr (h.sized s) ∙ ap (unary_expr (plain_unary op)) (h.expr s);
   sized = λ s. ap (λ (k : Kept). k.right) m.kept ∙ h.sized s;
-  reads = λ wid s i. ap (λ x. expr_reads wid x s i) m.expr ∙ h.reads wid s i;
+  reads = λ wid s i. m.reads wid s i ∙ h.reads wid s i ∙ sym (over-reads (plain_unary op) t.expr wid s i);
 }
 
 and-nor : (a x w : Bool) → (a && not (x || w)) ≡ ((a && not x) && not w)
@@ -100,6 +107,13 @@ counted-unary flat.reduce_xor k h = refl
 counted-unary flat.reduce_nand k h = refl
 counted-unary flat.reduce_nor k h = refl
 counted-unary flat.reduce_xnor k h = refl
+
+pub counted-own : (op : UnaryOp) (k : ℕ) → is_counted_size k ≡ true → is_counted_size (own_unary op k) ≡ true
+counted-own op k h = go (plain_unary op)
+  where
+    go : (o : Option FUnaryOp) → is_counted_size (option_map_or (λ f. unary_size (unary_of f) k) o k) ≡ true
+    go None = h
+    go (Some f) = counted-unary (unary_of f) k h
 
 -- it is 1 or 32
 pub counted-is : (k : ℕ) (P : ℕ → Type 0) → is_counted_size k ≡ true → P 1 → P 32 → P k

@@ -2,6 +2,7 @@
 use Rattle.std.proofs.Common.{◌≡◌, ℕ, List, map, Box, Global, sym, ap, ap₂, ◌∙◌}
 use Rattle.cdc_base.specs.declared.size.NumberSize.{NumberSize}
 use Rattle.verilog_ast.specs.declared.UnaryOp.{UnaryOp}
+use Rattle.verilog_ast.specs.declared.PartKind.{PartKind}
 use Rattle.verilog_ast.specs.declared.BinaryOp.{BinaryOp}
 use Rattle.verilog_ast.specs.declared.Expr.{Expr}
 use Rattle.verilog_ast.specs.declared.Expr.TheOpen.{Expr-F}
@@ -15,9 +16,9 @@ tree-number x v w size p = ap tree_of p ∙ ap tree_of (sym (e.rolls-Number v w 
 pub tree-index : (x : Expr) (n : List ℕ) (i : Box Expr Global) (a : Expr) → x ≡ e.At n i → a ≡ i.value → tree_of x ≡ index n (tree_of a)
 tree-index x n i a p q = ap tree_of p ∙ ap tree_of (sym (e.rolls-At n i)) ∙ fold-roll-Expr ExprTree expr_tree_step (Expr-F.At n i) ∙ ap (λ z. index n (tree_of z)) (sym q)
 
-pub tree-part : (x : Expr) (n : List ℕ) (i j : Box Expr Global) (a b : Expr) → x ≡ e.Part n i j → a ≡ i.value → b ≡ j.value → tree_of x ≡ part n (tree_of a) (tree_of b)
-tree-part x n i j a b p q r = ap tree_of p ∙ ap tree_of (sym (e.rolls-Part n i j)) ∙ fold-roll-Expr ExprTree expr_tree_step (Expr-F.Part n i j)
-    ∙ ap₂ (λ y z. part n (tree_of y) (tree_of z)) (sym q) (sym r)
+pub tree-part : (x : Expr) (n : List ℕ) (kind : PartKind) (i j : Box Expr Global) (a b : Expr) → x ≡ e.Part n kind i j → a ≡ i.value → b ≡ j.value → tree_of x ≡ part n kind (tree_of a) (tree_of b)
+tree-part x n kind i j a b p q r = ap tree_of p ∙ ap tree_of (sym (e.rolls-Part n kind i j)) ∙ fold-roll-Expr ExprTree expr_tree_step (Expr-F.Part n kind i j)
+    ∙ ap₂ (λ y z. part n kind (tree_of y) (tree_of z)) (sym q) (sym r)
 
 pub tree-unary : (x : Expr) (op : UnaryOp) (i : Box Expr Global) (a : Expr) → x ≡ e.Unary op i → a ≡ i.value → tree_of x ≡ unary op (tree_of a)
 tree-unary x op i a p q = ap tree_of p ∙ ap tree_of (sym (e.rolls-Unary op i)) ∙ fold-roll-Expr ExprTree expr_tree_step (Expr-F.Unary op i) ∙ ap (λ z. unary op (tree_of z)) (sym q)

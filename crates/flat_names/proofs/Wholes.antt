@@ -2,7 +2,9 @@
 use Rattle.std.proofs.Common.{◌≡◌, ℕ, ◌+◌, ◌-◌, ◌^◌, ◌<◌, ◌≤◌, Bool, true, false, cond, not, ◌==◌, nat_lt, nat_le, Option, Some, None, refl, sym, ap, ◌∙◌, arith, leb-true, le-leb, ltb-true}
 use Rattle.std.specs.Prelude.{option_and_then}
 use Rattle.verilog_ast.specs.declared.UnaryOp.{UnaryOp}
-use Rattle.verilog_ast.specs.declared.UnaryOp.TheVariants as u
+use Rattle.flat_form.specs.declared.flat.FUnaryOp.{FUnaryOp}
+use Rattle.flat_form.specs.declared.flat.FUnaryOp.TheVariants as u
+use Rattle.std.specs.Option.{option_map_or}
 use Rattle.verilog_ast.specs.declared.BinaryOp.{BinaryOp}
 use Rattle.verilog_ast.specs.declared.BinaryOp.TheVariants as b
 use Rattle.cell_graph.specs.Tree.{number, bit_at}
@@ -15,7 +17,7 @@ use Rattle.flat_form.specs.View.{unary_of, binary_of}
 use Rattle.flat_form.specs.Whole as form
 use Rattle.flat_form.specs.Whole.{judged, one_if}
 use Rattle.flat_names.proofs.Options.{none-some, some-same}
-use Rattle.flat_unfolding.specs.Constants.{within, whole_unary, whole_binary}
+use Rattle.flat_unfolding.specs.Constants.{plain_unary, own_unary, within, whole_plain, whole_unary, whole_binary}
 use Rattle.flat_unfolding.specs.Expressions.{is_whole_only}
 
 le-lt : (n m : ℕ) → nat_le n m ≡ nat_lt n (m + 1)
@@ -73,7 +75,7 @@ one-bit f = sym (has-number (bit-has (f 0) f refl))
 flag-unary : (b : Bool) (n : ℕ) → n ≡ cond b 1 0 → Some (one_if b) ≡ within 1 n
 flag-unary b n h = sym (flag-within b) ∙ ap (λ k. within 1 k) (sym h)
 
-unary-some : (op : UnaryOp) (w n : ℕ) → form.unary_number op w n ≡ within (unary_size (unary_of op) w) (whole_unary op w n)
+unary-some : (op : FUnaryOp) (w n : ℕ) → form.unary_number op w n ≡ within (unary_size (unary_of op) w) (whole_plain op w n)
 unary-some u.Not w n = judged-within w (2 ^ 32 - 1 - n)
 unary-some u.LogicNot w n = flag-unary _ _ (one-bit (unary (unary_of u.LogicNot) w (bit_at n)))
 unary-some u.And w n = flag-unary _ _ (one-bit (unary (unary_of u.And) w (bit_at n)))
@@ -83,9 +85,17 @@ unary-some u.Nand w n = flag-unary _ _ (one-bit (unary (unary_of u.Nand) w (bit_
 unary-some u.Nor w n = flag-unary _ _ (one-bit (unary (unary_of u.Nor) w (bit_at n)))
 unary-some u.Xnor w n = flag-unary _ _ (one-bit (unary (unary_of u.Xnor) w (bit_at n)))
 
-pub unary-whole : (op : UnaryOp) (w : ℕ) (a : Option ℕ) → form.unary_whole op w a ≡ option_and_then (λ m. within (unary_size (unary_of op) w) (whole_unary op w m)) a
-unary-whole op w None = refl
-unary-whole op w (Some n) = unary-some op w n
+-- the value of a unary expression by its flat operator, and by none
+abbrev whole_by : Option FUnaryOp → (w : ℕ) → Option ℕ → Option ℕ
+whole_by o w a = option_and_then (λ m. option_and_then (within (option_map_or (λ f. unary_size (unary_of f) w) o w)) (option_map_or (λ f. Some (whole_plain f w m)) o (whole_binary b.Sub 0 m))) a
+
+plain-by : (op : FUnaryOp) (w : ℕ) (a : Option ℕ) → form.unary_whole op w a ≡ whole_by (Some op) w a
+plain-by op w None = refl
+plain-by op w (Some n) = unary-some op w n
+
+pub plain-whole : (op : UnaryOp) (f : FUnaryOp) (w : ℕ) (a : Option ℕ) → plain_unary op ≡ Some f
+    → form.unary_whole f w a ≡ option_and_then (λ m. option_and_then (within (own_unary op w)) (whole_unary op w m)) a
+plain-whole op f w a e = plain-by f w a ∙ ap (λ o. whole_by o w a) (sym e)
 
 not-lt : (m n : ℕ) → not (nat_lt n m) ≡ nat_le m n
 not-lt m n = by_lt (λ t. not t ≡ nat_le m n) n m (λ l. go (nat_le m n) refl l) (λ l. sym (le-leb m n l))
@@ -126,6 +136,10 @@ pub binary-whole : (op : BinaryOp) (w : ℕ) (a b : Option ℕ) → form.binary_
 binary-whole op w None b = refl
 binary-whole op w (Some m) None = refl
 binary-whole op w (Some m) (Some n) = ap (option_and_then (judged w)) (binary-some op m n) ∙ judged-then w (whole_binary op m n)
+
+pub minus-whole : (op : UnaryOp) (w : ℕ) (a : Option ℕ) → plain_unary op ≡ None
+    → form.binary_whole b.Sub w (Some 0) a ≡ option_and_then (λ m. option_and_then (within (own_unary op w)) (whole_unary op w m)) a
+minus-whole op w a e = binary-whole b.Sub w (Some 0) a ∙ ap (λ o. whole_by o w a) (sym e)
 
 pub choice-whole : (w : ℕ) (c x y : Option ℕ) → form.choice_whole w c x y ≡ option_and_then (λ k. option_and_then (within w) (cond (k == 0) y x)) c
 choice-whole w None x y = refl

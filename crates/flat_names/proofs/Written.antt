@@ -7,10 +7,11 @@ use Rattle.verilog_ast.specs.declared.UnaryOp.{UnaryOp}
 use Rattle.verilog_ast.specs.declared.BinaryOp.{BinaryOp}
 use Rattle.verilog_ast.specs.declared.Expr.{Expr}
 use Rattle.verilog_reading.specs.ExprTree.{ExprTree, index, part, unary, binary, choice, join, repeat, ExprTrees, no_trees, and_trees, tree_of, trees_of}
+use Rattle.verilog_ast.specs.declared.PartKind.{PartKind}
 use Rattle.flat_unfolding.specs.Outcome.{Text, Broken, breaks_if}
 use Rattle.flat_unfolding.specs.Names.{Look, meaning, unknown}
 use Rattle.flat_unfolding.specs.Constants.{own_value}
-use Rattle.flat_unfolding.specs.Expressions.{Term, is_sound, all_broken, as_constant, as_bound, as_count, range_of, index_term, part_term, join_term, repeat_term, read, read_parts}
+use Rattle.flat_unfolding.specs.Expressions.{Term, is_sound, all_broken, as_constant, as_bound, as_count, as_second, range_of, index_term, part_term, join_term, repeat_term, read, read_parts}
 use Rattle.flat_unfolding.specs.Formed.{IsFormed, AreFormed, AreSome}
 use Rattle.flat_names.specs.declared.resolved.Count.{Count}
 use Rattle.flat_names.specs.declared.resolved.Resolved.{Resolved}
@@ -19,7 +20,8 @@ use Rattle.flat_names.specs.Noting.{Noted, all_noted}
 use Rattle.flat_names.specs.Looks.{IsFit}
 use Rattle.flat_names.specs.Signs.{no_signs}
 use Rattle.flat_names.specs.Pieces.{Piece, piece, IsPiece, IsRead, AreRead, as_part, pending, at_once, unary_piece, binary_piece, choice_piece, binary_notes, choice_notes, join_notes, count_notes, repeat_notes}
-use Rattle.flat_names.specs.Selects.{index_of, part_at, bound_notes}
+use Rattle.flat_names.specs.Selects.{index_of, part_at, bound_notes, second_notes}
+use Rattle.flat_names.proofs.Selected.{second-broken}
 use Rattle.flat_names.proofs.Notes.{noted-both, noted-late, then-noted}
 use Rattle.flat_names.proofs.Options.{ok-map}
 use Rattle.flat_names.proofs.Fit.{fit, fits, all-range, alls-both, one-constant, one-all}
@@ -63,13 +65,17 @@ index-reads l x i f0 f1 f2 f3 f4 r e1 e2 e3 h = (
       (then-noted f0 f1 f3 (unknown l x) (read l i).broken e1 (settled-after f1 f2 f3 (piece l i) e2 e3)) h.2,
 )
 
-pub part-reads : (l : Look) (x : Text) (a b : ExprTree) (f0 f1 f2 f3 f4 f5 f6 : Noted) (r : Resolved) → IsFit l → IsFormed b → f1 ≡ all_noted f0 (unknown l x)
+pub part-reads : (l : Look) (x : Text) (kind : PartKind) (a b : ExprTree) (f0 f1 f2 f3 f4 f5 f6 : Noted) (r : Resolved) → IsFit l → IsFormed b → f1 ≡ all_noted f0 (unknown l x)
     → f2 ≡ all_noted f1 (at_once (piece l a)) → f3 ≡ all_noted f2 (pending (piece l a) ++ breaks_if (not (read l a).is_constant) 307 [])
     → f4 ≡ all_noted f3 (at_once (piece l b)) → f5 ≡ all_noted f4 (pending (piece l b) ++ breaks_if (not (read l b).is_constant) 307 [])
-    → IsRead (part_term l x (read l a) (read l b)) r × (r.count ≡ None)
-    × (f6 ≡ all_noted f5 (bound_notes (read l a) ++ bound_notes (read l b) ++ (part_at l x (range_of (as_bound (read l a)) (as_bound (read l b))) (meaning l x)).broken)) × (r.signs ≡ no_signs)
-    → Reads l (part x a b) f0 f6 r
-part-reads l x a b f0 f1 f2 f3 f4 f5 f6 r is formed e1 e2 e3 e4 e5 h = (open-read (piece l (part x a b)) r refl h.0 h.1 h.3, then-noted f0 upper f6 ((unknown l x ++ (as_bound (read l a)).broken) ++ (as_bound (read l b)).broken) rest both last)
+    → IsRead (part_term l x kind (read l a) (read l b)) r × (r.count ≡ None)
+    × (f6 ≡ all_noted f5 (bound_notes (read l a) ++ second_notes kind (read l b) ++ (part_at l x kind (range_of (as_bound (read l a)) (as_second kind (read l b))) (meaning l x)).broken)) × (r.signs ≡ no_signs)
+    → Reads l (part x kind a b) f0 f6 r
+part-reads l x kind a b f0 f1 f2 f3 f4 f5 f6 r is formed e1 e2 e3 e4 e5 h = (
+  open-read (piece l (part x kind a b)) r refl h.0 h.1 h.3,
+  then-noted f0 upper f6 ((unknown l x ++ (as_bound (read l a)).broken) ++ (as_second kind (read l b)).broken) rest
+      (both ∙ ap (λ bs. all_noted f0 ((unknown l x ++ (left ++ low)) ++ bs)) (sym (second-broken kind (read l b)))) last,
+)
   where
     left : List Broken
     left = (as_constant (read l a)).broken
@@ -81,10 +87,10 @@ part-reads l x a b f0 f1 f2 f3 f4 f5 f6 r is formed e1 e2 e3 e4 e5 h = (open-rea
     low = bound_notes (read l a)
 
     high : List Broken
-    high = bound_notes (read l b)
+    high = second_notes kind (read l b)
 
     rest : List Broken
-    rest = (part_at l x (range_of (as_bound (read l a)) (as_bound (read l b))) (meaning l x)).broken
+    rest = (part_at l x kind (range_of (as_bound (read l a)) (as_second kind (read l b))) (meaning l x)).broken
 
     lower : Noted
     lower = all_noted f3 low

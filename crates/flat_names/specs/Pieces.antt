@@ -3,15 +3,15 @@ use Rattle.std.specs.Prelude.{◌≡◌, ℕ, ◌*◌, Bool, true, cond, ◌&&�
 use Rattle.verilog_ast.specs.declared.UnaryOp.{UnaryOp}
 use Rattle.verilog_ast.specs.declared.BinaryOp.{BinaryOp}
 use Rattle.verilog_reading.specs.ExprTree.{ExprTree}
-use Rattle.flat_meaning.specs.Flat.{Expr, sizes, unary_size, binary_size}
-use Rattle.flat_form.specs.View.{expr_of, exprs_of, unary_of, binary_of}
+use Rattle.flat_meaning.specs.Flat.{Expr, sizes, binary_size}
+use Rattle.flat_form.specs.View.{expr_of, exprs_of, binary_of}
 use Rattle.flat_form.specs.Sizes.{Kept, kept_of, is_sized, sum, all_right}
 use Rattle.flat_form.specs.declared.flat.FExpr.{FExpr}
 use Rattle.flat_form.specs.declared.flat.FExpr.TheVariants as f
 use Rattle.flat_unfolding.specs.Outcome.{Broken, breaks_if}
 use Rattle.flat_unfolding.specs.Names.{Look}
-use Rattle.flat_unfolding.specs.Constants.{own_value, both, counted_size, whole, within, whole_unary, whole_binary}
-use Rattle.flat_unfolding.specs.Expressions.{Term, also, is_sound, as_constant, as_bound, as_count, all_sound, all_constant, joined, unary_term, binary_term, choice_term, is_whole_only, judged_whole, read}
+use Rattle.flat_unfolding.specs.Constants.{own_value, both, plain_unary, own_unary, counted_size, whole, within, whole_unary, whole_binary}
+use Rattle.flat_unfolding.specs.Expressions.{Term, also, is_sound, as_constant, as_bound, as_count, all_sound, all_constant, joined, unary_expr, unary_term, binary_term, choice_term, is_whole_only, judged_whole, read}
 use Rattle.flat_meaning.specs.Law.{expr_reads}
 use Rattle.flat_form.specs.Uses.{exprs_read}
 use Rattle.flat_names.specs.declared.resolved.Parts.{Parts}
@@ -87,6 +87,12 @@ pub record Makes (e : FExpr) (x : Expr) (k : Kept) : Type 0 where
   pub expr : expr_of e ≡ x
   pub kept : kept_of e ≡ k
 
+-- a unary expression over another one. Its form is the definition's where the operand breaks no rule
+pub record IsOver (op : UnaryOp) (a e : FExpr) : Type 0 where
+  pub expr : is_sized a ≡ true → expr_of e ≡ unary_expr (plain_unary op) (expr_of a)
+  pub kept : kept_of e ≡ record { width = own_unary op (kept_of a).width; right = is_sized a }
+  pub reads : SameReads (expr_of e) (expr_of a)
+
 -- parts of a concatenation, side by side with what was read; a width that passes a word is held at its top
 pub record AreRead (ts : List Term) (p : Parts) : Type 0 where
   pub sound : p.is_sound ≡ all_sound ts
@@ -107,8 +113,8 @@ module _ (look : Look) where
   judged_piece size value t g = record { term = judged_whole look size value t; size = size; whole = value; signs = judged_signs size g }
 
   abbrev pub unary_piece : UnaryOp → Piece → Piece
-  unary_piece op a = let size = option_map (unary_size (unary_of op)) a.size in
-      judged_piece size (option_and_then (λ m. within (unwrap_or size 0) (whole_unary op (unwrap_or a.size 0) m)) a.whole) (unary_term op a.term) (unary_signs op a.signs)
+  unary_piece op a = let size = option_map (own_unary op) a.size in
+      judged_piece size (option_and_then (λ m. option_and_then (within (unwrap_or size 0)) (whole_unary op (unwrap_or a.size 0) m)) a.whole) (unary_term op a.term) (unary_signs op a.signs)
 
   abbrev pub binary_piece : BinaryOp → Piece → Piece → Piece
   binary_piece op a b = let size = both (binary_size (binary_of op)) a.size b.size in

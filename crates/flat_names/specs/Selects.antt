@@ -1,5 +1,7 @@
 -- Selects of what a name stands for.
 use Rattle.std.specs.Prelude.{◌≡◌, ℕ, ◌^◌, Bool, true, false, cond, ◌&&◌, nat_le, List, [], ◌++◌, Option, Some, None, is_none, option_map, option_and_then}
+use Rattle.verilog_ast.specs.declared.PartKind.{PartKind}
+use Rattle.verilog_ast.specs.declared.PartKind.TheVariants as k
 use Rattle.flat_unfolding.specs.Outcome.{Text, Broken, breaks, breaks_if}
 use Rattle.flat_unfolding.specs.Names.{Range, Param, Meaning, a_param, a_signal, a_memory, Look, range_at, whole_of, unknown}
 use Rattle.flat_meaning.specs.Flat.{Expr, Number}
@@ -9,10 +11,10 @@ use Rattle.flat_form.specs.declared.flat.FExpr.{FExpr}
 use Rattle.flat_unfolding.specs.Constants.{own_value, within, if_counted}
 use Rattle.flat_names.specs.declared.resolved.Resolved.{Resolved}
 use Rattle.flat_names.specs.Noting.{Noted, all_noted}
-use Rattle.flat_names.specs.Pieces.{Piece, IsRead}
+use Rattle.flat_names.specs.Pieces.{Piece, IsRead, count_notes}
 use Rattle.flat_names.specs.Signs.{no_signs, is_whole_size}
 use Rattle.flat_unfolding.specs.Signs.{meant_signed}
-use Rattle.flat_unfolding.specs.Expressions.{Term, is_sound, constant, variable, spoilt, no_expr, as_constant, Select, part_select, param_bits, signal_bits, param_index, signal_index, memory_index}
+use Rattle.flat_unfolding.specs.Expressions.{Term, is_sound, constant, variable, spoilt, no_expr, as_constant, Select, kind_select, param_bits, signal_bits, param_index, signal_index, memory_index}
 
 -- ---- a name alone, by what it stands for
 
@@ -52,28 +54,33 @@ behind bs t = spoilt t.expr t.is_constant (bs ++ t.broken)
 
 -- ---- a part
 
-abbrev pub part_at : Look → Text → Option Range → Option Meaning → Term
-part_at l x (Some p) (Some (a_param a)) = param_bits l x a (part_select a.range p)
-part_at l x (Some p) (Some (a_signal s)) = signal_bits l x s (part_select (range_at l.entries s) p)
-part_at l x None (Some (a_param a)) = spoilt no_expr true []
-part_at l x o (Some (a_memory m)) = spoilt no_expr false (breaks 319 x)
-part_at l x o m = spoilt no_expr false []
+abbrev pub part_at : Look → Text → PartKind → Option Range → Option Meaning → Term
+part_at l x kind (Some p) (Some (a_param a)) = param_bits l x a (kind_select a.range kind p)
+part_at l x kind (Some p) (Some (a_signal s)) = signal_bits l x s (kind_select (range_at l.entries s) kind p)
+part_at l x kind None (Some (a_param a)) = spoilt no_expr true []
+part_at l x kind o (Some (a_memory m)) = spoilt no_expr false (breaks 319 x)
+part_at l x kind o m = spoilt no_expr false []
 
 -- what a bound breaks besides being no constant
 abbrev pub bound_notes : Term → List Broken
 bound_notes t = breaks_if (is_sound (as_constant t) && nat_le (2 ^ 31) (own_value t.expr)) 307 []
+
+-- what stands second in a part, a bound or a count, breaks besides being no constant
+abbrev pub second_notes : PartKind → Term → List Broken
+second_notes k.Range t = bound_notes t
+second_notes kind t = count_notes t
 
 -- a constant select, as it is kept
 abbrev pub select_of : ℕ × ℕ → Select
 select_of p = record { at = p.0; bits = p.1 }
 
 -- a part of a range, where its bounds break no rule, and what it breaks
-abbrev pub part_in : Option Range → Option Range → Option Select
-part_in r o = option_and_then (part_select r) o
+abbrev pub part_in : Option Range → PartKind → Option Range → Option Select
+part_in r kind o = option_and_then (kind_select r kind) o
 
-abbrev pub part_notes : Text → Option Range → Option Range → List Broken
-part_notes x r None = []
-part_notes x r (Some p) = breaks_if (is_none (part_select r p)) 314 x
+abbrev pub part_notes : Text → Option Range → PartKind → Option Range → List Broken
+part_notes x r kind None = []
+part_notes x r kind (Some p) = breaks_if (is_none (kind_select r kind p)) 314 x
 
 -- ---- what a select reads as
 

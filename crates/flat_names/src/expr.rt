@@ -39,11 +39,16 @@ pub fn part_of(look: &Look, expr: &Expr, faults: &mut Faults) -> Result<Resolved
             let index = settled(part_of(look, index, faults)?, faults)?;
             index_read(look, name, index, faults)
         }
-        Expr::Part { name, left, right } => {
+        Expr::Part {
+            name,
+            kind,
+            left,
+            right,
+        } => {
             note_unknown(look, name, faults)?;
             let left = settled_constant(part_of(look, left, faults)?, faults)?;
             let right = settled_constant(part_of(look, right, faults)?, faults)?;
-            part_read(look, name, &left, &right, faults)
+            part_read(look, name, *kind, &left, &right, faults)
         }
         Expr::Unary { op, a } => {
             let a = part_of(look, a, faults)?;

@@ -1,24 +1,24 @@
 //! Expressions whose names are resolved, and how operators put them together.
-ghost use Rattle.std.specs.Prelude.{◌≡◌, ℕ, ◌<◌, [], ◌∷◌, ◌&&◌, ◌++◌, ◌≢◌, true, false, None, Option, Some, is_some, unwrap_or, max, not, cond, nat_lt, List, IfOk};
-ghost use Rattle.flat_meaning.specs.Flat.{Unary, Binary, Choose, unary_size as unary_size_of, binary_size as binary_size_of};
+ghost use Rattle.std.specs.Prelude.{◌≡◌, ℕ, ◌<◌, ◌≤◌, ◌^◌, [], ◌∷◌, ◌&&◌, ◌++◌, ◌≢◌, true, false, None, Option, Some, is_some, unwrap_or, option_and_then, max, not, cond, nat_lt, List, IfOk};
+ghost use Rattle.flat_meaning.specs.Flat.{Number, Unary, Binary, minus, Choose, unary_size as unary_size_of, binary_size as binary_size_of};
 ghost use Rattle.flat_form.specs.View.{expr_of, unary_of, binary_of};
 ghost use Rattle.flat_form.specs.Sizes.{kept_of, is_sized};
-ghost use Rattle.flat_form.specs.Whole.{unary_whole as unary_value, binary_whole as binary_value, choice_whole as choice_value};
+ghost use Rattle.flat_form.specs.Whole.{binary_whole as binary_value, choice_whole as choice_value};
 ghost use Rattle.flat_form.specs.declared.flat.FExpr.{FExpr};
 ghost use Rattle.flat_form.specs.declared.flat.FExpr.TheVariants as form;
 ghost use Rattle.flat_unfolding.specs.Outcome.{breaks_if};
 ghost use Rattle.flat_unfolding.specs.Names.{Look};
-ghost use Rattle.flat_unfolding.specs.Constants.{both, within as within_of, own_value as value_of};
+ghost use Rattle.flat_unfolding.specs.Constants.{both, plain_unary as plain_unary_of, own_unary as own_unary_of, within as within_of, whole_unary as whole_unary_of, own_value as value_of};
 ghost use Rattle.flat_unfolding.specs.Expressions.{Term, is_sound as is_sound_term, all_sound, joined, as_constant, as_count, join_term, repeat_term, is_whole_only as is_whole_only_of};
 ghost use Rattle.flat_names.specs.Noting.{all_noted};
-ghost use Rattle.flat_names.specs.Pieces.{Piece, IsPiece, IsRead, IsFitPiece, Makes, AreRead, pending, numbered, flagged, as_part, unary_piece, binary_piece, choice_piece, binary_notes, choice_notes, within_word, join_notes, count_notes, repeat_notes};
+ghost use Rattle.flat_names.specs.Pieces.{Piece, IsPiece, IsRead, IsFitPiece, Makes, IsOver, AreRead, pending, numbered, flagged, as_part, unary_piece, binary_piece, choice_piece, binary_notes, choice_notes, within_word, join_notes, count_notes, repeat_notes};
 ghost use Rattle.flat_names.specs.Signs.{no_signs, number_signs, orders_signed as orders_signed_of};
 
 use crate::fault::{Faults, Rule};
 use crate::signs::{Signs, orders_signed};
 use cdc_base::limits::MAX_WIDTH;
 use cdc_base::{List, NoMemory};
-use flat_form::flat::FExpr;
+use flat_form::flat::{FExpr, FUnaryOp};
 use flat_form::memory::{boxed, push};
 use flat_form::size::{binary_size, is_whole_only, unary_size, width_of};
 use flat_form::value::own_value;
@@ -192,13 +192,13 @@ pub fn unary(alloc: Global, op: UnaryOp, a: Resolved) -> Result<Resolved, NoMemo
     ensures { (l : Look) (p : Piece) → IsPiece p a → IsFitPiece p → IfOk result (λ r. IsPiece (unary_piece l op p) r) }
 {
     let size = a.width();
-    let width = unary_size(op, size);
     if let Some(count) = a.count {
-        let whole = whole_unary(op, count.whole, size);
+        let width = own_unary(op, size);
+        let whole = unary_whole(op, count.whole, size);
         return counted_unary(alloc, op, a, width, whole);
     }
     let signs = Signs::of_unary(op, a.signs);
-    let expr = unary_expr(alloc, op, a.expr, width)?;
+    let expr = unary_expr(alloc, op, a.expr)?;
     Ok(Resolved {
         expr,
         is_sound: a.is_sound,
@@ -215,7 +215,7 @@ fn counted_unary(
     width: u8,
     whole: Option<u64>,
 ) -> Result<Resolved, NoMemory>
-    ensures { (l : Look) (p : Piece) (k : ℕ) → IsPiece p a → IsFitPiece p → p.size ≡ Some k → width ≡ unary_size_of (unary_of op) k → whole ≡ unary_value op k p.whole
+    ensures { (l : Look) (p : Piece) (k : ℕ) → IsPiece p a → IsFitPiece p → p.size ≡ Some k → width ≡ own_unary_of op k → whole ≡ option_and_then (λ m. option_and_then (within_of (own_unary_of op k)) (whole_unary_of op k m)) p.whole
         → IfOk result (λ r. IsPiece (unary_piece l op p) r) }
 {
     if width != 1 {
@@ -223,15 +223,73 @@ fn counted_unary(
     }
     let is_sound = a.is_sound;
     let signs = Signs::of_unary(op, a.signs);
-    let expr = unary_expr(alloc, op, a.expr, width)?;
+    let expr = unary_expr(alloc, op, a.expr)?;
     Ok(counted_flag(expr, is_sound, whole, signs))
 }
 
-fn unary_expr(alloc: Global, op: UnaryOp, a: FExpr, width: u8) -> Result<FExpr, NoMemory>
-    ensures { width ≡ unary_size_of (unary_of op) (kept_of a).width → IfOk result (λ e. Makes e (Unary (unary_of op) (expr_of a)) (record { width = width; right = is_sized a })) }
+/// The operator over its operand. `-` has none: `-a` is `0 - a`.
+fn plain_unary(op: UnaryOp) -> Option<FUnaryOp>
+    ensures { result ≡ plain_unary_of op }
 {
+    match op {
+        UnaryOp::Minus => None,
+        UnaryOp::Not => Some(FUnaryOp::Not),
+        UnaryOp::LogicNot => Some(FUnaryOp::LogicNot),
+        UnaryOp::And => Some(FUnaryOp::And),
+        UnaryOp::Or => Some(FUnaryOp::Or),
+        UnaryOp::Xor => Some(FUnaryOp::Xor),
+        UnaryOp::Nand => Some(FUnaryOp::Nand),
+        UnaryOp::Nor => Some(FUnaryOp::Nor),
+        UnaryOp::Xnor => Some(FUnaryOp::Xnor),
+    }
+}
+
+/// The own size of a unary expression over an operand of `size` bits.
+fn own_unary(op: UnaryOp, size: u8) -> u8
+    ensures { result ≡ own_unary_of op size }
+{
+    match plain_unary(op) {
+        Some(op) => unary_size(op, size),
+        None => size,
+    }
+}
+
+/// The value of a counted unary expression over an operand of `size` bits, as a whole number.
+fn unary_whole(op: UnaryOp, a: Option<u64>, size: u8) -> Option<u64>
+    ensures { size ≤ 64 → ((n : ℕ) → a ≡ Some n → n < 2 ^ size) → result ≡ option_and_then (λ m. option_and_then (within_of (own_unary_of op size)) (whole_unary_of op size m)) a }
+{
+    match plain_unary(op) {
+        Some(op) => whole_unary(op, a, size),
+        None => whole_binary(BinaryOp::Sub, Some(0), a, size),
+    }
+}
+
+fn unary_expr(alloc: Global, op: UnaryOp, a: FExpr) -> Result<FExpr, NoMemory>
+    ensures { IfOk result (IsOver op a) }
+{
+    match plain_unary(op) {
+        Some(op) => plain_expr(alloc, op, a),
+        None => opposite(alloc, a),
+    }
+}
+
+fn plain_expr(alloc: Global, op: FUnaryOp, a: FExpr) -> Result<FExpr, NoMemory>
+    ensures { IfOk result (λ e. Makes e (Unary (unary_of op) (expr_of a)) (record { width = unary_size_of (unary_of op) (kept_of a).width; right = is_sized a })) }
+{
+    let width = unary_size(op, width_of(&a));
     let a = boxed(alloc, a)?;
     Ok(FExpr::Unary { op, a, width })
+}
+
+/// `0 - a`, this 0 having a's own size.
+fn opposite(alloc: Global, a: FExpr) -> Result<FExpr, NoMemory>
+    ensures { IfOk result (λ e. Makes e (Binary minus (Number (kept_of a).width 0) (expr_of a)) (record { width = (kept_of a).width; right = is_sized a })) }
+{
+    let zero = FExpr::Number {
+        value: 0,
+        width: width_of(&a),
+    };
+    binary_expr(alloc, BinaryOp::Sub, zero, a)
 }
 
 pub fn binary(
@@ -455,8 +513,8 @@ pub fn join(parts: Parts, faults: &mut Faults) -> Result<Resolved, NoMemory>
     })
 }
 
-/// The count of a replication, which is at least 1.
-fn repetition(count: &Resolved, faults: &mut Faults) -> Result<Option<u64>, NoMemory>
+/// The count of a replication or of the bits of a part, which is at least 1.
+pub fn repetition(count: &Resolved, faults: &mut Faults) -> Result<Option<u64>, NoMemory>
     ensures { (t : Term) → IsRead (as_constant t) count.now
         → IfOk result (λ n. (n ≡ cond (is_sound_term (as_count t)) (Some (value_of t.expr)) None) × (faults.new ≡ all_noted faults.old (count_notes t))) }
 {

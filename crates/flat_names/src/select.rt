@@ -6,15 +6,15 @@ ghost use Rattle.flat_form.specs.declared.flat.FExpr.TheVariants as form;
 ghost use Rattle.flat_unfolding.specs.Outcome.{Broken, breaks_if};
 ghost use Rattle.flat_unfolding.specs.Names.{Look as LookOf, width_of as width_in, offset_in as offset_of, range_at, meaning as meaning_in, a_param, a_signal, a_memory, whole_of};
 ghost use Rattle.flat_unfolding.specs.Constants.{own_value as value_of};
-ghost use Rattle.flat_unfolding.specs.Expressions.{Term, bit_select, signal_bits, word_bits, word_of, is_empty, is_sound, as_constant, as_bound, range_of as range_between, may_index as may_index_of, part_select, is_index as is_index_of, words_from, index_term, part_term};
+ghost use Rattle.flat_unfolding.specs.Expressions.{Term, bit_select, signal_bits, word_bits, word_of, is_empty, is_sound, as_constant, as_bound, as_count, as_second, range_of as range_between, may_index as may_index_of, ascends as ascends_of, part_select, indices_select, kind_select, is_index as is_index_of, words_from, index_term, part_term};
 ghost use Rattle.flat_names.specs.Noting.{all_noted};
 ghost use Rattle.flat_names.specs.Looks.{range_of, param_of, memory_of, Shows, IsFit, IsFitParam};
-ghost use Rattle.flat_names.specs.Pieces.{IsRead, Makes};
+ghost use Rattle.flat_names.specs.Pieces.{IsRead, Makes, count_notes};
 ghost use Rattle.flat_names.specs.Signs.{no_signs};
-ghost use Rattle.flat_names.specs.Selects.{index_of, part_at, bound_notes, select_of, part_in, part_notes, IsSelected, StandsFor};
+ghost use Rattle.flat_names.specs.Selects.{index_of, part_at, bound_notes, second_notes, select_of, part_in, part_notes, IsSelected, StandsFor};
 
 use crate::fault::{Faults, Rule};
-use crate::resolved::{Resolved, binary_expr, choose_expr, nothing};
+use crate::resolved::{Resolved, binary_expr, choose_expr, nothing, repetition};
 use crate::scope::{Bounds, Look, Meaning, Memory, Param};
 use crate::signs::Signs;
 use cdc_base::{Name, NoMemory};
@@ -26,7 +26,7 @@ use flat_form::size::width_of;
 use flat_form::value::own_value;
 use flat_form::whole::MAX_WHOLE;
 use std::alloc::Global;
-use verilog_ast::BinaryOp;
+use verilog_ast::{BinaryOp, PartKind};
 
 /// Whether a variable index of this size always meets a bit of the range: the range begins at 0 on the right, and the
 /// index has no value that passes its left bound.
@@ -69,11 +69,45 @@ pub fn bounds_of(
     ensures { (t u : Term) → IsRead (as_constant t) left.now → IsRead (as_constant u) right.now
         → IfOk result (λ b. (option_map range_of b ≡ range_between (as_bound t) (as_bound u)) × (faults.new ≡ all_noted faults.old (bound_notes t ++ bound_notes u))) }
 {
+    part_numbers(PartKind::Range, left, right, faults)
+}
+
+/// The two numbers of a part: bounds, or a bound and a count of bits.
+pub fn part_numbers(
+    kind: PartKind,
+    left: &Resolved,
+    right: &Resolved,
+    faults: &mut Faults,
+) -> Result<Option<Bounds>, NoMemory>
+    ensures { (t u : Term) → IsRead (as_constant t) left.now → IsRead (as_constant u) right.now
+        → IfOk result (λ b. (option_map range_of b ≡ range_between (as_bound t) (as_second kind u)) × (faults.new ≡ all_noted faults.old (bound_notes t ++ second_notes kind u))) }
+{
     let left = bound(left, faults)?;
-    let right = bound(right, faults)?;
+    let right = second(kind, right, faults)?;
     match (left, right) {
         (Some(left), Some(right)) => Ok(Some(Bounds { left, right })),
         _ => Ok(None),
+    }
+}
+
+/// The second number of a part.
+fn second(kind: PartKind, constant: &Resolved, faults: &mut Faults) -> Result<Option<u32>, NoMemory>
+    ensures { (t : Term) → IsRead (as_constant t) constant.now
+        → IfOk result (λ b. (b ≡ cond (is_sound (as_second kind t)) (Some (value_of (as_second kind t).expr)) None) × (faults.new ≡ all_noted faults.old (second_notes kind t))) }
+{
+    match kind {
+        PartKind::Range => bound(constant, faults),
+        PartKind::Up | PartKind::Down => count(constant, faults),
+    }
+}
+
+fn count(constant: &Resolved, faults: &mut Faults) -> Result<Option<u32>, NoMemory>
+    ensures { (t : Term) → IsRead (as_constant t) constant.now
+        → IfOk result (λ b. (b ≡ cond (is_sound (as_count t)) (Some (value_of t.expr)) None) × (faults.new ≡ all_noted faults.old (count_notes t))) }
+{
+    match repetition(constant, faults)? {
+        Some(count) => Ok(narrowed(count)),
+        None => Ok(None),
     }
 }
 
@@ -98,14 +132,46 @@ fn narrowed(value: u64) -> Option<u32>
     u32::try_from(value).ok()
 }
 
-/// The lowest bit and the width of a part of a range; `None` where a bound is outside, or the bounds have the other
+/// The lowest bit and the width of a part of a range; `None` where an index is outside, or bounds have the other
 /// direction than the range's.
-pub fn part_of_range(range: Option<Bounds>, part: Bounds) -> Option<(u8, u8)>
-    ensures { width_in (option_map range_of range) ≤ 64 → option_map select_of result ≡ part_select (option_map range_of range) (range_of part) }
+pub fn part_of_range(range: Option<Bounds>, kind: PartKind, part: Bounds) -> Option<(u8, u8)>
+    ensures { width_in (option_map range_of range) ≤ 64 → option_map select_of result ≡ kind_select (option_map range_of range) kind (range_of part) }
+{
+    let base = u64::from(part.left);
+    let more = u64::from(part.right).saturating_sub(1);
+    match kind {
+        PartKind::Range => bits_between(range, base, u64::from(part.right)),
+        PartKind::Up => bits_of_indices(range, base, base + more),
+        PartKind::Down => bits_of_indices(range, base.checked_sub(more)?, base),
+    }
+}
+
+/// The bits with the indices from `low` to `high`.
+fn bits_of_indices(range: Option<Bounds>, low: u64, high: u64) -> Option<(u8, u8)>
+    ensures { width_in (option_map range_of range) ≤ 64 → option_map select_of result ≡ indices_select (option_map range_of range) low high }
+{
+    if ascends(range) {
+        bits_between(range, low, high)
+    } else {
+        bits_between(range, high, low)
+    }
+}
+
+fn ascends(range: Option<Bounds>) -> bool
+    ensures { result ≡ ascends_of (option_map range_of range) }
+{
+    match range {
+        Some(range) => range.left < range.right,
+        None => false,
+    }
+}
+
+fn bits_between(range: Option<Bounds>, left: u64, right: u64) -> Option<(u8, u8)>
+    ensures { width_in (option_map range_of range) ≤ 64 → option_map select_of result ≡ part_select (option_map range_of range) (record { left = left; right = right }) }
 {
     let range = range?;
-    let high = range.offset(u64::from(part.left))?;
-    let low = range.offset(u64::from(part.right))?;
+    let high = range.offset(left)?;
+    let low = range.offset(right)?;
     let rest = high.checked_sub(low)?;
     Some((low, rest.checked_add(1)?))
 }
@@ -327,22 +393,23 @@ fn word_read(look: &Look, memory: Memory, n: u32) -> FExpr
     look.read(sig, 0, look.width(sig))
 }
 
-/// `name[left:right]`. The bounds are settled as constants.
+/// A part of a name. The two numbers are settled as constants.
 pub fn part_read(
     look: &Look,
     name: &Name,
+    kind: PartKind,
     left: &Resolved,
     right: &Resolved,
     faults: &mut Faults,
 ) -> Result<Resolved, NoMemory>
     ensures { (l : LookOf) (t u : Term) → Shows look.now l → IsFit l → IsRead (as_constant t) left.now → IsRead (as_constant u) right.now
-        → IfOk result (λ r. IsRead (part_term l name.now t u) r × (r.count ≡ None)
-        × (faults.new ≡ all_noted faults.old (bound_notes t ++ bound_notes u ++ (part_at l name.now (range_between (as_bound t) (as_bound u)) (meaning_in l name.now)).broken)) × (r.signs ≡ no_signs)) }
+        → IfOk result (λ r. IsRead (part_term l name.now kind t u) r × (r.count ≡ None)
+        × (faults.new ≡ all_noted faults.old (bound_notes t ++ second_notes kind u ++ (part_at l name.now kind (range_between (as_bound t) (as_second kind u)) (meaning_in l name.now)).broken)) × (r.signs ≡ no_signs)) }
 {
-    let bounds = bounds_of(left, right, faults)?;
+    let bounds = part_numbers(kind, left, right, faults)?;
     match look.meaning(name) {
-        Some(Meaning::Param(param)) => part_of_parameter(param, name, bounds, faults),
-        Some(Meaning::Signal(sig)) => part_of_signal(look, sig, name, bounds, faults),
+        Some(Meaning::Param(param)) => part_of_parameter(param, name, kind, bounds, faults),
+        Some(Meaning::Signal(sig)) => part_of_signal(look, sig, name, kind, bounds, faults),
         Some(Meaning::Memory(_)) => {
             faults.note(Rule::Memory, name.as_str())?;
             Ok(Resolved::broken(nothing(), false))
@@ -355,18 +422,19 @@ pub fn part_read(
 /// The lowest bit and the width of a part; notes a part that is outside.
 pub fn part_within(
     range: Option<Bounds>,
+    kind: PartKind,
     part: Option<Bounds>,
     name: &Name,
     faults: &mut Faults,
 ) -> Result<Option<(u8, u8)>, NoMemory>
     ensures { width_in (option_map range_of range) ≤ 64
-        → IfOk result (λ f. (option_map select_of f ≡ part_in (option_map range_of range) (option_map range_of part))
-        × (faults.new ≡ all_noted faults.old (part_notes name.now (option_map range_of range) (option_map range_of part)))) }
+        → IfOk result (λ f. (option_map select_of f ≡ part_in (option_map range_of range) kind (option_map range_of part))
+        × (faults.new ≡ all_noted faults.old (part_notes name.now (option_map range_of range) kind (option_map range_of part)))) }
 {
     let Some(part) = part else {
         return Ok(None);
     };
-    let found = part_of_range(range, part);
+    let found = part_of_range(range, kind, part);
     if found.is_none() {
         faults.note(Rule::IndexOutOfRange, name.as_str())?;
     }
@@ -376,13 +444,14 @@ pub fn part_within(
 fn part_of_parameter(
     param: Param,
     name: &Name,
+    kind: PartKind,
     part: Option<Bounds>,
     faults: &mut Faults,
 ) -> Result<Resolved, NoMemory>
     ensures { (l : LookOf) (bs : List Broken) → IsFitParam (param_of param) → is_empty bs ≡ is_some part
-        → IfOk result (λ r. IsSelected bs (part_at l name.now (option_map range_of part) (Some (a_param (param_of param)))) faults.old faults.new r) }
+        → IfOk result (λ r. IsSelected bs (part_at l name.now kind (option_map range_of part) (Some (a_param (param_of param)))) faults.old faults.new r) }
 {
-    match part_within(param.bounds, part, name, faults)? {
+    match part_within(param.bounds, kind, part, name, faults)? {
         Some((at, width)) => Ok(Resolved::constant(bits_of(param, at, width), Signs::none())),
         None => Ok(Resolved::broken(nothing(), true)),
     }
@@ -392,13 +461,14 @@ fn part_of_signal(
     look: &Look,
     sig: u32,
     name: &Name,
+    kind: PartKind,
     part: Option<Bounds>,
     faults: &mut Faults,
 ) -> Result<Resolved, NoMemory>
     ensures { (l : LookOf) (bs : List Broken) → Shows look.now l → IsFit l → sig < length l.entries → is_empty bs ≡ is_some part
-        → IfOk result (λ r. IsSelected bs (part_at l name.now (option_map range_of part) (Some (a_signal sig))) faults.old faults.new r) }
+        → IfOk result (λ r. IsSelected bs (part_at l name.now kind (option_map range_of part) (Some (a_signal sig))) faults.old faults.new r) }
 {
-    match part_within(look.bounds(sig), part, name, faults)? {
+    match part_within(look.bounds(sig), kind, part, name, faults)? {
         Some((at, width)) => Ok(Resolved::variable(look.read(sig, at, width))),
         None => Ok(Resolved::broken(nothing(), false)),
     }

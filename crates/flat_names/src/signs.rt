@@ -52,7 +52,7 @@ impl Signs {
     pub fn of_unary(op: UnaryOp, a: Signs) -> Signs
         ensures { result ≡ unary_signs op a }
     {
-        if op != UnaryOp::Not {
+        if !matches!(op, UnaryOp::Not | UnaryOp::Minus) {
             return Signs::none();
         }
         Signs {

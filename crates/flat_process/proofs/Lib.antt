@@ -9,3 +9,4 @@ pub mod Keeping
 pub mod PlainAims
 pub mod ResetRows
 pub mod Processes
+pub mod LevelLists

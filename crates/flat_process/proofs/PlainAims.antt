@@ -2,6 +2,7 @@
 use Rattle.std.proofs.Common.{◌≡◌, ℕ, ◌+◌, ◌<◌, ◌≤◌, Bool, true, false, cond, not, nat_lt, List, [], ◌∷◌, ◌++◌, length, map, Option, Some, None, refl, sym, ap₂, subst, ◌∙◌, arith, ltb-false}
 use Rattle.std.specs.Option.{option_map_or}
 use Rattle.std.proofs.lemmas.Bool.{false≢true, or_parts}
+use Rattle.verilog_ast.specs.declared.PartKind.{PartKind}
 use Rattle.verilog_reading.specs.ExprTree.{TargetTree, whole, index_of, part_of, join_of, TargetTrees, no_parts, and_parts}
 use Rattle.flat_meaning.specs.Flat.{Whole, Part, target_sizes}
 use Rattle.flat_form.specs.View.{targets_of}
@@ -9,13 +10,13 @@ use Rattle.flat_form.proofs.Sized.{word_width}
 use Rattle.flat_unfolding.specs.Outcome.{Text, Broken}
 use Rattle.flat_unfolding.specs.Names.{Range, Memory, Meaning, a_param, a_signal, a_memory, no_value, Look, meaning, width_at, range_at}
 use Rattle.flat_unfolding.specs.Constants.{own_value, both}
-use Rattle.flat_unfolding.specs.Expressions.{Term, is_sound, as_bound, range_of, Select, one_bit, bit_select, part_select, word_of, read}
+use Rattle.flat_unfolding.specs.Expressions.{Term, is_sound, as_bound, as_second, range_of, Select, one_bit, bit_select, kind_select, word_of, read}
 use Rattle.flat_unfolding.specs.Targets.{Aim, nowhere, aim_at, behind, of_registers, total, group_of, Goal, fixed, a_word, name_rules, meant_whole, select_aim, signal_aim, word_aim, memory_goal, after, meant_goal, index_goal, as_fixed, meant_range, aim, aims}
 use Rattle.flat_unfolding.specs.Resets.{has_variable_index, has_variable_index_in}
 use Rattle.flat_names.specs.Looks.{IsFit}
 use Rattle.flat_names.proofs.Options.{none-some, some-same}
 use Rattle.flat_names.proofs.Named.{signal-word}
-use Rattle.flat_names.proofs.Selected.{select-word}
+use Rattle.flat_names.proofs.Selected.{kind-word}
 use Rattle.flat_targets.proofs.Aimed.{range-small}
 use Rattle.flat_targets.proofs.AimedWords.{word-there}
 use Rattle.flat_process.specs.Resets.{ArePlain, IsPlainAim}
@@ -48,8 +49,8 @@ module _ (l : Look) (fit : IsFit l) where
   one-small None p e = none-some p e
   one-small (Some at) p e = subst (λ (q : Select). q.bits ≤ 64) (some-same (record { at = at; bits = 1 }) p e) (let k : 1 ≤ 64 = omega arith in k)
 
-  part-small : (s : ℕ) (r : Range) (p : Select) → part_select (range_at l.entries s) r ≡ Some p → p.bits ≤ 64
-  part-small s r p e = (word_width p.bits (select-word (range_at l.entries s) r p (range-small l fit s) e)).most
+  part-small : (s : ℕ) (kind : PartKind) (r : Range) (p : Select) → kind_select (range_at l.entries s) kind r ≡ Some p → p.bits ≤ 64
+  part-small s kind r p e = (word_width p.bits (kind-word (range_at l.entries s) kind r p (range-small l fit s) e)).most
 
   -- ---- names
 
@@ -109,17 +110,17 @@ module _ (l : Look) (fit : IsFit l) where
 
   -- ---- parts
 
-  plain-range : (x : Text) (o : Option Range) (m : Option Meaning) → meaning l x ≡ m → IsPlainAim l (meant_range l of_registers x o m)
-  plain-range x (Some p) (Some (a_signal s)) e = plain-select x s (part_select (range_at l.entries s) p) (fit.signals x s e) (part-small s p)
-  plain-range x None (Some (a_signal s)) e = plain-nowhere []
-  plain-range x None (Some (a_memory m)) e = plain-nowhere _
-  plain-range x (Some p) (Some (a_memory m)) e = plain-nowhere _
-  plain-range x None None e = plain-nowhere []
-  plain-range x (Some p) None e = plain-nowhere []
-  plain-range x None (Some (a_param p)) e = plain-nowhere []
-  plain-range x (Some q) (Some (a_param p)) e = plain-nowhere []
-  plain-range x None (Some no_value) e = plain-nowhere []
-  plain-range x (Some p) (Some no_value) e = plain-nowhere []
+  plain-range : (x : Text) (kind : PartKind) (o : Option Range) (m : Option Meaning) → meaning l x ≡ m → IsPlainAim l (meant_range l of_registers x kind o m)
+  plain-range x kind (Some p) (Some (a_signal s)) e = plain-select x s (kind_select (range_at l.entries s) kind p) (fit.signals x s e) (part-small s kind p)
+  plain-range x kind None (Some (a_signal s)) e = plain-nowhere []
+  plain-range x kind None (Some (a_memory m)) e = plain-nowhere _
+  plain-range x kind (Some p) (Some (a_memory m)) e = plain-nowhere _
+  plain-range x kind None None e = plain-nowhere []
+  plain-range x kind (Some p) None e = plain-nowhere []
+  plain-range x kind None (Some (a_param p)) e = plain-nowhere []
+  plain-range x kind (Some q) (Some (a_param p)) e = plain-nowhere []
+  plain-range x kind None (Some no_value) e = plain-nowhere []
+  plain-range x kind (Some p) (Some no_value) e = plain-nowhere []
 
   -- ---- concatenations
 
@@ -156,8 +157,9 @@ module _ (l : Look) (fit : IsFit l) where
     pub plain-aim : (t : TargetTree) → has_variable_index l t ≡ false → IsPlainAim l (aim l of_registers t)
     plain-aim (whole x) h = plain-behind (name_rules l of_registers x) (meant_whole l of_registers x (meaning l x)) (plain-meant x (meaning l x) refl)
     plain-aim (index_of x i) h = plain-fixed x (index_goal l of_registers x (read l i)) (plain-index x (read l i) (is-true (read l i).is_constant h))
-    plain-aim (part_of x i j) h = plain-behind (name_rules l of_registers x ++ (as_bound (read l i)).broken ++ (as_bound (read l j)).broken)
-        (meant_range l of_registers x (range_of (as_bound (read l i)) (as_bound (read l j))) (meaning l x)) (plain-range x (range_of (as_bound (read l i)) (as_bound (read l j))) (meaning l x) refl)
+    plain-aim (part_of x kind i j) h =
+        let a = as_bound (read l i) in let b = as_second kind (read l j) in
+        plain-behind (name_rules l of_registers x ++ a.broken ++ b.broken) (meant_range l of_registers x kind (range_of a b) (meaning l x)) (plain-range x kind (range_of a b) (meaning l x) refl)
     plain-aim (join_of parts) h = plain-group (aims l of_registers parts) (plain-aims parts h)
 
     plain-aims : (ts : TargetTrees) → has_variable_index_in l ts ≡ false → ArePlainAims (aims l of_registers ts)

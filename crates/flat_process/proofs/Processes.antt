@@ -20,7 +20,7 @@ use Rattle.flat_unfolding.specs.Expressions.{read}
 use Rattle.flat_unfolding.specs.Statements.{Kind, clocked, neither, done, done_all}
 use Rattle.flat_unfolding.specs.Resets as q
 use Rattle.flat_unfolding.specs.Resets.{peeled, peeled_rows, tested_signals, branch_given, form_with, form_in, reset_form, reset_rules, is_edge_of, is_active_edge}
-use Rattle.flat_unfolding.specs.Processes.{has_form, first_edge, edge_rules, meant_signal, edge_signal, is_wide, reset_edge, reset_signal, event_rules, body_without, reset_branch, reset_gives}
+use Rattle.flat_unfolding.specs.Processes.{delay_rules, has_form, first_edge, edge_rules, meant_signal, edge_signal, is_wide, reset_edge, reset_signal, event_rules, body_without, reset_branch, reset_gives}
 use Rattle.flat_unfolding.specs.Formed.{IsFormed, IsStmtFormed, AreRowsFormed}
 use Rattle.flat_unfolding.specs.Design as u
 use Rattle.flat_unfolding.proofs.Steps.{none_of_both, some_is}
@@ -59,7 +59,7 @@ module _ (l : Look) (k : Kind) where
     -- what is in such blocks breaks no rule where they break none
     peeled-clean : (t : StmtTree) → (done l k t).broken ≡ [] → (done l k (peeled t)).broken ≡ []
     peeled-clean null e = e
-    peeled-clean (set b t v) e = e
+    peeled-clean (set b delay t v) e = e
     peeled-clean (when c s) e = e
     peeled-clean (either c s z) e = e
     peeled-clean (switch v rows) e = e
@@ -75,7 +75,7 @@ module _ (l : Look) (k : Kind) where
 mutual
   pub peeled-formed : (t : StmtTree) → IsStmtFormed t → IsStmtFormed (peeled t)
   peeled-formed null h = h
-  peeled-formed (set b t v) h = h
+  peeled-formed (set b delay t v) h = h
   peeled-formed (when c s) h = h
   peeled-formed (either c s z) h = h
   peeled-formed (switch v rows) h = h
@@ -107,7 +107,7 @@ module _ (l : Look) where
 
   form-clean : (t : StmtTree) (f : q.ResetForm) → form_in l t ≡ Some f → (done l clocked t).broken ≡ [] → AreClean f
   form-clean null f e c = absurd (search (rules, e))
-  form-clean (set b t v) f e c = absurd (search (rules, e))
+  form-clean (set b delay t v) f e c = absurd (search (rules, e))
   form-clean (switch v rows) f e c = absurd (search (rules, e))
   form-clean (switch_else v rows d) f e c = absurd (search (rules, e))
   form-clean (block rows) f e c = absurd (search (rules, e))
@@ -303,7 +303,7 @@ module _ (l : Look) (edges : List Edge) (t : StmtTree) where
 
   -- what a process breaks, by whether its event has its form
   abbrev rules_at : Bool → List Broken
-  rules_at b = event_rules l edges ++ (done l (cond b clocked neither) t).broken ++ breaks_if (b && lacks_reset l edges) 317 (first_edge edges) ++ reset_breaks (cond b (reset_form l t) None)
+  rules_at b = event_rules l edges ++ (done l (cond b clocked neither) t).broken ++ delay_rules t ++ breaks_if (b && lacks_reset l edges) 317 (first_edge edges) ++ reset_breaks (cond b (reset_form l t) None)
 
   -- what its reset tells of its drivers
   abbrev reset_if : Bool → Option ℕ × Stmt
@@ -316,24 +316,28 @@ module _ (l : Look) (edges : List Edge) (t : StmtTree) where
   -- an event with its form, and one without it
   pub formed-process : (c m : ℕ) (f g h : Noted) (p : Clocked) → m ≡ c → has_form edges ≡ true → g ≡ all_noted f (event_rules l edges)
       → IsClocked (length l.entries) m (body_without l t (reset_form l t)) (reset_with l (reset_signal l edges) t) (reset_gives l (reset_form l t)) (done l clocked t).broken p
-      → h ≡ all_noted g ((done l clocked t).broken ++ pair ++ reset_breaks (reset_form l t)) → IsProcess c f p h (has_form edges)
+      → h ≡ all_noted g ((done l clocked t).broken ++ delay_rules t ++ pair ++ reset_breaks (reset_form l t)) → IsProcess c f p h (has_form edges)
   formed-process c m f g h p same e i k j =
       let event = event_rules l edges in
       let body = (done l clocked t).broken in
+      let delays = delay_rules t in
       let last = reset_breaks (reset_form l t) in
       let us = reset_gives l (reset_form l t) in
       let r = reset_with l (reset_signal l edges) t in
       let x = body_without l t (reset_form l t) in
       subst (IsProcess c f p h) (sym e) (
-        clocked-amid (length l.entries) c c x r us [] (event ++ body ++ pair) last p refl (clocked-amid (length l.entries) c m x r us event body pair p same k),
-        then-noted f g h event (body ++ pair ++ last) i j ∙ ap (all_noted f) (sym (append_assoc event (body ++ pair) last) ∙ ap (λ bs. bs ++ last) (sym (append_assoc event body pair))),
+        clocked-amid (length l.entries) c c x r us [] (event ++ body ++ delays ++ pair) last p refl
+            (clocked-amid (length l.entries) c c x r us [] (event ++ body ++ delays) pair p refl (clocked-amid (length l.entries) c m x r us event body delays p same k)),
+        then-noted f g h event (body ++ delays ++ pair ++ last) i j ∙ ap (all_noted f) (sym (append_assoc event (body ++ delays ++ pair) last)
+            ∙ ap (λ bs. bs ++ last) (sym (append_assoc event (body ++ delays) pair) ∙ ap (λ bs. bs ++ pair) (sym (append_assoc event body delays)))),
       )
 
   pub formless-process : (c : ℕ) (f g h i : Noted) (p : Clocked) → has_form edges ≡ false → g ≡ all_noted f (event_rules l edges) → p.clock ≡ c → p.given.items ≡ []
-      → h ≡ all_noted g (done l neither t).broken → i ≡ all_noted h (reset_breaks None) → IsProcess c f p i (has_form edges)
+      → h ≡ all_noted g ((done l neither t).broken ++ delay_rules t) → i ≡ all_noted h (reset_breaks None) → IsProcess c f p i (has_form edges)
   formless-process c f g h i p e j k none d n =
       let event = event_rules l edges in
       let body = (done l neither t).broken in
+      let delays = delay_rules t in
       subst (IsProcess c f p i) (sym e) (
         record {
           clock = k;
@@ -341,10 +345,13 @@ module _ (l : Look) (edges : List Edge) (t : StmtTree) where
           reset = λ b. absurd (tells b);
           given = subst (AreGiven (length l.entries) []) (sym none) tt;
         },
-        then-noted f h i (event ++ body) (reset_breaks None) (then-noted f g h event body j d) n ∙ ap (λ bs. all_noted f (bs ++ reset_breaks None)) (sym (append-nil (event ++ body))),
+        then-noted f h i (event ++ (body ++ delays)) (reset_breaks None) (then-noted f g h event (body ++ delays) j d) n
+            ∙ ap (λ bs. all_noted f (bs ++ reset_breaks None)) (sym (append_assoc event body delays) ∙ sym (append-nil (event ++ body ++ delays))),
       )
     where
-      tells : ((event_rules l edges ++ (done l neither t).broken) ++ []) ++ reset_breaks None ≡ [] → ⊥
+      tells : (((event_rules l edges ++ (done l neither t).broken) ++ delay_rules t) ++ []) ++ reset_breaks None ≡ [] → ⊥
       tells b =
-          let front = (none_of_both ((event_rules l edges ++ (done l neither t).broken) ++ []) (reset_breaks None) b).0 in
-          no-form-breaks l edges e (none_of_both (event_rules l edges) (done l neither t).broken (none_of_both (event_rules l edges ++ (done l neither t).broken) [] front).0).0
+          let body = event_rules l edges ++ (done l neither t).broken in
+          let front = (none_of_both ((body ++ delay_rules t) ++ []) (reset_breaks None) b).0 in
+          let both = (none_of_both body (delay_rules t) (none_of_both (body ++ delay_rules t) [] front).0).0 in
+          no-form-breaks l edges e (none_of_both (event_rules l edges) (done l neither t).broken both).0

@@ -49,14 +49,14 @@ gives-all l us t word top rest gs h e =
 -- ---- a row
 
 module _ (l : Look) (t : TargetTree) (e : ExprTree) (h : has_variable_index l t ≡ false) where
-  row-by : (b : Bool) → (read l e).is_constant ≡ b → row_given l (set false t e) ≡ cond (b && true) (Some (given_by l (read l e) (aim l of_registers t))) None
+  row-by : (b : Bool) → (read l e).is_constant ≡ b → row_given l (set false None t e) ≡ cond (b && true) (Some (given_by l (read l e) (aim l of_registers t))) None
   row-by b c = ap₂ (λ x y. cond (x && not y) (Some (given_by l (read l e) (aim l of_registers t))) None) c h
 
   pub adds-constant : (us : List u.Given) (gs : List Given) (b : Bool) → b ≡ (read l e).is_constant → b ≡ true → AreGiven (length l.entries) (us ++ given_by l (read l e) (aim l of_registers t)) gs
-      → AddsGiven (length l.entries) us (row_given l (set false t e)) b gs
+      → AddsGiven (length l.entries) us (row_given l (set false None t e)) b gs
   adds-constant us gs b c d k = subst (λ o. AddsGiven (length l.entries) us o b gs) (sym (row-by true (sym c ∙ d))) (d, k)
 
-  pub adds-nothing : (us : List u.Given) (gs : List Given) (b : Bool) → b ≡ (read l e).is_constant → b ≡ false → AddsGiven (length l.entries) us (row_given l (set false t e)) b gs
+  pub adds-nothing : (us : List u.Given) (gs : List Given) (b : Bool) → b ≡ (read l e).is_constant → b ≡ false → AddsGiven (length l.entries) us (row_given l (set false None t e)) b gs
   adds-nothing us gs b c d = subst (λ o. AddsGiven (length l.entries) us o b gs) (sym (row-by false (sym c ∙ d))) d
 
 -- ---- all rows

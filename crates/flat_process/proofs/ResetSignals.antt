@@ -13,7 +13,8 @@ use Rattle.flat_unfolding.specs.Names.{Meaning, a_param, a_signal, a_memory, no_
 use Rattle.flat_unfolding.specs.Expressions.{Term, is_sound}
 use Rattle.verilog_ast.specs.declared.BinaryOp.{BinaryOp}
 use Rattle.verilog_reading.specs.ExprTree.{ExprTree, binary}
-use Rattle.flat_unfolding.specs.Resets.{names_in, signals_among, is_reset, are_resets, is_test, at_level, reset_signals, is_or, both_signals, tested_signals}
+use Rattle.flat_unfolding.specs.Mentions.{names_in}
+use Rattle.flat_unfolding.specs.Resets.{signals_among, is_reset, are_resets, is_test, at_level, reset_signals, is_or, both_signals, tested_signals}
 use Rattle.flat_names.specs.declared.design.Reset.{Reset}
 use Rattle.flat_names.specs.declared.scope.Look as v
 use Rattle.flat_names.specs.declared.resolved.Resolved.{Resolved}

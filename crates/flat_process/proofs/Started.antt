@@ -13,6 +13,7 @@ use Rattle.cdc_base.specs.declared.fault.Stop.{Stop}
 use Rattle.cdc_base.specs.declared.list.NoMemory.{NoMemory}
 use Rattle.cdc_base.specs.declared.signal.Signal.{Signal}
 use Rattle.cell_graph.specs.Tree.{bit_at, number}
+use Rattle.verilog_ast.specs.declared.Delay.{Delay}
 use Rattle.verilog_ast.specs.declared.Expr.{Expr}
 use Rattle.verilog_ast.specs.declared.Target as tv
 use Rattle.verilog_ast.specs.declared.Target.TheOpen.{Target-F}
@@ -85,7 +86,7 @@ module _ (l : n.Look) where
   at_target t b v g = record b { broken = b.broken ++ v.broken }
 
   pub row-is : (a : Starts) (s : StmtTree) → initial_row l a s ≡ with_one l.entries (row_one l s) (row_broken l s) a
-  row-is a (set blocking t e) = go (aim l of_registers t).target
+  row-is a (set blocking delay t e) = go (aim l of_registers t).target
     where
       v : Term
       v = read l e
@@ -388,7 +389,7 @@ module _ (l : n.Look) where
   at-inside v (Group ts) p h = none-some p h
 
   pub row-inside : (s : StmtTree) (p : ℕ × ℕ) → row_one l s ≡ Some p → p.0 < length l.entries
-  row-inside (set blocking t e) p h = at-inside (read l e) (aim l of_registers t).target p h
+  row-inside (set blocking delay t e) p h = at-inside (read l e) (aim l of_registers t).target p h
   row-inside null p h = none-some p h
   row-inside (when c s) p h = none-some p h
   row-inside (either c s z) p h = none-some p h
@@ -410,19 +411,19 @@ module _ (l : n.Look) where
 
 -- a statement that is no assignment
 abbrev IsOther : StmtTree → Type 0
-IsOther (set blocking t e) = ⊥
+IsOther (set blocking delay t e) = ⊥
 IsOther s = Unit {0}
 
 abbrev IsNoSet : Stmt → Type 0
-IsNoSet s = (blocking : Bool) (t : tv.Target) (e : Expr) → s ≡ st.Set blocking t e → ⊥
+IsNoSet s = (blocking : Bool) (delay : Option Delay) (t : tv.Target) (e : Expr) → s ≡ st.Set blocking delay t e → ⊥
 
 other-layer : (x : Stmt-F Stmt CaseItem) → IsNoSet (roll-Stmt x) → IsOther (stmt_tree_step (map-Stmt Stmt CaseItem StmtTree ArmTree stmt_tree_of arm_tree_of x))
 other-layer Stmt-F.Null h = tt
-other-layer (Stmt-F.Set b t e) h = absurd (h b t e (st.rolls-Set b t e))
+other-layer (Stmt-F.Set b d t e) h = absurd (h b d t e (st.rolls-Set b d t e))
 other-layer (Stmt-F.If c s None) h = tt
 other-layer (Stmt-F.If c s (Some z)) h = tt
-other-layer (Stmt-F.Case c is None) h = tt
-other-layer (Stmt-F.Case c is (Some z)) h = tt
+other-layer (Stmt-F.Case masks c is None) h = tt
+other-layer (Stmt-F.Case masks c is (Some z)) h = tt
 other-layer (Stmt-F.Block xs) h = tt
 
 pub other-tree : (s : Stmt) → IsNoSet s → IsOther (stmt_tree_of s)
@@ -431,7 +432,7 @@ other-tree = ind-Stmt (λ s. IsNoSet s → IsOther (stmt_tree_of s)) (λ i. Unit
     (λ x y is. tt)
 
 pub other-row : (l : n.Look) (s : StmtTree) (f f1 f2 : Noted) → IsOther s → f1 ≡ all_noted f (breaks 313 []) → f2 ≡ all_noted f1 (done l neither s).broken → IsOne (row_one l s) (row_broken l s) None × (f2 ≡ all_noted f (row_broken l s))
-other-row l (set blocking t e) f f1 f2 h i j = absurd h
+other-row l (set blocking delay t e) f f1 f2 h i j = absurd h
 other-row l null f f1 f2 h i j = (tt, then-noted f f1 f2 (breaks 313 []) (done l neither null).broken i j)
 other-row l (when c s) f f1 f2 h i j = (tt, then-noted f f1 f2 (breaks 313 []) (done l neither (when c s)).broken i j)
 other-row l (either c s z) f f1 f2 h i j = (tt, then-noted f f1 f2 (breaks 313 []) (done l neither (either c s z)).broken i j)
@@ -449,11 +450,11 @@ IsNoBlock s = (xs : List Stmt) → s ≡ st.Block xs → ⊥
 
 single-layer : (x : Stmt-F Stmt CaseItem) → IsNoBlock (roll-Stmt x) → IsSingle (stmt_tree_step (map-Stmt Stmt CaseItem StmtTree ArmTree stmt_tree_of arm_tree_of x))
 single-layer Stmt-F.Null h = tt
-single-layer (Stmt-F.Set b t e) h = tt
+single-layer (Stmt-F.Set b d t e) h = tt
 single-layer (Stmt-F.If c s None) h = tt
 single-layer (Stmt-F.If c s (Some z)) h = tt
-single-layer (Stmt-F.Case c is None) h = tt
-single-layer (Stmt-F.Case c is (Some z)) h = tt
+single-layer (Stmt-F.Case masks c is None) h = tt
+single-layer (Stmt-F.Case masks c is (Some z)) h = tt
 single-layer (Stmt-F.Block xs) h = absurd (h xs (st.rolls-Block xs))
 
 pub single-tree : (s : Stmt) → IsNoBlock s → IsSingle (stmt_tree_of s)
@@ -462,7 +463,7 @@ single-tree = ind-Stmt (λ s. IsNoBlock s → IsSingle (stmt_tree_of s)) (λ i. 
     (λ x y is. tt)
 
 pub single-starts : (l : n.Look) (a : Starts) (s : StmtTree) → IsSingle s → initial_row l a s ≡ initial_starts l a s
-single-starts l a (set blocking t e) h = refl
+single-starts l a (set blocking delay t e) h = refl
 single-starts l a null h = refl
 single-starts l a (when c s) h = refl
 single-starts l a (either c s z) h = refl

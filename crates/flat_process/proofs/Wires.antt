@@ -9,7 +9,7 @@ use Rattle.std.proofs.lemmas.Bool.{and_parts}
 use Rattle.verilog_ast.specs.declared.Expr.{Expr}
 use Rattle.verilog_ast.specs.declared.GateKind.{GateKind}
 use Rattle.verilog_ast.specs.declared.BinaryOp.{BinaryOp}
-use Rattle.verilog_ast.specs.declared.UnaryOp.TheVariants as unary
+use Rattle.flat_form.specs.declared.flat.FUnaryOp.TheVariants as unary
 use Rattle.verilog_reading.specs.ExprTree.{ExprTree, TargetTree, tree_of}
 use Rattle.flat_meaning.specs.Flat as f
 use Rattle.flat_form.specs.declared.flat.FExpr.{FExpr}

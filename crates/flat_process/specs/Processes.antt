@@ -9,18 +9,23 @@ use Rattle.verilog_reading.specs.StmtTree.{StmtTree, null, stmt_tree_of}
 use Rattle.flat_meaning.specs.Flat.{Stmt}
 use Rattle.flat_form.specs.View.{stmt_of, reset_of}
 use Rattle.flat_form.specs.declared.flat.FStmt.{FStmt}
-use Rattle.flat_unfolding.specs.Outcome.{Broken}
+use Rattle.cdc_base.specs.declared.fault.Place.{Place}
+use Rattle.flat_unfolding.specs.Outcome.{Broken, Outcome}
 use Rattle.flat_unfolding.specs.Names as n
 use Rattle.flat_unfolding.specs.Widths.{stmt_keeps_sizes}
 use Rattle.flat_unfolding.specs.Statements.{clocked, done}
 use Rattle.flat_unfolding.specs.Resets as q
-use Rattle.flat_unfolding.specs.Processes.{is_wide, is_clock_falling, are_two, reset_edge, reset_branch}
+use Rattle.flat_unfolding.specs.Processes.{counts_as_star, wires_process, clocked_process, is_wide, is_clock_falling, are_two, reset_edge, reset_branch}
 use Rattle.flat_unfolding.specs.Design as u
 use Rattle.flat_statements.specs.Statements.{IsDone}
 use Rattle.flat_process.specs.declared.reset.Given.{Given}
 use Rattle.flat_process.specs.declared.always.Clocked.{Clocked}
 use Rattle.flat_process.specs.declared.always.ResetForm.{ResetForm}
 use Rattle.flat_process.specs.Resets.{AreGiven, AreGivenIf}
+
+-- a process with a list of edges or levels
+abbrev pub process_at : u.Stage → Place → List Edge → StmtTree → Outcome u.Stage
+process_at s p edges body = cond (counts_as_star (u.look_of s) edges body) (wires_process s p body) (clocked_process s p edges body)
 
 -- whether an edge has several bits, or the clock's falls
 abbrev pub breaks_edges : n.Look → List Edge → Bool

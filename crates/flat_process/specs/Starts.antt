@@ -76,11 +76,11 @@ module _ (l : Look) where
   value_broken x v t = v.broken
 
   abbrev pub row_one : StmtTree → One
-  row_one (set blocking t e) = one_at (read l e) (aim l of_registers t).target
+  row_one (set blocking delay t e) = one_at (read l e) (aim l of_registers t).target
   row_one s = None
 
   abbrev pub row_broken : StmtTree → List Broken
-  row_broken (set blocking t e) = (aim l of_registers t).broken ++ breaks_if (not blocking || not (names_register l t)) 313 (first_name t) ++ value_broken (first_name t) (read l e) (aim l of_registers t).target
+  row_broken (set blocking delay t e) = (aim l of_registers t).broken ++ breaks_if (not blocking || not (names_register l t)) 313 (first_name t) ++ value_broken (first_name t) (read l e) (aim l of_registers t).target
   row_broken s = breaks 313 [] ++ (done l neither s).broken
 
   -- the start value of a declaration

@@ -1,5 +1,5 @@
 //! Processes: their events, latches and resets.
-ghost use Rattle.std.specs.Prelude.{◌≡◌, ℕ, ◌++◌, ◌∷◌, [], true, false, not, ◌&&◌, ◌||◌, ◌==◌, List, Option, Some, None, is_some, is_none, option_copied, length, map, flat_map, unwrap_or, IfOk, IfErr};
+ghost use Rattle.std.specs.Prelude.{◌≡◌, ℕ, ◌++◌, ◌∷◌, [], true, false, not, ◌&&◌, ◌||◌, ◌==◌, List, Option, Some, None, is_some, is_none, option_copied, length, map, flat_map, unwrap_or, option_map, IfOk, IfErr};
 ghost use Rattle.std.specs.Option.{option_map_or};
 ghost use Rattle.std.specs.List.{list_all, list_any};
 ghost use Rattle.refusals.specs.Numbers.{HasNumberIn, unfolding_numbers};
@@ -21,14 +21,15 @@ ghost use Rattle.flat_unfolding.specs.Formed.{IsFormed, IsStmtFormed};
 ghost use Rattle.flat_names.specs.Noting.{all_noted};
 ghost use Rattle.flat_names.specs.Looks.{Shows, IsFit};
 ghost use Rattle.flat_names.specs.Designs.{IsPin, ShowsDesign, ShowsStage, Ends, Meets, signal_of};
-ghost use Rattle.flat_statements.specs.Statements.{IsDone};
+ghost use Rattle.flat_statements.specs.Statements.{kind_of, IsDone};
 ghost use Rattle.flat_process.specs.Assigns.{fresh};
 ghost use Rattle.flat_process.specs.Resets.{ArePins};
-ghost use Rattle.flat_process.specs.Processes.{breaks_edges, lacks_reset, IsBody, reset_with, IsClocked, other_tree, left_tree, IsForm, IsFormIf};
+ghost use Rattle.flat_process.specs.Processes.{process_at, breaks_edges, lacks_reset, IsBody, reset_with, IsClocked, other_tree, left_tree, IsForm, IsFormIf};
 
 use crate::reset::{
     Given, is_reset, keep_given, peeled, reset_branch, reset_signals, tested_signals,
 };
+use crate::sensitivity::counts_as_star;
 use cdc_base::{Name, NoMemory, Place, Stop};
 use flat_form::flat::{FStmt, FlatClocked, FlatComb, FlatReset};
 use flat_form::memory::push;
@@ -37,6 +38,8 @@ use flat_names::fault::{Faults, Order, Rule};
 use flat_names::scope::{Look, Meaning, Names};
 use flat_statements::latch::first_latch;
 use flat_statements::statement::{Mode, statement};
+use process_delays::first_clash;
+use process_names::first_mixed;
 use std::alloc::Global;
 use verilog_ast::{Edge, EdgeKind, Event, Expr, Stmt};
 
@@ -56,8 +59,32 @@ pub fn add_process(
     match event {
         Event::Star => add_wires_process(alloc, place, body, names, design),
         Event::Edges(edges) => {
-            add_clocked_process(alloc, place, edges.as_slice(), body, names, design)
+            add_process_at(alloc, place, edges.as_slice(), body, names, design)
         }
+    }
+}
+
+/// A process with a list of edges or levels.
+fn add_process_at(
+    alloc: Global,
+    place: Place,
+    edges: &[Edge],
+    body: &Stmt,
+    names: &Names,
+    design: &mut Design,
+) -> Result<(), Stop>
+    ensures meets { (pins : List ResetPin) (s : Stage) → ShowsStage pins names.now design.old s → IsFit (look_of s) → IsStmtFormed (stmt_tree_of body.now)
+        → Meets pins names.now (process_at s place edges.now (stmt_tree_of body.now)) result design.new }
+    ensures numbered { IfErr result (HasNumberIn unfolding_numbers) }
+{
+    let is_star = {
+        let look = design.look(alloc, names);
+        counts_as_star(&look, edges, body)?
+    };
+    if is_star {
+        add_wires_process(alloc, place, body, names, design)
+    } else {
+        add_clocked_process(alloc, place, edges, body, names, design)
     }
 }
 
@@ -83,13 +110,24 @@ fn add_wires_process(
 fn wires_process(look: &Look, body: &Stmt, faults: &mut Faults) -> Result<FStmt, NoMemory>
     ensures { (l : n.Look) → Shows look.now l → IsFit l → look.now.signals.now ≡ map signal_of l.entries → IsStmtFormed (stmt_tree_of body.now)
         → IfOk result (λ r. IsBody (done l of_wires (stmt_tree_of body.now)).stmt (done l of_wires (stmt_tree_of body.now)).broken r
-        × (faults.new ≡ all_noted faults.old ((done l of_wires (stmt_tree_of body.now)).broken ++ latch_rule l.entries (done l of_wires (stmt_tree_of body.now)).stmt))) }
+        × (faults.new ≡ all_noted faults.old ((done l of_wires (stmt_tree_of body.now)).broken ++ w.later_rules (stmt_tree_of body.now) ++ latch_rule l.entries (done l of_wires (stmt_tree_of body.now)).stmt))) }
 {
-    let body = statement(look, body, Mode::Wires, faults)?;
-    if let Some(sig) = first_latch(look.alloc, look.signals, &body)? {
+    let resolved = statement(look, body, Mode::Wires, faults)?;
+    note_wrong(first_mixed(look.alloc, body)?, faults)?;
+    if let Some(sig) = first_latch(look.alloc, look.signals, &resolved)? {
         faults.note(Rule::Latch, look.own_name(sig))?;
     }
-    Ok(body)
+    Ok(resolved)
+}
+
+/// Notes a name that is assigned in a wrong way, if there is one.
+fn note_wrong(name: Option<&str>, faults: &mut Faults) -> Result<(), NoMemory>
+    ensures { IfOk result (λ _. faults.new ≡ all_noted faults.old (w.wrong_name (option_map (λ n. n.now) name.entry))) }
+{
+    match name {
+        Some(name) => faults.note(Rule::WrongAssignment, name),
+        None => Ok(()),
+    }
 }
 
 /// Adds a process of wires, if its item broke no rule.
@@ -176,7 +214,7 @@ fn clocked_process(
     if has_form(edges) {
         process_with_form(look, edges, clock, body, faults)
     } else {
-        let body = statement(look, body, Mode::Neither, faults)?;
+        let body = body_at_edges(look, body, Mode::Neither, faults)?;
         note_reset(look, edges, &None, faults)?;
         Ok(Clocked {
             clock,
@@ -188,6 +226,21 @@ fn clocked_process(
             given: Vec::new(look.alloc),
         })
     }
+}
+
+/// The body of a process with edges, in which a name has one delay on each path.
+fn body_at_edges(
+    look: &Look,
+    body: &Stmt,
+    mode: Mode,
+    faults: &mut Faults,
+) -> Result<FStmt, NoMemory>
+    ensures { (l : n.Look) → Shows look.now l → IsFit l → IsStmtFormed (stmt_tree_of body.now)
+        → IfOk result (λ r. IsDone (done l (kind_of mode) (stmt_tree_of body.now)) r × (faults.new ≡ all_noted faults.old ((done l (kind_of mode) (stmt_tree_of body.now)).broken ++ w.delay_rules (stmt_tree_of body.now)))) }
+{
+    let resolved = statement(look, body, mode, faults)?;
+    note_wrong(first_clash(look.alloc, body)?, faults)?;
+    Ok(resolved)
 }
 
 /// Whether an event is one rising edge, or two edges of which one rises at least.
@@ -313,7 +366,7 @@ fn names_reset(look: &Look, edge: &Edge) -> bool
 }
 
 /// The signal that an edge names.
-fn edge_signal(look: &Look, edge: &Edge) -> Option<u32>
+pub fn edge_signal(look: &Look, edge: &Edge) -> Option<u32>
     ensures { (l : n.Look) → Shows look.now l → result ≡ w.edge_signal l edge.now }
 {
     match look.meaning(&edge.name) {
@@ -364,10 +417,10 @@ fn process_with_form(
     ensures { (pins : List ResetPin) (l : n.Look) → Shows look.now l → IsFit l → ArePins pins look.now l → IsStmtFormed (stmt_tree_of body.now)
         → IfOk result (λ p. IsClocked (length l.entries) clock (body_without l (stmt_tree_of body.now) (reset_form_of l (stmt_tree_of body.now))) (reset_with l (w.reset_signal l edges.now) (stmt_tree_of body.now))
         (reset_gives l (reset_form_of l (stmt_tree_of body.now))) (done l clocked_kind (stmt_tree_of body.now)).broken p
-        × (faults.new ≡ all_noted faults.old ((done l clocked_kind (stmt_tree_of body.now)).broken ++ breaks_if (lacks_reset l edges.now) 317 (w.first_edge edges.now)
+        × (faults.new ≡ all_noted faults.old ((done l clocked_kind (stmt_tree_of body.now)).broken ++ w.delay_rules (stmt_tree_of body.now) ++ breaks_if (lacks_reset l edges.now) 317 (w.first_edge edges.now)
         ++ reset_rules l (w.first_edge edges.now) (w.reset_edge l edges.now) (reset_form_of l (stmt_tree_of body.now))))) }
 {
-    let whole = statement(look, body, Mode::Clocked, faults)?;
+    let whole = body_at_edges(look, body, Mode::Clocked, faults)?;
     note_pair(look, edges, faults)?;
     let form = reset_form(look, body)?;
     note_reset(look, edges, &form, faults)?;

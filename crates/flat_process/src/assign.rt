@@ -23,7 +23,7 @@ ghost use Rattle.flat_names.specs.Designs.{ShowsDesign, ShowsStage, Ends, Meets}
 ghost use Rattle.flat_process.specs.Assigns.{fresh, IsAssign, IsValue, gate_over};
 
 use cdc_base::{List, Name, NoMemory, Place, Stop};
-use flat_form::flat::{FExpr, FlatAssign};
+use flat_form::flat::{FExpr, FUnaryOp, FlatAssign};
 use flat_form::memory::{boxed, push};
 use flat_names::design::Design;
 use flat_names::expr::resolve;
@@ -34,7 +34,7 @@ use flat_targets::target::{
     Assigned, Fixed, first_index, is_target, nowhere, whole_target, wire_expr_target, wire_target,
 };
 use std::alloc::Global;
-use verilog_ast::{BinaryOp, Expr, GateKind, Target, UnaryOp};
+use verilog_ast::{BinaryOp, Expr, GateKind, Target};
 
 /// `assign target = value`.
 pub fn add_assign(
@@ -291,7 +291,7 @@ fn folded(alloc: Global, kind: GateKind, bits: Vec<FExpr>) -> Result<FExpr, NoMe
     };
     if is_inverted(kind) {
         return Ok(FExpr::Unary {
-            op: UnaryOp::Not,
+            op: FUnaryOp::Not,
             a: boxed(alloc, value)?,
             width: 1,
         });

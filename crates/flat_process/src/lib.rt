@@ -4,4 +4,5 @@
 pub mod always;
 pub mod assign;
 mod reset;
+mod sensitivity;
 pub mod start;

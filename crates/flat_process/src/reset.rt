@@ -1,5 +1,5 @@
 //! Resets of clocked processes: the form `if (reset) constants else rest`, also with a clear beside the reset.
-ghost use Rattle.std.specs.Prelude.{◌≡◌, ℕ, ◌+◌, ◌-◌, ◌^◌, ◌/◌, ◌<◌, ◌≤◌, ◌==◌, ◌++◌, ◌∷◌, [], true, false, not, List, length, map, option_map, IfOk};
+ghost use Rattle.std.specs.Prelude.{◌≡◌, ℕ, ◌+◌, ◌-◌, ◌^◌, ◌/◌, ◌<◌, ◌≤◌, ◌==◌, ◌++◌, ◌∷◌, [], true, false, not, List, length, map, None, option_map, IfOk};
 ghost use Rattle.std.specs.Option.{option_map_or};
 ghost use Rattle.cdc_base.specs.declared.signal.ResetPin.{ResetPin};
 ghost use Rattle.verilog_reading.specs.ExprTree.{tree_of, trees_of, target_tree_of, target_trees_of};
@@ -10,7 +10,8 @@ ghost use Rattle.flat_unfolding.specs.Names as n;
 ghost use Rattle.flat_unfolding.specs.Names.{width_at};
 ghost use Rattle.flat_unfolding.specs.Expressions.{Term};
 ghost use Rattle.flat_unfolding.specs.Targets.{Aim};
-ghost use Rattle.flat_unfolding.specs.Resets.{peeled as peeled_of, names_in, all_names_in, signals_among, is_reset as is_reset_of, are_resets as are_resets_of, is_test as is_test_of, at_level, reset_signals as reset_signals_of, is_one_bit as is_one_bit_of, is_or as is_or_of, both_signals as both_signals_of, tested_signals as tested_signals_of, has_variable_index as has_variable_index_of, has_variable_index_in, row_given as row_given_of, rows_given as rows_given_of, branch_given};
+ghost use Rattle.flat_unfolding.specs.Mentions.{names_in, all_names_in};
+ghost use Rattle.flat_unfolding.specs.Resets.{peeled as peeled_of, signals_among, is_reset as is_reset_of, are_resets as are_resets_of, is_test as is_test_of, at_level, reset_signals as reset_signals_of, is_one_bit as is_one_bit_of, is_or as is_or_of, both_signals as both_signals_of, tested_signals as tested_signals_of, has_variable_index as has_variable_index_of, has_variable_index_in, row_given as row_given_of, rows_given as rows_given_of, branch_given};
 ghost use Rattle.flat_unfolding.specs.Design as u;
 ghost use Rattle.flat_unfolding.specs.Formed.{IsFormed, IsTargetFormed, AreTargetsFormed, IsStmtFormed, AreRowsFormed};
 ghost use Rattle.flat_names.specs.Looks.{Shows, IsFit};
@@ -94,7 +95,12 @@ fn add_names(look: &Look, expr: &Expr, signals: &mut Signals) -> Result<(), NoMe
             signals.add(look, name)?;
             add_names(look, index, signals)
         }
-        Expr::Part { name, left, right } => {
+        Expr::Part {
+            name,
+            left,
+            right,
+            ..
+        } => {
             signals.add(look, name)?;
             add_names(look, left, signals)?;
             add_names(look, right, signals)
@@ -303,6 +309,7 @@ fn add_given(look: &Look, stmt: &Stmt, given: &mut Vec<Given>) -> Result<bool, N
         blocking: false,
         target,
         value,
+        ..
     } = stmt
     else {
         return Ok(false);
@@ -322,7 +329,7 @@ fn add_constant(
 ) -> Result<bool, NoMemory>
     ensures { (l : n.Look) (us : List u.Given) → Shows look.now l → IsFit l → IsTargetFormed (target_tree_of target.now) → IsFormed (tree_of value.now)
         → has_variable_index_of l (target_tree_of target.now) ≡ false → AreGiven (length l.entries) us given.old.items
-        → IfOk result (λ b. AddsGiven (length l.entries) us (row_given_of l (set_tree false (target_tree_of target.now) (tree_of value.now))) b given.new.items) }
+        → IfOk result (λ b. AddsGiven (length l.entries) us (row_given_of l (set_tree false None (target_tree_of target.now) (tree_of value.now))) b given.new.items) }
 {
     let mut unheard = Faults::new(look.alloc, Order::Other);
     let fixed = fixed_target(look, target, Assigned::Registers, &mut unheard)?;

@@ -1,5 +1,5 @@
 //! Start values of registers, by declaration or by `initial`.
-ghost use Rattle.std.specs.Prelude.{◌≡◌, ℕ, ◌<◌, ◌++◌, not, ◌||◌, [], false, List, length, Option, Some, is_some, slice_get, option_map, map, IfOk, IfErr};
+ghost use Rattle.std.specs.Prelude.{◌≡◌, ℕ, ◌<◌, ◌++◌, not, ◌||◌, [], false, List, length, Option, Some, None, is_some, slice_get, option_map, map, IfOk, IfErr};
 ghost use Rattle.std.specs.Option.{option_map_or};
 ghost use Rattle.refusals.specs.Numbers.{HasNumberIn, unfolding_numbers};
 ghost use Rattle.cdc_base.specs.declared.signal.ResetPin.{ResetPin};
@@ -241,6 +241,7 @@ fn row_start(look: &Look, stmt: &Stmt, faults: &mut Faults) -> Result<Option<Sta
             blocking,
             target,
             value,
+            ..
         } => initial_start(look, *blocking, target, value, faults),
         other => {
             faults.note(Rule::WrongAssignment, "")?;
@@ -258,8 +259,8 @@ fn initial_start(
     faults: &mut Faults,
 ) -> Result<Option<Start>, NoMemory>
     ensures { (l : n.Look) → Shows look.now l → IsFit l → IsTargetFormed (target_tree_of target.now) → IsFormed (tree_of value.now)
-        → IfOk result (λ o. IsOne (row_one l (set_tree is_blocking (target_tree_of target.now) (tree_of value.now))) (row_broken l (set_tree is_blocking (target_tree_of target.now) (tree_of value.now))) o
-        × (faults.new ≡ all_noted faults.old (row_broken l (set_tree is_blocking (target_tree_of target.now) (tree_of value.now))))) }
+        → IfOk result (λ o. IsOne (row_one l (set_tree is_blocking None (target_tree_of target.now) (tree_of value.now))) (row_broken l (set_tree is_blocking None (target_tree_of target.now) (tree_of value.now))) o
+        × (faults.new ≡ all_noted faults.old (row_broken l (set_tree is_blocking None (target_tree_of target.now) (tree_of value.now))))) }
 {
     let fixed = fixed_target(look, target, Assigned::Registers, faults)?;
     note_register(look, is_blocking, target, faults)?;

@@ -1,5 +1,6 @@
 -- What an assignment is and notes, by what its target and its value are.
-use Rattle.std.proofs.Common.{◌≡◌, ◌+◌, ◌^◌, ◌≤◌, Bool, true, false, cond, ◌&&◌, nat_le, List, [], Option, Some, None, refl, sym, ap, ap₂, subst, ◌∙◌, arith, leb-true}
+use Rattle.std.proofs.Common.{◌≡◌, ◌+◌, ◌^◌, ◌≤◌, Bool, true, false, cond, ◌&&◌, ◌||◌, nat_le, List, [], Option, Some, None, is_some, refl, sym, ap, ap₂, subst, ◌∙◌, arith, leb-true}
+use Rattle.verilog_ast.specs.declared.Delay.{Delay}
 use Rattle.verilog_reading.specs.ExprTree.{ExprTree, TargetTree, whole, index_of, part_of, join_of}
 use Rattle.verilog_reading.specs.StmtTree.{set}
 use Rattle.flat_meaning.specs.Flat.{size}
@@ -73,7 +74,7 @@ meets-goal : (l : Look) → IsFit l → (t : TargetTree) → Meets (goal l t)
 meets-goal l h (whole x) = tt
 meets-goal l h (index_of x i) = let v = read l i in
     meets-after l _ _ (meets-chosen l x v (is_sound v) (meant_goal l of_registers x v (meaning l x)) (meets-meant l x v (meaning l x) (few-words l h x)))
-meets-goal l h (part_of x i j) = tt
+meets-goal l h (part_of x kind i j) = tt
 meets-goal l h (join_of ts) = tt
 
 pub record IsWordOf (m : code.Memory) (i : FExpr) : Type 0 where
@@ -97,14 +98,14 @@ no-word : (b : Bool) (x : Text) (now : Noted) → now ≡ all_noted now (breaks_
 no-word true x now = refl
 no-word false x now = refl
 
-module _ (l : Look) (k : Kind) (b : Bool) (t : TargetTree) (e : ExprTree) (start aimed settled told : Noted) where
+module _ (l : Look) (k : Kind) (b : Bool) (delay : Option Delay) (t : TargetTree) (e : ExprTree) (start aimed settled told : Noted) where
   -- what is noted before it is known whether a blocking assignment has a word of a memory as its target
   pub record IsNoted : Type 0 where
     pub target : aimed ≡ all_noted start (broken_in (goal l t))
     pub value : settled ≡ all_noted aimed (read l e).broken
     pub stray : told ≡ all_noted settled (breaks_if (is_stray k b) 313 (first_name t))
 
-  set-noted : IsNoted → (last : Noted) → last ≡ all_noted told (breaks_if (b && is_word (goal l t)) 319 (first_name t)) → last ≡ all_noted start (done l k (set b t e)).broken
+  set-noted : IsNoted → (last : Noted) → last ≡ all_noted told (breaks_if (b && is_word (goal l t)) 319 (first_name t)) → last ≡ all_noted start (done l k (set b delay t e)).broken
   set-noted h last n =
       let x = first_name t in
       let us = goal_broken (goal l t) in
@@ -114,27 +115,27 @@ module _ (l : Look) (k : Kind) (b : Bool) (t : TargetTree) (e : ExprTree) (start
       n ∙ ap (λ g. all_noted g ys) (h.stray ∙ ap (λ g. all_noted g ws) (h.value ∙ ap (λ g. all_noted g vs) (h.target ∙ ap (all_noted start) (same-broken (goal l t))))) ∙ sym (noted-four start us vs ws ys)
 
   pub fixed-done : IsNoted → (r : aim.Aim) → IsGoal (goal l t) r → (v : Resolved) → IsRead (read l e) v → (q : Fixed) → r ≡ a.Fixed q
-      → IsDone (done l k (set b t e)) (form.Set b q.target v.expr) × (told ≡ all_noted start (done l k (set b t e)).broken)
+      → IsDone (done l k (set b delay t e)) (form.Set b q.target v.expr) × (told ≡ all_noted start (done l k (set b delay t e)).broken)
   fixed-done n r g v h q is =
       let p = fixed-goal (goal l t) r q is g in (
-        done-set l k b t e p.0 q v (form.Set b q.target v.expr) p.1 p.2 h (builds-set b q.target v.expr),
+        done-set l k b delay t e p.0 q v (form.Set b q.target v.expr) p.1 p.2 h (builds-set b q.target v.expr),
         set-noted n told (no-word b (first_name t) told ∙ ap (λ z. all_noted told (breaks_if (b && is_word z) 319 (first_name t))) (sym p.1)),
       )
 
   pub written-done : IsNoted → (r : aim.Aim) → IsGoal (goal l t) r → (v : Resolved) → IsRead (read l e) v → (m : code.Memory) (i : FExpr) → r ≡ a.Word m i → b ≡ false
       → (s : FStmt) → (stmt_of s ≡ memory_write (memory_of m) (expr_of i) (expr_of v.expr)) × (is_sized v.expr ≡ true → stmt_keeps_sizes s ≡ true)
-      → IsDone (done l k (set b t e)) s × (told ≡ all_noted start (done l k (set b t e)).broken)
+      → IsDone (done l k (set b delay t e)) s × (told ≡ all_noted start (done l k (set b delay t e)).broken)
   written-done n r g v h m i is o s w =
       let p = word-goal (goal l t) r m i is g in (
-        subst (λ c. IsDone (done l k (set c t e)) s) (sym o) (done-word l k t e (memory_of m) (expr_of i) p.0 v s p.1 h w.0 w.1),
+        subst (λ c. IsDone (done l k (set c delay t e)) s) (sym o) (done-word l k delay t e (memory_of m) (expr_of i) p.0 v s p.1 h w.0 w.1),
         set-noted n told (ap (λ c. all_noted told (breaks_if (c && is_word (goal l t)) 319 (first_name t))) (sym o)),
       )
 
   pub unassigned-done : IsNoted → (r : aim.Aim) → IsGoal (goal l t) r → (v : Resolved) → IsRead (read l e) v → (m : code.Memory) (i : FExpr) → r ≡ a.Word m i → b ≡ true
       → (last : Noted) → last ≡ all_noted told (breaks 319 (first_name t)) → (s : FStmt) → stmt_of s ≡ unassigned (expr_of i) (expr_of v.expr)
-      → IsDone (done l k (set b t e)) s × (last ≡ all_noted start (done l k (set b t e)).broken)
+      → IsDone (done l k (set b delay t e)) s × (last ≡ all_noted start (done l k (set b delay t e)).broken)
   unassigned-done n r g v h m i is o last d s w =
       let p = word-goal (goal l t) r m i is g in (
-        subst (λ c. IsDone (done l k (set c t e)) s) (sym o) (done-unassigned l k t e (memory_of m) (expr_of i) p.0 v s p.1 h w),
+        subst (λ c. IsDone (done l k (set c delay t e)) s) (sym o) (done-unassigned l k delay t e (memory_of m) (expr_of i) p.0 v s p.1 h w),
         set-noted n last (d ∙ ap₂ (λ c z. all_noted told (breaks_if (c && is_word z) 319 (first_name t))) (sym o) (sym p.1)),
       )

@@ -1,10 +1,11 @@
 -- Statements by their parts.
-use Rattle.std.proofs.Common.{◌≡◌, ℕ, zero, suc, ◌^◌, max, Bool, true, false, cond, ◌&&◌, ◌||◌, List, [], ◌∷◌, ◌++◌, map, ◌≤◌, refl, sym, ap, ap₂, subst, ◌∙◌, rules, arith}
+use Rattle.std.proofs.Common.{◌≡◌, ℕ, zero, suc, ◌^◌, max, Bool, true, false, cond, ◌&&◌, ◌||◌, List, [], ◌∷◌, ◌++◌, map, Option, is_some, ◌≤◌, refl, sym, ap, ap₂, subst, ◌∙◌, rules, arith}
 use Rattle.std.proofs.lemmas.Bool.{and_parts}
 use Rattle.std.specs.List.{list_all}
 use Rattle.cell_graph.specs.Tree.{all_below}
+use Rattle.verilog_ast.specs.declared.Delay.{Delay}
 use Rattle.verilog_reading.specs.ExprTree.{ExprTree, TargetTree}
-use Rattle.verilog_reading.specs.StmtTree.{StmtTree, null, set, when, either, switch, switch_else, block, StmtTrees, no_rows, and_rows, ArmTrees, no_arms, and_arms}
+use Rattle.verilog_reading.specs.StmtTree.{StmtTree, null, set, when, either, switch, switch_else, subject_of, block, StmtTrees, no_rows, and_rows, LabelTree, ArmTrees, no_arms, and_arms}
 use Rattle.flat_meaning.specs.Flat.{Expr, Exprs, Stmt, Null, Set, If, Case, Block, Items, no_items, default_item, item, stmt, size, largest, largest_label, case_size}
 use Rattle.flat_meaning.specs.Full.{are_const, labels_const, some_label, has_label, is_full}
 use Rattle.flat_form.specs.declared.flat.FExpr.{FExpr}
@@ -22,7 +23,7 @@ use Rattle.flat_unfolding.specs.Outcome.{Broken, breaks_if}
 use Rattle.flat_unfolding.specs.Names.{Memory, Look}
 use Rattle.flat_unfolding.specs.Expressions.{Term, is_empty, is_sound, all_broken, all_sound, joined, read}
 use Rattle.flat_unfolding.specs.Targets.{Aim, Goal, fixed, a_word, goal, first_name}
-use Rattle.flat_unfolding.specs.Statements.{Kind, is_stray, unassigned, with_last, missing_last, done, done_all, arms, set_done}
+use Rattle.flat_unfolding.specs.Statements.{Kind, is_stray, unassigned, with_last, missing_last, done, done_all, arms, read_list, set_done}
 use Rattle.flat_unfolding.specs.Memories.{memory_write, writes_from}
 use Rattle.flat_unfolding.specs.Widths.{keeps_sizes, all_true, stmt_step, arm_step, stmt_keeps_sizes, target_keeps_sizes}
 use Rattle.flat_unfolding.proofs.Steps.{none_of_both}
@@ -136,11 +137,11 @@ list-right [] h = refl
 list-right (x ∷ xs) h = let p = and_parts (is_sized x) (all_right (map kept_of xs)) h in both-true (is_sized x) (list_all is_sized xs) p.0 (list-right xs p.1)
 
 module _ (l : Look) (k : Kind) where
-  pub arms-more : (labels : List ExprTree) (s : StmtTree) (rest : ArmTrees) (p : Parts) (x : FStmt) (i : FCaseItem) (xs : List FCaseItem) (sound constant : Bool)
-      → AreRead (map (read l) labels) p → IsDone (done l k s) x → IsItem i p.items.items x → AreArms (arms l k rest) xs sound constant
+  pub arms-more : (labels : List LabelTree) (s : StmtTree) (rest : ArmTrees) (p : Parts) (x : FStmt) (i : FCaseItem) (xs : List FCaseItem) (sound constant : Bool)
+      → AreRead (read_list l k labels) p → IsDone (done l k s) x → IsItem i p.items.items x → AreArms (arms l k rest) xs sound constant
       → AreArms (arms l k (and_arms labels s rest)) (i ∷ xs) (p.is_sound && sound) (p.is_constant && constant)
   arms-more labels s rest p x i xs sound constant r d m a =
-      let ts = map (read l) labels in let q = all_broken ts in let o = (done l k s).broken in let n = (arms l k rest).broken in
+      let ts = read_list l k labels in let q = all_broken ts in let o = (done l k s).broken in let n = (arms l k rest).broken in
       let exprs : p.is_sound ≡ true → exprs_of (map expr_of p.items.items) ≡ joined ts = λ e. exprs-same p.items.items ts (r.exprs e) in
       let sized : p.is_sound ≡ true → list_all is_sized p.items.items ≡ true = λ e. list-right p.items.items (r.sized e) in
       let here : (all_sound ts && (arms l k rest).is_sound) ≡ true → p.is_sound ≡ true = λ e. r.sound ∙ (and_parts (all_sound ts) (arms l k rest).is_sound e).0 in
@@ -272,7 +273,7 @@ alike-last c k xs ys r g false e f = alike-case_with c k xs ys Null Null r g (al
 module _ (l : Look) (k : Kind) where
   pub done-switch : (e : ExprTree) (rows : ArmTrees) (c : Resolved) (is : List FCaseItem) (sound constant : Bool) (r : FStmt) (b : Bool) → IsRead (read l e) c → AreArms (arms l k rows) is sound constant
       → b ≡ ((c.is_sound && sound && constant) && is_full (case_size (expr_of c.expr) (items_in is)) (items_in is))
-      → stmt_of r ≡ Case (expr_of c.expr) (with_last (items_in is) (last_if b)) → stmt_keeps_sizes r ≡ (keeps_sizes c.expr && (all_true (map arm_keeps_sizes is) && true)) → IsDone (done l k (switch e rows)) r
+      → stmt_of r ≡ Case (expr_of c.expr) (with_last (items_in is) (last_if b)) → stmt_keeps_sizes r ≡ (keeps_sizes c.expr && (all_true (map arm_keeps_sizes is) && true)) → IsDone (done l k (switch (subject_of false e) rows)) r
   done-switch e rows c is sound constant r b h a t q z =
       let v = read l e in let m = arms l k rows in
       let f = is_full (case_size (expr_of c.expr) (items_in is)) (items_in is) in let g = is_full (case_size v.expr m.items) m.items in
@@ -284,14 +285,14 @@ module _ (l : Look) (k : Kind) where
         stmt = λ n. let p = none_of_both v.broken m.broken n in q ∙ ap (λ x. Case x (with_last (items_in is) (last_if b))) (read-expr v c h p.0) ∙ ap₂ (λ x y. Case v.expr (with_last x y)) (a.items p.1) last;
         sizes = λ n. let p = none_of_both v.broken m.broken n in
             z ∙ both-true (keeps_sizes c.expr) (all_true (map arm_keeps_sizes is) && true) (read-keeps v c h p.0) (both-true (all_true (map arm_keeps_sizes is)) true (a.sizes p.1) refl);
-        alike = subst (λ (x : Stmt). AreAlike x (done l k (switch e rows)).stmt) (sym q)
+        alike = subst (λ (x : Stmt). AreAlike x (done l k (switch (subject_of false e) rows)).stmt) (sym q)
             (subst (λ (y : Items). AreAlike (Case (expr_of c.expr) (with_last (items_in is) (last_if b))) (Case v.expr (with_last m.items y))) last
             (alike-last (expr_of c.expr) v.expr (items_in is) m.items h.reads a.alike b (λ y. (and_parts (c.is_sound && sound && constant) f (sym t ∙ y)).1) (λ y. last-holds (is_sound v) m.is_sound m.is_constant g (sym test ∙ y))));
         full = subst IsFull (sym q) (last-full (expr_of c.expr) (items_in is) b a.full (λ y. (and_parts (c.is_sound && sound && constant) f (sym t ∙ y)).1));
       }
 
   pub done-switch_else : (e : ExprTree) (rows : ArmTrees) (d : StmtTree) (c : Resolved) (is : List FCaseItem) (sound constant : Bool) (x r : FStmt) → IsRead (read l e) c → AreArms (arms l k rows) is sound constant → IsDone (done l k d) x
-      → Builds r (Case (expr_of c.expr) (items_of (map arm_of is) (default_item (stmt_of x)))) (keeps_sizes c.expr && (all_true (map arm_keeps_sizes is) && stmt_keeps_sizes x)) → IsDone (done l k (switch_else e rows d)) r
+      → Builds r (Case (expr_of c.expr) (items_of (map arm_of is) (default_item (stmt_of x)))) (keeps_sizes c.expr && (all_true (map arm_keeps_sizes is) && stmt_keeps_sizes x)) → IsDone (done l k (switch_else (subject_of false e) rows d)) r
   done-switch_else e rows d c is sound constant x r h a i b =
       let v = read l e in let m = arms l k rows in let o = (done l k d).broken in
       let q : stmt_of r ≡ Case (expr_of c.expr) (with_last (items_in is) (default_item (stmt_of x))) = b.stmt ∙ ap (Case (expr_of c.expr)) (items-last (map arm_of is) (default_item (stmt_of x))) in record {
@@ -300,16 +301,16 @@ module _ (l : Look) (k : Kind) where
         sizes = λ n. let p = none_of_both (v.broken ++ m.broken) o n in let g = none_of_both v.broken m.broken p.0 in
             b.sizes ∙ both-true (keeps_sizes c.expr) (all_true (map arm_keeps_sizes is) && stmt_keeps_sizes x) (read-keeps v c h g.0)
             (both-true (all_true (map arm_keeps_sizes is)) (stmt_keeps_sizes x) (a.sizes g.1) (i.sizes p.1));
-        alike = subst (λ (y : Stmt). AreAlike y (done l k (switch_else e rows d)).stmt) (sym q) (alike-case_with (expr_of c.expr) v.expr (items_in is) m.items (stmt_of x) (done l k d).stmt h.reads a.alike i.alike);
+        alike = subst (λ (y : Stmt). AreAlike y (done l k (switch_else (subject_of false e) rows d)).stmt) (sym q) (alike-case_with (expr_of c.expr) v.expr (items_in is) m.items (stmt_of x) (done l k d).stmt h.reads a.alike i.alike);
         full = subst IsFull (sym q) (with-full (expr_of c.expr) (items_in is) (stmt_of x) a.full i.full);
       }
 
 -- ---- assignments
 
 module _ (l : Look) (k : Kind) where
-  pub done-set : (blocking : Bool) (t : TargetTree) (e : ExprTree) (a : Aim) (f : Fixed) (v : Resolved) (r : FStmt) → goal l t ≡ fixed a → IsAim a f → IsRead (read l e) v
-      → Builds r (Set blocking (target_of f.target) (expr_of v.expr)) (target_keeps_sizes f.target && keeps_sizes v.expr) → IsDone (done l k (set blocking t e)) r
-  done-set blocking t e a f v r g h i b = subst (λ (p : Goal). IsDone (set_done l k blocking t p (read l e)) r) (sym g) (record {
+  pub done-set : (blocking : Bool) (delay : Option Delay) (t : TargetTree) (e : ExprTree) (a : Aim) (f : Fixed) (v : Resolved) (r : FStmt) → goal l t ≡ fixed a → IsAim a f → IsRead (read l e) v
+      → Builds r (Set blocking (target_of f.target) (expr_of v.expr)) (target_keeps_sizes f.target && keeps_sizes v.expr) → IsDone (done l k (set blocking delay t e)) r
+  done-set blocking delay t e a f v r g h i b = subst (λ (p : Goal). IsDone (set_done l k blocking t p (read l e)) r) (sym g) (record {
     stmt = λ n. b.stmt ∙ ap₂ (λ p q. Set blocking p q) h.target (read-expr (read l e) v i (value n));
     sizes = λ n. b.sizes ∙ both-true (target_keeps_sizes f.target) (keeps_sizes v.expr) (target-sized-keeps f.target h.sized) (read-keeps (read l e) v i (value n));
     alike = subst (λ (p : Stmt). AreAlike p (Set blocking a.target (read l e).expr)) (sym b.stmt) (alike-set blocking blocking (target_of f.target) a.target (expr_of v.expr) (read l e).expr h.target i.reads);
@@ -319,9 +320,9 @@ module _ (l : Look) (k : Kind) where
       value : (set_done l k blocking t (fixed a) (read l e)).broken ≡ [] → (read l e).broken ≡ []
       value n = (none_of_both a.broken (read l e).broken (none_of_both (a.broken ++ (read l e).broken) _ (none_of_both (a.broken ++ (read l e).broken ++ breaks_if (is_stray k blocking) 313 (first_name t)) _ n).0).0).1
 
-  pub done-word : (t : TargetTree) (e : ExprTree) (m : Memory) (i : Expr) (bs : List Broken) (v : Resolved) (r : FStmt) → goal l t ≡ a_word m i bs → IsRead (read l e) v
-      → stmt_of r ≡ memory_write m i (expr_of v.expr) → (is_sized v.expr ≡ true → stmt_keeps_sizes r ≡ true) → IsDone (done l k (set false t e)) r
-  done-word t e m i bs v r g h b z = subst (λ (p : Goal). IsDone (set_done l k false t p (read l e)) r) (sym g) (record {
+  pub done-word : (delay : Option Delay) (t : TargetTree) (e : ExprTree) (m : Memory) (i : Expr) (bs : List Broken) (v : Resolved) (r : FStmt) → goal l t ≡ a_word m i bs → IsRead (read l e) v
+      → stmt_of r ≡ memory_write m i (expr_of v.expr) → (is_sized v.expr ≡ true → stmt_keeps_sizes r ≡ true) → IsDone (done l k (set false delay t e)) r
+  done-word delay t e m i bs v r g h b z = subst (λ (p : Goal). IsDone (set_done l k false t p (read l e)) r) (sym g) (record {
     stmt = λ n. b ∙ ap (memory_write m i) (read-expr (read l e) v h (value n));
     sizes = λ n. z (read-sized (read l e) v h (value n));
     alike = subst (λ (p : Stmt). AreAlike p (memory_write m i (read l e).expr)) (sym b) (alike-write m i (expr_of v.expr) (read l e).expr h.reads);
@@ -332,9 +333,9 @@ module _ (l : Look) (k : Kind) where
       value n = (none_of_both bs (read l e).broken (none_of_both (bs ++ (read l e).broken) _ (none_of_both (bs ++ (read l e).broken ++ breaks_if (is_stray k false) 313 (first_name t)) _ n).0).0).1
 
   -- a blocking assignment to a word breaks a rule
-  pub done-unassigned : (t : TargetTree) (e : ExprTree) (m : Memory) (i : Expr) (bs : List Broken) (v : Resolved) (r : FStmt) → goal l t ≡ a_word m i bs → IsRead (read l e) v
-      → stmt_of r ≡ unassigned i (expr_of v.expr) → IsDone (done l k (set true t e)) r
-  done-unassigned t e m i bs v r g h b = subst (λ (p : Goal). IsDone (set_done l k true t p (read l e)) r) (sym g) (record {
+  pub done-unassigned : (delay : Option Delay) (t : TargetTree) (e : ExprTree) (m : Memory) (i : Expr) (bs : List Broken) (v : Resolved) (r : FStmt) → goal l t ≡ a_word m i bs → IsRead (read l e) v
+      → stmt_of r ≡ unassigned i (expr_of v.expr) → IsDone (done l k (set true delay t e)) r
+  done-unassigned delay t e m i bs v r g h b = subst (λ (p : Goal). IsDone (set_done l k true t p (read l e)) r) (sym g) (record {
     stmt = λ n. absurd (broken n);
     sizes = λ n. absurd (broken n);
     alike = subst (λ (p : Stmt). AreAlike p (unassigned i (read l e).expr)) (sym b) (alike-unassigned i (expr_of v.expr) (read l e).expr h.reads);

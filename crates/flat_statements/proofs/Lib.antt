@@ -5,6 +5,10 @@ pub mod Done
 pub mod Loops
 pub mod Trees
 pub mod Forms
+pub mod Sides
+pub mod Tests
+pub mod Chains
+pub mod Items
 pub mod Assignments
 pub mod Written
 pub mod Paths

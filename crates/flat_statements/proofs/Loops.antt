@@ -3,20 +3,19 @@ use Rattle.std.proofs.Common.{◌≡◌, ℕ, suc, ◌+◌, ◌^◌, ◌<◌, �
 use Rattle.std.specs.Prelude.{All}
 use Rattle.std.proofs.lemmas.List.Elements.{All-tail}
 use Rattle.std.proofs.lemmas.Bool.{and_parts}
-use Rattle.verilog_ast.specs.declared.Expr.{Expr}
+use Rattle.verilog_ast.specs.declared.Label.{Label}
 use Rattle.verilog_ast.specs.declared.Stmt.{Stmt}
 use Rattle.verilog_ast.specs.declared.CaseItem.{CaseItem}
-use Rattle.verilog_reading.specs.ExprTree.{tree_of}
-use Rattle.verilog_reading.specs.StmtTree.{StmtTrees, stmt_tree_of, stmt_trees_of, ArmTrees, arms_of}
+use Rattle.verilog_reading.specs.StmtTree.{StmtTrees, stmt_tree_of, stmt_trees_of, ArmTrees, arms_of, label_tree_of}
 use Rattle.flat_meaning.specs.Flat as f
 use Rattle.flat_form.specs.declared.flat.FStmt.{FStmt}
 use Rattle.flat_form.specs.declared.flat.FCaseItem.{FCaseItem}
 use Rattle.flat_form.specs.View.{stmt_of, stmts_of}
 use Rattle.flat_unfolding.specs.Names.{Memory, Look}
-use Rattle.flat_unfolding.specs.Expressions.{Term, all_broken, read, is_index}
+use Rattle.flat_unfolding.specs.Expressions.{Term, all_broken, is_index}
 use Rattle.flat_unfolding.specs.Memories.{writes_from}
-use Rattle.flat_unfolding.specs.Statements.{Kind, done, done_all, arms}
-use Rattle.flat_unfolding.specs.Formed.{IsFormed, AreRowsFormed, AreArmsFormed}
+use Rattle.flat_unfolding.specs.Statements.{Kind, done, done_all, arms, label_term, read_list}
+use Rattle.flat_unfolding.specs.Formed.{IsLabelFormed, AreRowsFormed, AreArmsFormed}
 use Rattle.flat_unfolding.specs.Widths.{all_true, stmt_keeps_sizes}
 use Rattle.flat_names.specs.declared.resolved.Parts.{Parts}
 use Rattle.flat_names.specs.Noting.{Noted, all_noted}
@@ -26,7 +25,7 @@ use Rattle.flat_statements.specs.Statements.{arm_tree_of, IsDone, AreDone, AreAr
 use Rattle.flat_statements.proofs.Sizes.{both-true}
 use Rattle.flat_statements.proofs.Done.{done-none, done-more, arms-none, arms-more, IsItem, noted-three}
 
-push-push : {A : Type 0} (xs : List A) (x : A) (ys : List A) → (xs ++ x ∷ []) ++ ys ≡ xs ++ (x ∷ ys)
+pub push-push : {A : Type 0} (xs : List A) (x : A) (ys : List A) → (xs ++ x ∷ []) ++ ys ≡ xs ++ (x ∷ ys)
 push-push [] x ys = refl
 push-push (y ∷ xs) x ys = ap (λ zs. y ∷ zs) (push-push xs x ys)
 
@@ -76,12 +75,12 @@ module _ (l : Look) (k : Kind) where
   and-and false b c = refl
 
   pub arms-step : (all rest left : List CaseItem) (x : CaseItem) (is : List FCaseItem) (sound constant : Bool) (p : Parts) (b : FStmt) (i : FCaseItem) (before now next : Noted)
-      → ArmsSoFar all left is sound constant before now → left ≡ x ∷ rest → AreRead (map (read l) (arm_tree_of x).labels) p → IsDone (done l k (arm_tree_of x).body) b → IsItem i p.items.items b
-      → next ≡ all_noted (all_noted now (all_broken (map (read l) (arm_tree_of x).labels))) (done l k (arm_tree_of x).body).broken
+      → ArmsSoFar all left is sound constant before now → left ≡ x ∷ rest → AreRead (read_list l k (arm_tree_of x).labels) p → IsDone (done l k (arm_tree_of x).body) b → IsItem i p.items.items b
+      → next ≡ all_noted (all_noted now (all_broken (read_list l k (arm_tree_of x).labels))) (done l k (arm_tree_of x).body).broken
       → ArmsSoFar all rest (is ++ i ∷ []) (sound && p.is_sound) (constant && p.is_constant) before next
   arms-step all rest left x is sound constant p b i before now next h e r d m n =
       let g = subst (λ ys. ArmsSoFar all ys is sound constant before now) e h in
-      let q = all_broken (map (read l) (arm_tree_of x).labels) in let o = (done l k (arm_tree_of x).body).broken in let z = (arms l k (arm_rows rest)).broken in record {
+      let q = all_broken (read_list l k (arm_tree_of x).labels) in let o = (done l k (arm_tree_of x).body).broken in let z = (arms l k (arm_rows rest)).broken in record {
         formed = g.formed.2;
         whole = λ more s c a. subst (λ (y : List FCaseItem). AreArms (arms l k (arm_rows all)) y ((sound && p.is_sound) && s) ((constant && p.is_constant) && c)) (sym (push-push is i more))
             (subst (λ (t : Bool). AreArms (arms l k (arm_rows all)) (is ++ (i ∷ more)) ((sound && p.is_sound) && s) t) (and-and constant p.is_constant c)
@@ -105,32 +104,32 @@ module _ (l : Look) (k : Kind) where
 
 -- ---- labels
 
-abbrev terms : Look → List Expr → List Term
-terms l xs = map (read l) (map tree_of xs)
+abbrev terms : Look → Kind → List Label → List Term
+terms l k xs = read_list l k (map label_tree_of xs)
 
-module _ (l : Look) where
-  pub record LabelsSoFar (all rest : List Expr) (p : Parts) (before now : Noted) : Type 0 where
-    pub formed : All IsFormed (map tree_of rest)
+module _ (l : Look) (k : Kind) where
+  pub record LabelsSoFar (all rest : List Label) (p : Parts) (before now : Noted) : Type 0 where
+    pub formed : All IsLabelFormed (map label_tree_of rest)
     pub ts : List Term
     pub are : AreRead ts p
-    pub whole : ts ++ terms l rest ≡ terms l all
-    pub noted : all_noted now (all_broken (terms l rest)) ≡ all_noted before (all_broken (terms l all))
+    pub whole : ts ++ terms l k rest ≡ terms l k all
+    pub noted : all_noted now (all_broken (terms l k rest)) ≡ all_noted before (all_broken (terms l k all))
 
-  pub labels-start : (all : List Expr) (p : Parts) (f : Noted) → All IsFormed (map tree_of all) → AreRead [] p → LabelsSoFar all all p f f
+  pub labels-start : (all : List Label) (p : Parts) (f : Noted) → All IsLabelFormed (map label_tree_of all) → AreRead [] p → LabelsSoFar all all p f f
   labels-start all p f h r = record { formed = h; ts = []; are = r; whole = refl; noted = refl }
 
-  pub labels-step : (all rest left : List Expr) (x : Expr) (p q : Parts) (before now next : Noted) → (h : LabelsSoFar all left p before now) → left ≡ x ∷ rest → AreRead (h.ts ++ read l (tree_of x) ∷ []) q
-      → next ≡ all_noted now (read l (tree_of x)).broken → LabelsSoFar all rest q before next
+  pub labels-step : (all rest left : List Label) (x : Label) (p q : Parts) (before now next : Noted) → (h : LabelsSoFar all left p before now) → left ≡ x ∷ rest → AreRead (h.ts ++ label_term l k (label_tree_of x) ∷ []) q
+      → next ≡ all_noted now (label_term l k (label_tree_of x)).broken → LabelsSoFar all rest q before next
   labels-step all rest left x p q before now next h e r n =
-      let a = (read l (tree_of x)).broken in let b = all_broken (terms l rest) in record {
-        formed = All-tail IsFormed (tree_of x) (map tree_of rest) (subst (λ ys. All IsFormed (map tree_of ys)) e h.formed);
-        ts = h.ts ++ read l (tree_of x) ∷ [];
+      let a = (label_term l k (label_tree_of x)).broken in let b = all_broken (terms l k rest) in record {
+        formed = All-tail IsLabelFormed (label_tree_of x) (map label_tree_of rest) (subst (λ ys. All IsLabelFormed (map label_tree_of ys)) e h.formed);
+        ts = h.ts ++ label_term l k (label_tree_of x) ∷ [];
         are = r;
-        whole = push-push h.ts (read l (tree_of x)) (terms l rest) ∙ sym (ap (λ ys. h.ts ++ terms l ys) e) ∙ h.whole;
-        noted = ap (λ f. all_noted f b) n ∙ sym (noted-both now a b) ∙ sym (ap (λ ys. all_noted now (all_broken (terms l ys))) e) ∙ h.noted;
+        whole = push-push h.ts (label_term l k (label_tree_of x)) (terms l k rest) ∙ sym (ap (λ ys. h.ts ++ terms l k ys) e) ∙ h.whole;
+        noted = ap (λ f. all_noted f b) n ∙ sym (noted-both now a b) ∙ sym (ap (λ ys. all_noted now (all_broken (terms l k ys))) e) ∙ h.noted;
       }
 
-  pub labels-end : (all : List Expr) (p : Parts) (before now : Noted) → LabelsSoFar all [] p before now → AreRead (terms l all) p × (now ≡ all_noted before (all_broken (terms l all)))
+  pub labels-end : (all : List Label) (p : Parts) (before now : Noted) → LabelsSoFar all [] p before now → AreRead (terms l k all) p × (now ≡ all_noted before (all_broken (terms l k all)))
   labels-end all p before now h = (subst (λ ys. AreRead ys p) (sym (append-nil h.ts) ∙ h.whole) h.are, h.noted)
 
 -- ---- words of a memory

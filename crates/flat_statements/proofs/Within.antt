@@ -1,6 +1,7 @@
 -- Statements as the definition reads them assign no bit that a signal doesn't have, whatever rules they break.
-use Rattle.std.proofs.Common.{◌≡◌, ℕ, zero, suc, ◌+◌, ◌^◌, ◌<◌, ◌≤◌, Bool, true, false, cond, not, ◌&&◌, ◌||◌, ◌==◌, nat_lt, nat_le, List, [], ◌++◌, map, Option, Some, None, refl, arith, rules, ltb-true, eqb-true}
+use Rattle.std.proofs.Common.{◌≡◌, ℕ, zero, suc, ◌+◌, ◌^◌, ◌<◌, ◌≤◌, Bool, true, false, cond, not, ◌&&◌, ◌||◌, ◌==◌, nat_lt, nat_le, List, [], ◌∷◌, ◌++◌, map, Option, Some, None, refl, arith, rules, ltb-true, eqb-true}
 use Rattle.std.proofs.lemmas.Bool.{and_parts, or_left, or_right}
+use Rattle.verilog_ast.specs.declared.PartKind.{PartKind}
 use Rattle.verilog_reading.specs.ExprTree.{TargetTree, whole, index_of, part_of, join_of, TargetTrees, no_parts, and_parts as more_parts}
 use Rattle.verilog_reading.specs.StmtTree.{StmtTree, null, set, when, either, switch, switch_else, block, StmtTrees, no_rows, and_rows, ArmTrees, no_arms, and_arms}
 use Rattle.flat_meaning.specs.Flat.{Expr, size, case_size, Target, Whole, Pick, Group, no_targets, Stmt, Null, Items, no_items, default_item, item}
@@ -10,11 +11,11 @@ use Rattle.flat_form.specs.View.{targets_of}
 use Rattle.flat_unfolding.specs.Outcome.{Text, Broken, breaks, breaks_if}
 use Rattle.flat_unfolding.specs.Names.{Range, Memory, Meaning, a_param, a_signal, a_memory, no_value, Look, meaning, width_at, range_at}
 use Rattle.flat_unfolding.specs.Constants.{own_value}
-use Rattle.flat_unfolding.specs.Expressions.{Term, is_sound, as_bound, range_of, Select, bit_select, part_select, may_index, word_of, read}
+use Rattle.flat_unfolding.specs.Expressions.{Term, is_sound, as_bound, as_second, range_of, Select, bit_select, kind_select, may_index, word_of, read}
 use Rattle.flat_unfolding.specs.Targets.{Aim, nowhere, Use, of_registers, Goal, fixed, a_word, meant_whole, select_aim, signal_aim, word_aim, memory_goal, after, meant_goal, index_goal, name_rules, as_fixed, meant_range, aim, aims, goal}
 use Rattle.flat_unfolding.specs.Memories.{writes_from}
-use Rattle.flat_unfolding.specs.Statements.{Kind, Arms, word_set, with_last, missing_last, done, done_all, arms}
-use Rattle.flat_unfolding.proofs.Selects.{IsInside, spans_at, bit_inside, part_inside}
+use Rattle.flat_unfolding.specs.Statements.{Kind, Arms, word_set, with_last, missing_last, Way, Done, chain, done, done_all, arms, ways}
+use Rattle.flat_unfolding.proofs.Selects.{IsInside, spans_at, bit_inside, kind_inside}
 
 either-true : {A : Type 0} (a b : Bool) → (a ≡ true → A) → (b ≡ true → A) → (a || b) ≡ true → A
 either-true true b f g h = f refl
@@ -100,23 +101,23 @@ module _ (look : Look) where
     as_fixed-in x (fixed a) h = h
     as_fixed-in x (a_word m i bs) h = no-bits
 
-    range-in : (x : Text) (r : Option Range) (o : Option Meaning) → StaysIn (meant_range look use_ x r o).target
-    range-in x None None = no-bits
-    range-in x (Some q) None = no-bits
-    range-in x None (Some (a_param p)) = no-bits
-    range-in x (Some q) (Some (a_param p)) = no-bits
-    range-in x None (Some (a_signal s)) = no-bits
-    range-in x (Some q) (Some (a_signal s)) = select-in x s (part_select (range_at look.entries s) q) (λ c. part_inside (range_at look.entries s) (wid s) q c (spans_at look.entries s))
-    range-in x None (Some (a_memory m)) = no-bits
-    range-in x (Some q) (Some (a_memory m)) = no-bits
-    range-in x None (Some no_value) = no-bits
-    range-in x (Some q) (Some no_value) = no-bits
+    range-in : (x : Text) (kind : PartKind) (r : Option Range) (o : Option Meaning) → StaysIn (meant_range look use_ x kind r o).target
+    range-in x kind None None = no-bits
+    range-in x kind (Some q) None = no-bits
+    range-in x kind None (Some (a_param p)) = no-bits
+    range-in x kind (Some q) (Some (a_param p)) = no-bits
+    range-in x kind None (Some (a_signal s)) = no-bits
+    range-in x kind (Some q) (Some (a_signal s)) = select-in x s (kind_select (range_at look.entries s) kind q) (λ c. kind_inside (range_at look.entries s) (wid s) kind q c (spans_at look.entries s))
+    range-in x kind None (Some (a_memory m)) = no-bits
+    range-in x kind (Some q) (Some (a_memory m)) = no-bits
+    range-in x kind None (Some no_value) = no-bits
+    range-in x kind (Some q) (Some no_value) = no-bits
 
     mutual
       aim-in : (t : TargetTree) → StaysIn (aim look use_ t).target
       aim-in (whole x) = meant_whole-in x (meaning look x)
       aim-in (index_of x i) = as_fixed-in x (index_goal look use_ x (read look i)) (index-in x (read look i))
-      aim-in (part_of x l r) = range-in x (range_of (as_bound (read look l)) (as_bound (read look r))) (meaning look x)
+      aim-in (part_of x kind l r) = range-in x kind (range_of (as_bound (read look l)) (as_second kind (read look r))) (meaning look x)
       aim-in (join_of parts) = aims-in parts
 
       aims-in : (ts : TargetTrees) → StaysIn (Group (targets_of (map (λ (a : Aim). a.target) (aims look use_ ts))))
@@ -127,7 +128,7 @@ module _ (look : Look) where
   goal-in : (t : TargetTree) → GoalIn (goal look t)
   goal-in (whole x) = aim-in of_registers (whole x)
   goal-in (index_of x i) = index-in of_registers x (read look i)
-  goal-in (part_of x l r) = aim-in of_registers (part_of x l r)
+  goal-in (part_of x kind l r) = aim-in of_registers (part_of x kind l r)
   goal-in (join_of parts) = aim-in of_registers (join_of parts)
 
   -- ---- statements
@@ -163,20 +164,40 @@ module _ (look : Look) where
       go true = no-bits
       go false = no-bits
 
+  -- ---- a chain of `if`s
+
+  abbrev BodiesIn : List Way → Type 0
+  BodiesIn [] = Unit {0}
+  BodiesIn (a ∷ ws) = StmtIn a.body.stmt × BodiesIn ws
+
+  chain-in : (w : ℕ) (e : Expr) (ws : List Way) (last : Stmt) → BodiesIn ws → StmtIn last → StmtIn (chain w e ws last)
+  chain-in w e [] last h g = g
+  chain-in w e (a ∷ ws) last h g = λ s i t. either-true (may_assign wid a.body.stmt s i) (may_assign wid (chain w e ws last) s i) (h.0 s i) (chain-in w e ws last h.1 g s i) t
+
+  done_by : (masks : Bool) (a b : Done) → StmtIn a.stmt → StmtIn b.stmt → StmtIn (cond masks a b).stmt
+  done_by true a b h g = h
+  done_by false a b h g = g
+
   module _ (kind : Kind) where
     mutual
       pub done-in : (t : StmtTree) → StmtIn (done look kind t).stmt
       done-in null = no-bits
-      done-in (set blocking t v) = word_set-in blocking (goal look t) (read look v).expr (goal-in t)
+      done-in (set blocking delay t v) = word_set-in blocking (goal look t) (read look v).expr (goal-in t)
       done-in (when c x) = λ s i h. either-true (may_assign wid (done look kind x).stmt s i) false (done-in x s i) (λ e. absurd (search (rules, e))) h
       done-in (either c x y) = λ s i h. either-true (may_assign wid (done look kind x).stmt s i) (may_assign wid (done look kind y).stmt s i) (done-in x s i) (done-in y s i) h
-      done-in (switch v rows) = let k = read look v in let a = arms look kind rows in last-in a.items (missing_last k a) (arms-in rows) (missing-in k a)
-      done-in (switch_else v rows x) = let a = arms look kind rows in last-in a.items (default_item (done look kind x).stmt) (arms-in rows) (done-in x)
+      done-in (switch v rows) = let k = read look v.value in let a = arms look kind rows in
+          done_by v.masks _ _ (chain-in _ k.expr (ways look kind rows) Null (ways-in rows) no-bits) (last-in a.items (missing_last k a) (arms-in rows) (missing-in k a))
+      done-in (switch_else v rows x) = let k = read look v.value in let a = arms look kind rows in let d = (done look kind x).stmt in
+          done_by v.masks _ _ (chain-in _ k.expr (ways look kind rows) d (ways-in rows) (done-in x)) (last-in a.items (default_item d) (arms-in rows) (done-in x))
       done-in (block rows) = rows-in rows
 
       rows-in : (ts : StmtTrees) → (s i : ℕ) → any_may_assign wid (done_all look kind ts).stmts s i ≡ true → i < wid s
       rows-in no_rows = no-bits
       rows-in (and_rows t ts) = λ s i h. either-true (may_assign wid (done look kind t).stmt s i) (any_may_assign wid (done_all look kind ts).stmts s i) (done-in t s i) (rows-in ts s i) h
+
+      ways-in : (ts : ArmTrees) → BodiesIn (ways look kind ts)
+      ways-in no_arms = tt
+      ways-in (and_arms labels t ts) = (done-in t, ways-in ts)
 
       arms-in : (ts : ArmTrees) → ItemsIn (arms look kind ts).items
       arms-in no_arms = no-bits

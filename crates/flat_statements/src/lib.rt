@@ -2,4 +2,5 @@
 #![tactic(auto)]
 
 pub mod latch;
+pub mod masks;
 pub mod statement;

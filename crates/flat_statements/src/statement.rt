@@ -1,7 +1,7 @@
 //! Statements of processes, with their names resolved.
-ghost use Rattle.std.specs.Prelude.{◌≡◌, ℕ, ◌+◌, ◌^◌, ◌<◌, ◌≤◌, ◌∷◌, ◌&&◌, ◌++◌, Bool, true, false, [], map, All, IfOk, Some, None};
+ghost use Rattle.std.specs.Prelude.{◌≡◌, ℕ, ◌+◌, ◌^◌, ◌<◌, ◌≤◌, ◌∷◌, ◌&&◌, ◌||◌, ◌++◌, Bool, true, false, [], map, All, IfOk, Some, None, is_some};
 ghost use Rattle.verilog_reading.specs.ExprTree.{tree_of, target_tree_of, ExprTree, TargetTree};
-ghost use Rattle.verilog_reading.specs.StmtTree.{stmt_tree_of, stmt_trees_of, arms_of, set as set_tree, switch as switch_tree, ArmTrees};
+ghost use Rattle.verilog_reading.specs.StmtTree.{stmt_tree_of, stmt_trees_of, arms_of, label_tree_of, set as set_tree, switch as switch_tree, subject_of, ArmTrees};
 ghost use Rattle.flat_meaning.specs.Flat.{If as if_of, Case as case_of, Null as null_of, Set as set_of, Whole as whole_of, default_item, no_items, case_size as size_of_case};
 ghost use Rattle.flat_meaning.specs.Full.{is_full as takes_every};
 ghost use Rattle.flat_form.specs.View.{expr_of, stmt_of, items_of, arm_of};
@@ -9,16 +9,18 @@ ghost use Rattle.flat_form.specs.Sizes.{is_sized, kept_of, are_labels_sized};
 ghost use Rattle.flat_unfolding.specs.Outcome.{breaks, breaks_if};
 ghost use Rattle.flat_unfolding.specs.Names as n;
 ghost use Rattle.flat_unfolding.specs.Expressions.{read, all_broken, is_index as is_index_of};
-ghost use Rattle.flat_unfolding.specs.Statements.{Kind, done, done_all, arms, unassigned as unassigned_of, is_stray as is_stray_of};
+ghost use Rattle.flat_unfolding.specs.Statements.{Kind, done, done_all, arms, ways, ways_broken, label_term, read_list, unassigned as unassigned_of, is_stray as is_stray_of};
 ghost use Rattle.flat_unfolding.specs.Targets.{first_name as first_name_of};
 ghost use Rattle.flat_unfolding.specs.Memories.{memory_write as memory_write_of};
 ghost use Rattle.flat_unfolding.specs.Widths.{keeps_sizes, stmt_keeps_sizes, all_true};
-ghost use Rattle.flat_unfolding.specs.Formed.{IsFormed, IsTargetFormed, IsStmtFormed, AreRowsFormed, AreArmsFormed};
+ghost use Rattle.flat_unfolding.specs.Formed.{IsFormed, IsTargetFormed, IsLabelFormed, IsStmtFormed, AreRowsFormed, AreArmsFormed};
 ghost use Rattle.flat_names.specs.Noting.{all_noted};
 ghost use Rattle.flat_names.specs.Looks.{Shows, IsFit, memory_of};
 ghost use Rattle.flat_names.specs.Pieces.{IsRead, AreRead};
+ghost use Rattle.flat_statements.specs.Masks.{AreWays};
 ghost use Rattle.flat_statements.specs.Statements.{kind_of, arm_tree_of, arm_keeps_sizes, items_in, Builds, IsDone, AreDone, AreArms};
 
+use crate::masks::{MaskItem, chained, mask_labels};
 use cdc_base::{List, NoMemory};
 use flat_form::cases::{case_size, is_full};
 use flat_form::copy::copy;
@@ -30,12 +32,12 @@ use flat_names::fault::{Faults, Rule};
 use flat_names::resolved::{Parts, Resolved};
 use flat_names::scope::{Look, Memory};
 use flat_names::select::{index_values, is_index};
+use flat_names::signs::Signs;
 use flat_targets::target::{Aim, first_text, process_target};
 use std::alloc::Global;
-use verilog_ast::{CaseItem, Expr, Stmt, Target};
+use verilog_ast::{CaseItem, Expr, Label, Stmt, Target};
 
-/// The kind of process that a statement stands in: one of wires takes blocking assignments, one with a clock
-/// nonblocking ones. Without either, both may stand.
+/// The kind of process that a statement stands in: one with a clock takes nonblocking assignments alone.
 #[derive(Clone, Copy, PartialEq, Eq, Debug, Drop)]
 pub enum Mode {
     Wires,
@@ -61,6 +63,7 @@ pub fn statement(
             blocking,
             target,
             value,
+            ..
         } => assignment(look, *blocking, target, value, mode, faults),
         Stmt::If { cond, yes, other } => {
             let cond = resolve(look, cond, faults)?;
@@ -74,11 +77,22 @@ pub fn statement(
             }
         }
         Stmt::Case {
+            masks,
             subject,
             items,
             default,
         } => {
             let subject = resolve(look, subject, faults)?;
+            if *masks {
+                let items = mask_items(look, items.as_slice(), mode, faults)?;
+                return match default {
+                    Some(default) => {
+                        let last = statement(look, default, mode, faults)?;
+                        chained(look.alloc, subject, items, last)
+                    }
+                    None => chained(look.alloc, subject, items, FStmt::Null),
+                };
+            }
             let cases = case_items(look, items.as_slice(), mode, faults)?;
             match default {
                 Some(default) => {
@@ -114,7 +128,7 @@ fn block(
 }
 
 /// An `if` with an `else`.
-fn chosen(alloc: Global, cond: FExpr, yes: FStmt, other: FStmt) -> Result<FStmt, NoMemory>
+pub fn chosen(alloc: Global, cond: FExpr, yes: FStmt, other: FStmt) -> Result<FStmt, NoMemory>
     ensures { IfOk result (λ r. Builds r (if_of (expr_of cond) (stmt_of yes) (stmt_of other)) (keeps_sizes cond && (stmt_keeps_sizes yes && stmt_keeps_sizes other))) }
 {
     Ok(FStmt::If {
@@ -155,7 +169,7 @@ fn case_with(
 /// A `case` whose text has no `default`.
 fn case_without(alloc: Global, subject: Resolved, cases: Cases) -> Result<FStmt, NoMemory>
     ensures { (l : n.Look) (k : Kind) (e : ExprTree) (rows : ArmTrees) → IsRead (read l e) subject → AreArms (arms l k rows) cases.items.items cases.is_sound cases.is_constant
-        → IfOk result (λ r. IsDone (done l k (switch_tree e rows)) r) }
+        → IfOk result (λ r. IsDone (done l k (switch_tree (subject_of false e) rows)) r) }
 {
     if takes_all(alloc, &subject, &cases)? {
         return Ok(FStmt::Case {
@@ -165,6 +179,27 @@ fn case_without(alloc: Global, subject: Resolved, cases: Cases) -> Result<FStmt,
         });
     }
     case_with(alloc, subject.expr, cases.items, FStmt::Null)
+}
+
+/// Items of a `casez`.
+#[cycle(statement)]
+fn mask_items(
+    look: &Look,
+    items: &[CaseItem],
+    mode: Mode,
+    faults: &mut Faults,
+) -> Result<Vec<MaskItem>, NoMemory>
+    ensures { (l : n.Look) → Shows look.now l → IsFit l → AreArmsFormed (arms_of (map arm_tree_of items.now))
+        → IfOk result (λ is. AreWays (ways l (kind_of mode) (arms_of (map arm_tree_of items.now))) is.items
+        × (faults.new ≡ all_noted faults.old (ways_broken (ways l (kind_of mode) (arms_of (map arm_tree_of items.now)))))) }
+{
+    let mut all = Vec::new(look.alloc);
+    for item in items {
+        let labels = mask_labels(look, item.labels.as_slice(), faults)?;
+        let body = statement(look, &item.body, mode, faults)?;
+        push(&mut all, MaskItem { labels, body })?;
+    }
+    Ok(all)
 }
 
 /// Items of a `case`, and what holds of all their labels.
@@ -215,16 +250,33 @@ impl Cases {
     }
 }
 
-fn labels(look: &Look, labels: &[Expr], faults: &mut Faults) -> Result<Parts, NoMemory>
-    ensures { (l : n.Look) → Shows look.now l → IsFit l → All IsFormed (map tree_of labels.now)
-        → IfOk result (λ p. AreRead (map (read l) (map tree_of labels.now)) p × (faults.new ≡ all_noted faults.old (all_broken (map (read l) (map tree_of labels.now))))) }
+fn labels(look: &Look, labels: &[Label], faults: &mut Faults) -> Result<Parts, NoMemory>
+    ensures { (l : n.Look) (k : Kind) → Shows look.now l → IsFit l → All IsLabelFormed (map label_tree_of labels.now)
+        → IfOk result (λ p. AreRead (read_list l k (map label_tree_of labels.now)) p × (faults.new ≡ all_noted faults.old (all_broken (read_list l k (map label_tree_of labels.now))))) }
 {
     let mut parts = Parts::new(look.alloc);
     for label in labels {
-        let label = resolve(look, label, faults)?;
+        let label = settled_label(look, label, faults)?;
         parts.add(label)?;
     }
     Ok(parts)
+}
+
+/// A label of a `case`, where a mask stands for its value.
+fn settled_label(look: &Look, label: &Label, faults: &mut Faults) -> Result<Resolved, NoMemory>
+    ensures { (l : n.Look) (k : Kind) → Shows look.now l → IsFit l → IsLabelFormed (label_tree_of label.now)
+        → IfOk result (λ r. IsRead (label_term l k (label_tree_of label.now)) r × (faults.new ≡ all_noted faults.old (label_term l k (label_tree_of label.now)).broken)) }
+{
+    match label {
+        Label::Value(value) => resolve(look, value, faults),
+        Label::Mask { value, width, .. } => {
+            let number = FExpr::Number {
+                value: *value,
+                width: *width,
+            };
+            Ok(Resolved::constant(number, Signs::none()))
+        }
+    }
 }
 
 /// Whether sound, constant labels take every value of the size of their `case`.
@@ -258,8 +310,8 @@ fn assignment(
     faults: &mut Faults,
 ) -> Result<FStmt, NoMemory>
     ensures { (l : n.Look) → Shows look.now l → IsFit l → IsTargetFormed (target_tree_of target.now) → IsFormed (tree_of value.now)
-        → IfOk result (λ r. IsDone (done l (kind_of mode) (set_tree is_blocking (target_tree_of target.now) (tree_of value.now))) r
-        × (faults.new ≡ all_noted faults.old (done l (kind_of mode) (set_tree is_blocking (target_tree_of target.now) (tree_of value.now))).broken)) }
+        → IfOk result (λ r. IsDone (done l (kind_of mode) (set_tree is_blocking None (target_tree_of target.now) (tree_of value.now))) r
+        × (faults.new ≡ all_noted faults.old (done l (kind_of mode) (set_tree is_blocking None (target_tree_of target.now) (tree_of value.now))).broken)) }
 {
     let aim = process_target(look, target, faults)?;
     let value = resolve(look, value, faults)?;
@@ -280,7 +332,7 @@ fn assignment(
     }
 }
 
-/// Notes an assignment that has another form than that of its process.
+/// Notes a blocking assignment in a clocked process.
 fn note_stray(
     mode: Mode,
     is_blocking: bool,
@@ -308,9 +360,8 @@ fn is_stray(mode: Mode, is_blocking: bool) -> bool
     ensures { result ≡ is_stray_of (kind_of mode) is_blocking }
 {
     match mode {
-        Mode::Wires => !is_blocking,
         Mode::Clocked => is_blocking,
-        Mode::Neither => false,
+        Mode::Wires | Mode::Neither => false,
     }
 }
 

@@ -3,6 +3,7 @@ use Rattle.std.proofs.Common.{◌≡◌, ℕ, ◌<◌, ◌≤◌, Bool, true, fa
 use Rattle.std.specs.Prelude.{option_map, option_and_then, slice_get, IfOk, Result, Ok, Err}
 use Rattle.std.specs.Option.{option_map_or}
 use Rattle.std.proofs.lemmas.Bool.{false≢true}
+use Rattle.verilog_ast.specs.declared.PartKind.{PartKind}
 use Rattle.flat_meaning.specs.Flat as m
 use Rattle.flat_meaning.specs.Flat.{size}
 use Rattle.flat_form.specs.declared.flat.FExpr.{FExpr}
@@ -18,7 +19,7 @@ use Rattle.flat_unfolding.specs.Outcome.{Text, Broken, breaks, breaks_if}
 use Rattle.flat_unfolding.specs.Names as n
 use Rattle.flat_unfolding.specs.Names.{Range, a_signal, width_of, width_at, range_at, offset_in}
 use Rattle.flat_unfolding.specs.Constants.{own_value}
-use Rattle.flat_unfolding.specs.Expressions.{Term, as_constant, as_bound, Select, one_bit, may_index}
+use Rattle.flat_unfolding.specs.Expressions.{Term, as_constant, as_bound, as_second, Select, one_bit, may_index}
 use Rattle.flat_unfolding.specs.Targets as t
 use Rattle.flat_unfolding.specs.Targets.{Aim, Use, of_wires, of_registers, takes, nowhere, aim_at, behind}
 use Rattle.flat_names.specs.declared.scope.Meaning.{Meaning}
@@ -29,7 +30,7 @@ use Rattle.flat_targets.specs.declared.target.Fixed.{Fixed}
 use Rattle.flat_names.specs.declared.resolved.Resolved.{Resolved}
 use Rattle.flat_names.specs.Noting.{Noted, all_noted}
 use Rattle.flat_names.specs.Pieces.{EachIs, out_of_range, IsRead}
-use Rattle.flat_names.specs.Selects.{bound_notes, select_of, part_in, part_notes}
+use Rattle.flat_names.specs.Selects.{bound_notes, second_notes, select_of, part_in, part_notes}
 use Rattle.flat_names.specs.Looks.{range_of, meaning_of, meant, seen, shown, Shows, IsFit}
 use Rattle.flat_names.specs.Looks.{takes_seen}
 use Rattle.flat_targets.specs.Aims.{sized_step, all_true, is_target_sized, IsAim}
@@ -37,6 +38,7 @@ use Rattle.flat_names.proofs.Notes.{IsOne, noted-both, noted-late}
 use Rattle.flat_names.proofs.Options.{none-some, some-same}
 use Rattle.flat_names.proofs.Looked.{range-is, meant-is, entry-is, width-is}
 use Rattle.flat_names.proofs.Fit.{ones-both, one-range}
+use Rattle.flat_names.proofs.Selected.{second-broken}
 
 -- ---- what may be assigned
 
@@ -65,17 +67,18 @@ each-range : (t : Bool) → EachIs (λ b. b ≡ out_of_range) (breaks_if t 307 [
 each-range true = (refl, tt)
 each-range false = tt
 
--- bounds are told behind both constants, and stand behind their own in the text
-pub bounds-noted : (f : Noted) (v w : Term) → EachIs IsOne w.broken
-    → all_noted (all_noted (all_noted f (as_constant v).broken) (as_constant w).broken) (bound_notes v ++ bound_notes w) ≡ all_noted f ((as_bound v).broken ++ (as_bound w).broken)
-bounds-noted f v w h =
+-- what the two numbers of a part break is told behind both constants, and stands behind their own in the text
+pub bounds-noted : (f : Noted) (kind : PartKind) (v w : Term) → EachIs IsOne w.broken
+    → all_noted (all_noted (all_noted f (as_constant v).broken) (as_constant w).broken) (bound_notes v ++ second_notes kind w) ≡ all_noted f ((as_bound v).broken ++ (as_second kind w).broken)
+bounds-noted f kind v w h =
     let a = (as_constant v).broken in
     let b = (as_constant w).broken in
-    noted-both (all_noted (all_noted f a) b) (bound_notes v) (bound_notes w)
-    ∙ ap (λ g. all_noted g (bound_notes w)) (noted-late (all_noted f a) (bound_notes v) b (each-range _) (ones-both w.broken _ h (one-range _)))
-    ∙ ap (λ g. all_noted (all_noted g b) (bound_notes w)) (sym (noted-both f a (bound_notes v)))
-    ∙ sym (noted-both (all_noted f (as_bound v).broken) b (bound_notes w))
-    ∙ sym (noted-both f (as_bound v).broken (as_bound w).broken)
+    noted-both (all_noted (all_noted f a) b) (bound_notes v) (second_notes kind w)
+    ∙ ap (λ g. all_noted g (second_notes kind w)) (noted-late (all_noted f a) (bound_notes v) b (each-range _) (ones-both w.broken _ h (one-range _)))
+    ∙ ap (λ g. all_noted (all_noted g b) (second_notes kind w)) (sym (noted-both f a (bound_notes v)))
+    ∙ sym (noted-both (all_noted f (as_bound v).broken) b (second_notes kind w))
+    ∙ ap (all_noted (all_noted f (as_bound v).broken)) (sym (second-broken kind w))
+    ∙ sym (noted-both f (as_bound v).broken (as_second kind w).broken)
 
 -- ---- forms
 
@@ -128,15 +131,15 @@ range-small l h s = go (slice_get l.entries s) refl
     go (Some x) e = (word_width (width_of x.range) (h.entries s x e)).most
 
 -- a part that is inside, and one that is not
-pub part-some : (l : n.Look) (u : Use) (x : Text) (s : ℕ) (o : Option Range) (q : ℕ × ℕ) → Some (select_of q) ≡ part_in (range_at l.entries s) o
-    → (t.meant_range l u x o (Some (a_signal s)) ≡ aim_at (m.Part s q.0 q.1) q.1) × (part_notes x (range_at l.entries s) o ≡ [])
-part-some l u x s None q e = none-some (select_of q) (sym e)
-part-some l u x s (Some p) q e = (ap (t.select_aim l u x s) (sym e), ap (λ (o : Option Select). breaks_if (is_none o) 314 x) (sym e))
+pub part-some : (l : n.Look) (u : Use) (x : Text) (s : ℕ) (kind : PartKind) (o : Option Range) (q : ℕ × ℕ) → Some (select_of q) ≡ part_in (range_at l.entries s) kind o
+    → (t.meant_range l u x kind o (Some (a_signal s)) ≡ aim_at (m.Part s q.0 q.1) q.1) × (part_notes x (range_at l.entries s) kind o ≡ [])
+part-some l u x s kind None q e = none-some (select_of q) (sym e)
+part-some l u x s kind (Some p) q e = (ap (t.select_aim l u x s) (sym e), ap (λ (o : Option Select). breaks_if (is_none o) 314 x) (sym e))
 
-pub part-none : (l : n.Look) (u : Use) (x : Text) (s : ℕ) (o : Option Range) → None ≡ part_in (range_at l.entries s) o
-    → IsAim (t.meant_range l u x o (Some (a_signal s))) no_target × (part_notes x (range_at l.entries s) o ≡ (t.meant_range l u x o (Some (a_signal s))).broken)
-part-none l u x s None e = (aim-nowhere [], refl)
-part-none l u x s (Some p) e = (
+pub part-none : (l : n.Look) (u : Use) (x : Text) (s : ℕ) (kind : PartKind) (o : Option Range) → None ≡ part_in (range_at l.entries s) kind o
+    → IsAim (t.meant_range l u x kind o (Some (a_signal s))) no_target × (part_notes x (range_at l.entries s) kind o ≡ (t.meant_range l u x kind o (Some (a_signal s))).broken)
+part-none l u x s kind None e = (aim-nowhere [], refl)
+part-none l u x s kind (Some p) e = (
   subst (λ o. IsAim (t.select_aim l u x s o) no_target) e (aim-nowhere (breaks 314 x)),
   ap (λ (o : Option Select). breaks_if (is_none o) 314 x) (sym e) ∙ ap (λ o. (t.select_aim l u x s o).broken) e,
 )
@@ -145,29 +148,29 @@ range-of : (k : Look) (l : n.Look) → Shows k l → (s : ℕ) (b : Option Bound
 range-of k l h s b e = ap (option_map range_of) e ∙ range-is k l h s
 
 -- what is told of a part of a signal's range
-abbrev pub PartIs : Text → (range part : Option Range) → Option (ℕ × ℕ) → (f g : Noted) → Type 0
-PartIs x r o q f g = width_of r ≤ 64 → (option_map select_of q ≡ part_in r o) × (g ≡ all_noted f (part_notes x r o))
+abbrev pub PartIs : Text → (range : Option Range) → PartKind → (part : Option Range) → Option (ℕ × ℕ) → (f g : Noted) → Type 0
+PartIs x r kind o q f g = width_of r ≤ 64 → (option_map select_of q ≡ part_in r kind o) × (g ≡ all_noted f (part_notes x r kind o))
 
-pub part-inside : (k : Look) (l : n.Look) → Shows k l → IsFit l → (u : Use) (x : Text) (s : ℕ) (o : Option Range) (b : Option Bounds) → b ≡ option_and_then (λ (e : Entry). e.bounds) (slice_get k.entries.now s)
-    → (q : Option (ℕ × ℕ)) (f g : Noted) → PartIs x (option_map range_of b) o q f g → (p : ℕ × ℕ) → q ≡ Some p → (r : Fixed) → IsAim (aim_at (m.Part s p.0 p.1) p.1) r → n.meaning l x ≡ Some (a_signal s)
-    → IsAim (t.meant_range l u x o (n.meaning l x)) r × (g ≡ all_noted f (t.meant_range l u x o (n.meaning l x)).broken)
-part-inside k l h fit u x s o b be q f g told p qe r i me =
+pub part-inside : (k : Look) (l : n.Look) → Shows k l → IsFit l → (u : Use) (x : Text) (s : ℕ) (kind : PartKind) (o : Option Range) (b : Option Bounds) → b ≡ option_and_then (λ (e : Entry). e.bounds) (slice_get k.entries.now s)
+    → (q : Option (ℕ × ℕ)) (f g : Noted) → PartIs x (option_map range_of b) kind o q f g → (p : ℕ × ℕ) → q ≡ Some p → (r : Fixed) → IsAim (aim_at (m.Part s p.0 p.1) p.1) r → n.meaning l x ≡ Some (a_signal s)
+    → IsAim (t.meant_range l u x kind o (n.meaning l x)) r × (g ≡ all_noted f (t.meant_range l u x kind o (n.meaning l x)).broken)
+part-inside k l h fit u x s kind o b be q f g told p qe r i me =
     let re = range-of k l h s b be in
     let pr = told (subst (λ r. width_of r ≤ 64) (sym re) (range-small l fit s)) in
-    let ps = part-some l u x s o p (sym (ap (option_map select_of) qe) ∙ pr.0 ∙ ap (λ r. part_in r o) re) in
-    let all : t.meant_range l u x o (n.meaning l x) ≡ aim_at (m.Part s p.0 p.1) p.1 = ap (t.meant_range l u x o) me ∙ ps.0 in
-    (subst (λ a. IsAim a r) (sym all) i, pr.1 ∙ ap (all_noted f) (ap (λ r. part_notes x r o) re ∙ ps.1) ∙ ap (λ (a : Aim). all_noted f a.broken) (sym all))
+    let ps = part-some l u x s kind o p (sym (ap (option_map select_of) qe) ∙ pr.0 ∙ ap (λ r. part_in r kind o) re) in
+    let all : t.meant_range l u x kind o (n.meaning l x) ≡ aim_at (m.Part s p.0 p.1) p.1 = ap (t.meant_range l u x kind o) me ∙ ps.0 in
+    (subst (λ a. IsAim a r) (sym all) i, pr.1 ∙ ap (all_noted f) (ap (λ r. part_notes x r kind o) re ∙ ps.1) ∙ ap (λ (a : Aim). all_noted f a.broken) (sym all))
 
-pub part-outside : (k : Look) (l : n.Look) → Shows k l → IsFit l → (u : Use) (x : Text) (s : ℕ) (o : Option Range) (b : Option Bounds) → b ≡ option_and_then (λ (e : Entry). e.bounds) (slice_get k.entries.now s)
-    → (q : Option (ℕ × ℕ)) (f g : Noted) → PartIs x (option_map range_of b) o q f g → q ≡ None → (r : Fixed) → r ≡ no_target → n.meaning l x ≡ Some (a_signal s)
-    → IsAim (t.meant_range l u x o (n.meaning l x)) r × (g ≡ all_noted f (t.meant_range l u x o (n.meaning l x)).broken)
-part-outside k l h fit u x s o b be q f g told qe r i me =
+pub part-outside : (k : Look) (l : n.Look) → Shows k l → IsFit l → (u : Use) (x : Text) (s : ℕ) (kind : PartKind) (o : Option Range) (b : Option Bounds) → b ≡ option_and_then (λ (e : Entry). e.bounds) (slice_get k.entries.now s)
+    → (q : Option (ℕ × ℕ)) (f g : Noted) → PartIs x (option_map range_of b) kind o q f g → q ≡ None → (r : Fixed) → r ≡ no_target → n.meaning l x ≡ Some (a_signal s)
+    → IsAim (t.meant_range l u x kind o (n.meaning l x)) r × (g ≡ all_noted f (t.meant_range l u x kind o (n.meaning l x)).broken)
+part-outside k l h fit u x s kind o b be q f g told qe r i me =
     let re = range-of k l h s b be in
     let pr = told (subst (λ r. width_of r ≤ 64) (sym re) (range-small l fit s)) in
-    let ps = part-none l u x s o (sym (ap (option_map select_of) qe) ∙ pr.0 ∙ ap (λ r. part_in r o) re) in
-    let all : t.meant_range l u x o (n.meaning l x) ≡ t.meant_range l u x o (Some (a_signal s)) = ap (t.meant_range l u x o) me in (
-      subst (λ a. IsAim a r) (sym all) (subst (λ r. IsAim (t.meant_range l u x o (Some (a_signal s))) r) (sym i) ps.0),
-      pr.1 ∙ ap (all_noted f) (ap (λ r. part_notes x r o) re ∙ ps.1) ∙ ap (λ (a : Aim). all_noted f a.broken) (sym all),
+    let ps = part-none l u x s kind o (sym (ap (option_map select_of) qe) ∙ pr.0 ∙ ap (λ r. part_in r kind o) re) in
+    let all : t.meant_range l u x kind o (n.meaning l x) ≡ t.meant_range l u x kind o (Some (a_signal s)) = ap (t.meant_range l u x kind o) me in (
+      subst (λ a. IsAim a r) (sym all) (subst (λ r. IsAim (t.meant_range l u x kind o (Some (a_signal s))) r) (sym i) ps.0),
+      pr.1 ∙ ap (all_noted f) (ap (λ r. part_notes x r kind o) re ∙ ps.1) ∙ ap (λ (a : Aim). all_noted f a.broken) (sym all),
     )
 
 -- what is neither a signal nor a memory has no parts
@@ -178,19 +181,19 @@ is_plain (Some (n.a_memory a)) = false
 is_plain (Some (n.a_param p)) = true
 is_plain (Some n.no_value) = true
 
-plain-range : (l : n.Look) (u : Use) (x : Text) (o : Option Range) (v : Option n.Meaning) → is_plain v ≡ true → t.meant_range l u x o v ≡ nowhere []
-plain-range l u x None None e = refl
-plain-range l u x (Some p) None e = refl
-plain-range l u x None (Some (n.a_param p)) e = refl
-plain-range l u x (Some q) (Some (n.a_param p)) e = refl
-plain-range l u x None (Some n.no_value) e = refl
-plain-range l u x (Some q) (Some n.no_value) e = refl
-plain-range l u x o (Some (a_signal s)) e = absurd (false≢true e)
-plain-range l u x o (Some (n.a_memory a)) e = absurd (false≢true e)
+plain-range : (l : n.Look) (u : Use) (x : Text) (kind : PartKind) (o : Option Range) (v : Option n.Meaning) → is_plain v ≡ true → t.meant_range l u x kind o v ≡ nowhere []
+plain-range l u x kind None None e = refl
+plain-range l u x kind (Some p) None e = refl
+plain-range l u x kind None (Some (n.a_param p)) e = refl
+plain-range l u x kind (Some q) (Some (n.a_param p)) e = refl
+plain-range l u x kind None (Some n.no_value) e = refl
+plain-range l u x kind (Some q) (Some n.no_value) e = refl
+plain-range l u x kind o (Some (a_signal s)) e = absurd (false≢true e)
+plain-range l u x kind o (Some (n.a_memory a)) e = absurd (false≢true e)
 
-pub part-plain : (l : n.Look) (u : Use) (x : Text) (o : Option Range) (f : Noted) (r : Fixed) → r ≡ no_target → is_plain (n.meaning l x) ≡ true
-    → IsAim (t.meant_range l u x o (n.meaning l x)) r × (f ≡ all_noted f (t.meant_range l u x o (n.meaning l x)).broken)
-part-plain l u x o f r i e = let all = plain-range l u x o (n.meaning l x) e in
+pub part-plain : (l : n.Look) (u : Use) (x : Text) (kind : PartKind) (o : Option Range) (f : Noted) (r : Fixed) → r ≡ no_target → is_plain (n.meaning l x) ≡ true
+    → IsAim (t.meant_range l u x kind o (n.meaning l x)) r × (f ≡ all_noted f (t.meant_range l u x kind o (n.meaning l x)).broken)
+part-plain l u x kind o f r i e = let all = plain-range l u x kind o (n.meaning l x) e in
     (subst (λ a. IsAim a r) (sym all) (subst (IsAim (nowhere [])) (sym i) (aim-nowhere [])), ap (λ (a : Aim). all_noted f a.broken) (sym all))
 
 pub ok-then : {A E : Type 0} (r : Result A E) (P Q : A → Type 0) → ((a : A) → P a → Q a) → IfOk r P → IfOk r Q

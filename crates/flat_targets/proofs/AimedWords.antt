@@ -2,6 +2,7 @@
 use Rattle.std.proofs.Common.{◌≡◌, ◌≢◌, ℕ, suc, ◌+◌, ◌*◌, ◌^◌, ◌<◌, ◌≤◌, Bool, true, false, not, cond, nat_lt, nat_le, List, [], ◌++◌, Option, Some, None, refl, sym, ap, ap₂, subst, ◌∙◌, arith, append_assoc}
 use Rattle.std.specs.Prelude.{option_and_then}
 use Rattle.std.specs.Option.{option_map_or}
+use Rattle.verilog_ast.specs.declared.PartKind.{PartKind}
 use Rattle.verilog_ast.specs.declared.Target.{Target}
 use Rattle.verilog_ast.specs.declared.Target.TheOpen.{Target-F}
 use Rattle.verilog_ast.specs.declared.Target.TheFolds.{fold-roll-Target}
@@ -17,7 +18,7 @@ use Rattle.flat_unfolding.specs.Outcome.{Text, Broken, breaks, breaks_if}
 use Rattle.flat_unfolding.specs.Names as n
 use Rattle.flat_unfolding.specs.Names.{Range, meaning}
 use Rattle.flat_unfolding.specs.Constants.{own_value}
-use Rattle.flat_unfolding.specs.Expressions.{Term, as_constant, as_bound, range_of, word_of}
+use Rattle.flat_unfolding.specs.Expressions.{Term, as_constant, as_bound, as_second, range_of, word_of}
 use Rattle.flat_unfolding.specs.Targets as t
 use Rattle.flat_unfolding.specs.Targets.{Aim, Use, Goal, fixed, a_word, nowhere, total, group_of}
 use Rattle.flat_names.specs.declared.scope.Meaning.{Meaning}
@@ -30,7 +31,7 @@ use Rattle.flat_targets.specs.declared.target.Aim as code
 use Rattle.flat_targets.specs.declared.target.Aim.TheVariants as a
 use Rattle.flat_names.specs.Noting.{Noted, all_noted}
 use Rattle.flat_names.specs.Pieces.{EachIs, IsRead}
-use Rattle.flat_names.specs.Selects.{bound_notes}
+use Rattle.flat_names.specs.Selects.{bound_notes, second_notes}
 use Rattle.flat_names.specs.Looks.{as_value}
 use Rattle.flat_targets.specs.Aims.{IsAim, IsGoal, AreAllAims, breaks_of, broken_in, chosen, trees_in}
 use Rattle.flat_names.proofs.Notes.{IsOne}
@@ -39,18 +40,18 @@ use Rattle.flat_targets.proofs.Aimed.{then-noted, bounds-noted, behind-gives, no
 
 -- ---- parts
 
-pub part-gives : (l : n.Look) (u : Use) (x : Text) (v w : Term) → EachIs IsOne w.broken → (f f1 f2 f3 f4 f5 : Noted) (o : Option Range)
+pub part-gives : (l : n.Look) (u : Use) (x : Text) (kind : PartKind) (v w : Term) → EachIs IsOne w.broken → (f f1 f2 f3 f4 f5 : Noted) (o : Option Range)
     → f1 ≡ all_noted f (t.name_rules l u x) → f2 ≡ all_noted f1 (as_constant v).broken → f3 ≡ all_noted f2 (as_constant w).broken
-    → o ≡ range_of (as_bound v) (as_bound w) → f4 ≡ all_noted f3 (bound_notes v ++ bound_notes w) → (r : Fixed)
-    → IsAim (t.meant_range l u x o (meaning l x)) r × (f5 ≡ all_noted f4 (t.meant_range l u x o (meaning l x)).broken)
-    → IsAim (t.part_aim l u x v w) r × (f5 ≡ all_noted f (t.part_aim l u x v w).broken)
-part-gives l u x v w one f f1 f2 f3 f4 f5 o e1 e2 e3 oe e4 r p =
+    → o ≡ range_of (as_bound v) (as_second kind w) → f4 ≡ all_noted f3 (bound_notes v ++ second_notes kind w) → (r : Fixed)
+    → IsAim (t.meant_range l u x kind o (meaning l x)) r × (f5 ≡ all_noted f4 (t.meant_range l u x kind o (meaning l x)).broken)
+    → IsAim (t.part_aim l u x kind v w) r × (f5 ≡ all_noted f (t.part_aim l u x kind v w).broken)
+part-gives l u x kind v w one f f1 f2 f3 f4 f5 o e1 e2 e3 oe e4 r p =
     let ns = t.name_rules l u x in
     let vs = (as_bound v).broken in
-    let ws = (as_bound w).broken in
-    let both : f4 ≡ all_noted f1 (vs ++ ws) = e4 ∙ ap (λ g. all_noted g (bound_notes v ++ bound_notes w)) (e3 ∙ ap (λ g. all_noted g (as_constant w).broken) e2) ∙ bounds-noted f1 v w one in
+    let ws = (as_second kind w).broken in
+    let both : f4 ≡ all_noted f1 (vs ++ ws) = e4 ∙ ap (λ g. all_noted g (bound_notes v ++ second_notes kind w)) (e3 ∙ ap (λ g. all_noted g (as_constant w).broken) e2) ∙ bounds-noted f1 kind v w one in
     let all : f4 ≡ all_noted f ((ns ++ vs) ++ ws) = then-noted f f1 f4 ns (vs ++ ws) e1 both ∙ ap (all_noted f) (sym (append_assoc ns vs ws)) in
-    behind-gives ((ns ++ vs) ++ ws) (t.meant_range l u x (range_of (as_bound v) (as_bound w)) (meaning l x)) (t.meant_range l u x o (meaning l x)) (ap (λ o. t.meant_range l u x o (meaning l x)) (sym oe)) f f4 f5 r all p.0 p.1
+    behind-gives ((ns ++ vs) ++ ws) (t.meant_range l u x kind (range_of (as_bound v) (as_second kind w)) (meaning l x)) (t.meant_range l u x kind o (meaning l x)) (ap (λ o. t.meant_range l u x kind o (meaning l x)) (sym oe)) f f4 f5 r all p.0 p.1
 
 -- ---- words of memories
 

@@ -8,6 +8,7 @@ use Rattle.std.proofs.lemmas.Option.{slice_get_cases}
 use Rattle.std.proofs.lemmas.List.{map-append, length-map, append-nil}
 use Rattle.std.proofs.lemmas.Result.{IfOk-weaker}
 use Rattle.cdc_base.specs.declared.fault.Place.{Place}
+use Rattle.verilog_ast.specs.declared.PartKind.{PartKind}
 use Rattle.verilog_reading.specs.ExprTree.{ExprTree, ExprTrees, no_trees, and_trees, TargetTree, whole, index_of, part_of, join_of, TargetTrees, no_parts, and_parts}
 use Rattle.flat_meaning.specs.Flat as m
 use Rattle.flat_meaning.proofs.Words.{by_lt}
@@ -58,17 +59,17 @@ module _ (l : n.Look) (u : Use) (x : Text) where
   select-part s None = tt
   select-part s (Some p) = tt
 
-  range-part : (p : Option Range) (v : Option n.Meaning) → IsPart (t.meant_range l u x p v).target
-  range-part None None = tt
-  range-part None (Some (n.a_param q)) = tt
-  range-part None (Some (n.a_signal s)) = tt
-  range-part None (Some (n.a_memory a)) = tt
-  range-part None (Some n.no_value) = tt
-  range-part (Some p) None = tt
-  range-part (Some p) (Some (n.a_param q)) = tt
-  range-part (Some p) (Some (n.a_signal s)) = select-part s _
-  range-part (Some p) (Some (n.a_memory a)) = tt
-  range-part (Some p) (Some n.no_value) = tt
+  range-part : (kind : PartKind) (p : Option Range) (v : Option n.Meaning) → IsPart (t.meant_range l u x kind p v).target
+  range-part kind None None = tt
+  range-part kind None (Some (n.a_param q)) = tt
+  range-part kind None (Some (n.a_signal s)) = tt
+  range-part kind None (Some (n.a_memory a)) = tt
+  range-part kind None (Some n.no_value) = tt
+  range-part kind (Some p) None = tt
+  range-part kind (Some p) (Some (n.a_param q)) = tt
+  range-part kind (Some p) (Some (n.a_signal s)) = select-part s _
+  range-part kind (Some p) (Some (n.a_memory a)) = tt
+  range-part kind (Some p) (Some n.no_value) = tt
 
   abbrev IsPartGoal : Goal → Type 0
   IsPartGoal g = IsPart (t.as_fixed l u x g).target
@@ -114,7 +115,7 @@ module _ (l : n.Look) (u : Use) where
     names-of : (tree : TargetTree) → map name_of (pieces l u tree) ≡ part_names tree
     names-of (whole x) = refl
     names-of (index_of x i) = refl
-    names-of (part_of x y z) = refl
+    names-of (part_of x kind y z) = refl
     names-of (join_of ts) = names-in ts
 
     pub names-in : (ts : TargetTrees) → map name_of (pieces_in l u ts) ≡ part_names_in ts
@@ -125,7 +126,7 @@ module _ (l : n.Look) (u : Use) where
     targets-of : (tree : TargetTree) → IsTargetFormed tree → map target_in (pieces l u tree) ≡ parts (t.aim l u tree).target
     targets-of (whole x) h = sym (alone _ (whole-part l u x (meaning l x)))
     targets-of (index_of x i) h = sym (alone _ (index-part l u x (read l i)))
-    targets-of (part_of x y z) h = sym (alone _ (range-part l u x _ (meaning l x)))
+    targets-of (part_of x kind y z) h = sym (alone _ (range-part l u x kind _ (meaning l x)))
     targets-of (join_of no_parts) h = absurd h.0
     targets-of (join_of (and_parts tree rest)) h = targets-in (and_parts tree rest) h.1
 
@@ -227,14 +228,14 @@ module _ (l : n.Look) (u : Use) (tree : TargetTree) (fixed_ : Fixed) where
 abbrev pub is_index : TargetTree → Bool
 is_index (whole x) = false
 is_index (index_of x i) = true
-is_index (part_of x y z) = false
+is_index (part_of x kind y z) = false
 is_index (join_of ts) = false
 
 pub process-goal : (l : n.Look) (tree : TargetTree) → is_index tree ≡ false → (r : Fixed) (f g : Noted) → IsAim (t.with_piece_rules l of_registers tree) r × (g ≡ all_noted f (t.with_piece_rules l of_registers tree).broken)
     → IsGoal (t.goal l tree) (a.Fixed r) × (g ≡ all_noted f (broken_in (t.goal l tree)))
 process-goal l (whole x) e r f g h = h
 process-goal l (index_of x i) e r f g h = absurd (true≢false e)
-process-goal l (part_of x y z) e r f g h = h
+process-goal l (part_of x kind y z) e r f g h = h
 process-goal l (join_of ts) e r f g h = h
 
 -- ---- names in an expression that is taken as a target

@@ -68,7 +68,7 @@ mutual
   reads-formed (number n w size) v h r = none-some v r
   reads-formed (name x) v h r = subst IsTargetFormed (some-same (whole x) v r) tt
   reads-formed (index x i) v h r = subst IsTargetFormed (some-same (index_of x i) v r) h
-  reads-formed (part x i j) v h r = subst IsTargetFormed (some-same (part_of x i j) v r) h
+  reads-formed (part x kind i j) v h r = subst IsTargetFormed (some-same (part_of x kind i j) v r) h
   reads-formed (unary op a) v h r = none-some v r
   reads-formed (binary op a b) v h r = none-some v r
   reads-formed (choice c a b) v h r = none-some v r

@@ -10,7 +10,7 @@ abbrev mutual
   pub part_names : TargetTree → List Text
   part_names (whole x) = x ∷ []
   part_names (index_of x i) = x ∷ []
-  part_names (part_of x l r) = x ∷ []
+  part_names (part_of x kind l r) = x ∷ []
   part_names (join_of parts) = part_names_in parts
 
   pub part_names_in : TargetTrees → List Text

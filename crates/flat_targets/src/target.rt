@@ -28,9 +28,9 @@ use flat_names::expr::{note_unknown, resolve, resolve_constant};
 use flat_names::fault::{Faults, Rule};
 use flat_names::resolved::Resolved;
 use flat_names::scope::{Bounds, Look, Meaning, Memory};
-use flat_names::select::{bounds_of, may_index, may_index_words, offset_in, part_within};
+use flat_names::select::{may_index, may_index_words, offset_in, part_numbers, part_within};
 use std::alloc::Global;
-use verilog_ast::{Expr, Target};
+use verilog_ast::{Expr, PartKind, Target};
 
 /// What may be assigned: wires by `assign`, gates and the outputs of instances, registers by processes and `initial`.
 #[derive(Clone, Copy, PartialEq, Eq, Debug, Drop)]
@@ -134,9 +134,12 @@ pub fn fixed_target(
     match target {
         Target::Whole(name) => whole_target(look, name, assigned, faults),
         Target::At { name, index } => index_target(look, name, index, assigned, faults),
-        Target::Part { name, left, right } => {
-            part_target(look, name, left, right, assigned, faults)
-        }
+        Target::Part {
+            name,
+            kind,
+            left,
+            right,
+        } => part_target(look, name, *kind, left, right, assigned, faults),
         Target::Join(parts) => {
             let parts = fixed_targets(look, parts.as_slice(), assigned, faults)?;
             joined(parts, faults)
@@ -195,9 +198,12 @@ pub fn expr_target(look: &Look, expr: &Expr, faults: &mut Faults) -> Result<Fixe
     match expr {
         Expr::Ident(name) => whole_target(look, name, Assigned::Wires, faults),
         Expr::At { name, index } => index_target(look, name, index, Assigned::Wires, faults),
-        Expr::Part { name, left, right } => {
-            part_target(look, name, left, right, Assigned::Wires, faults)
-        }
+        Expr::Part {
+            name,
+            kind,
+            left,
+            right,
+        } => part_target(look, name, *kind, left, right, Assigned::Wires, faults),
         Expr::Join(parts) => {
             let parts = expr_targets(look, parts.as_slice(), faults)?;
             joined(parts, faults)
@@ -330,35 +336,43 @@ pub fn whole_target(
 fn part_target(
     look: &Look,
     name: &Name,
+    kind: PartKind,
     left: &Expr,
     right: &Expr,
     assigned: Assigned,
     faults: &mut Faults,
 ) -> Result<Fixed, NoMemory>
     ensures { (l : definition.Look) → Shows look.now l → IsFit l → IsFormed (tree_of left.now) → IsFormed (tree_of right.now)
-        → IfOk result (λ r. IsAim (aims.part_aim l (use_of assigned) name.now (read l (tree_of left.now)) (read l (tree_of right.now))) r
-        × (faults.new ≡ all_noted faults.old (aims.part_aim l (use_of assigned) name.now (read l (tree_of left.now)) (read l (tree_of right.now))).broken)) }
+        → IfOk result (λ r. IsAim (aims.part_aim l (use_of assigned) name.now kind (read l (tree_of left.now)) (read l (tree_of right.now))) r
+        × (faults.new ≡ all_noted faults.old (aims.part_aim l (use_of assigned) name.now kind (read l (tree_of left.now)) (read l (tree_of right.now))).broken)) }
 {
     note_kind(look, name, assigned, faults)?;
     let left = resolve_constant(look, left, faults)?;
     let right = resolve_constant(look, right, faults)?;
-    let bounds = bounds_of(&left, &right, faults)?;
-    part_aim(look, name, bounds, faults)
+    let numbers = part_numbers(kind, &left, &right, faults)?;
+    part_aim(look, name, kind, numbers, faults)
 }
 
-/// What a part with these bounds is of what a name stands for.
+/// What a part with these two numbers is of what a name stands for.
 fn part_aim(
     look: &Look,
     name: &Name,
-    bounds: Option<Bounds>,
+    kind: PartKind,
+    numbers: Option<Bounds>,
     faults: &mut Faults,
 ) -> Result<Fixed, NoMemory>
     ensures { (l : definition.Look) (u : aims.Use) → Shows look.now l → IsFit l
-        → IfOk result (λ r. IsAim (aims.meant_range l u name.now (option_map range_of bounds) (meaning l name.now)) r
-        × (faults.new ≡ all_noted faults.old (aims.meant_range l u name.now (option_map range_of bounds) (meaning l name.now)).broken)) }
+        → IfOk result (λ r. IsAim (aims.meant_range l u name.now kind (option_map range_of numbers) (meaning l name.now)) r
+        × (faults.new ≡ all_noted faults.old (aims.meant_range l u name.now kind (option_map range_of numbers) (meaning l name.now)).broken)) }
 {
     match look.meaning(name) {
-        Some(Meaning::Signal(sig)) => match part_within(look.bounds(sig), bounds, name, faults)? {
+        Some(Meaning::Signal(sig)) => match part_within(
+            look.bounds(sig),
+            kind,
+            numbers,
+            name,
+            faults,
+        )? {
             Some((at, width)) => Ok(part(sig, at, width)),
             None => Ok(nowhere(look.alloc)),
         },

@@ -2,6 +2,7 @@
 use Rattle.std.proofs.Common.{◌≡◌, ℕ, ◌+◌, ◌^◌, ◌≤◌, Bool, true, false, cond, not, ◌&&◌, nat_lt, nat_le, List, [], ◌∷◌, ◌++◌, map, Option, Some, None, refl, sym, ap, ap₂, subst, ◌∙◌, arith, rules, ltb-true, ltb-false, leb-true}
 use Rattle.std.specs.Prelude.{◌≢◌, slice_get, is_none, flat_map, option_map}
 use Rattle.std.specs.Option.{option_map_or}
+use Rattle.verilog_ast.specs.declared.PartKind.{PartKind}
 use Rattle.verilog_reading.specs.ExprTree.{ExprTree, name, index, part, join, ExprTrees, no_trees, and_trees, TargetTree, whole, index_of, part_of, join_of, TargetTrees, no_parts, and_parts}
 use Rattle.flat_meaning.specs.Flat.{size, Target, Whole, Part, Pick, Group, target_size, target_sizes}
 use Rattle.flat_meaning.specs.Law.{AreWords}
@@ -9,12 +10,12 @@ use Rattle.flat_form.specs.View.{targets_of}
 use Rattle.flat_unfolding.specs.Outcome.{Text, Broken, breaks, breaks_if}
 use Rattle.flat_unfolding.specs.Names.{Range, Memory, Meaning, a_param, a_signal, a_memory, no_value, Look, meaning, width_at, range_at, unknown}
 use Rattle.flat_unfolding.specs.Constants.{own_value, both}
-use Rattle.flat_unfolding.specs.Expressions.{Term, is_sound, as_bound, range_of, Select, bit_select, part_select, may_index, word_of, read}
+use Rattle.flat_unfolding.specs.Expressions.{Term, is_sound, as_bound, as_second, range_of, Select, bit_select, kind_select, may_index, word_of, read}
 use Rattle.flat_unfolding.specs.Targets.{Aim, nowhere, behind, Use, of_wires, of_registers, takes, is_assignable, total, group_of, Goal, fixed, a_word, name_rules, meant_whole, select_aim, signal_aim, word_aim, memory_goal, after, meant_goal, index_goal, as_fixed, meant_range, part_aim, aim, aims, piece_rules, with_piece_rules, goal, first_pick, picked_rule, pick_rule, wire_aim, as_target, as_targets, driven_at, driven}
 use Rattle.flat_unfolding.specs.Formed.{IsFormed, AreFormed, AreSome, IsTargetFormed, AreTargetsFormed, AreSomeParts}
 use Rattle.flat_unfolding.specs.Sized.{IsSized, IsTargetSized, AreTargetsSized}
 use Rattle.flat_unfolding.proofs.Steps.{not_broken, none_of_both, some_is}
-use Rattle.flat_unfolding.proofs.Selects.{IsInside, spans_at, bit_inside, part_inside, index_inside}
+use Rattle.flat_unfolding.proofs.Selects.{IsInside, spans_at, bit_inside, kind_inside, index_inside}
 use Rattle.flat_unfolding.proofs.Known.{reg_at, Stands, StandsIf}
 use Rattle.flat_unfolding.proofs.Terms.{IsTermSized, sound_is, sized}
 
@@ -125,15 +126,15 @@ module _ (look : Look) (words : AreWords (width_at look.entries)) (known : (x : 
         as_fixed_sized x (fixed a) h e = h e
         as_fixed_sized x (a_word m i bs) h e = let p = none_of_both bs (breaks 319 x) e in let q = p.1 in absurd (search (rules, q))
 
-        meant_range_sized : (x : Text) (r : Option Range) (o : Option Meaning) → r ≢ None → IsAllowed o → IsAimSized (meant_range look use_ x r o)
-        meant_range_sized x r None s h e = let k = h.is_some in absurd (search (rules, k))
-        meant_range_sized x None (Some (a_param p)) s h e = absurd (s refl)
-        meant_range_sized x (Some q) (Some (a_param p)) s h e = let k = h.is_assignable in absurd (search (rules, k))
-        meant_range_sized x None (Some (a_signal n)) s h e = absurd (s refl)
-        meant_range_sized x (Some q) (Some (a_signal n)) s h e = select_sized x n (part_select (range_at look.entries n) q) (allows n h.is_assignable)
-            (λ c. part_inside (range_at look.entries n) (wid n) q c (spans_at look.entries n)) e
-        meant_range_sized x r (Some (a_memory m)) s h e = absurd (search (rules, e))
-        meant_range_sized x r (Some no_value) s h e = absurd h.stands
+        meant_range_sized : (x : Text) (kind : PartKind) (r : Option Range) (o : Option Meaning) → r ≢ None → IsAllowed o → IsAimSized (meant_range look use_ x kind r o)
+        meant_range_sized x kind r None s h e = let k = h.is_some in absurd (search (rules, k))
+        meant_range_sized x kind None (Some (a_param p)) s h e = absurd (s refl)
+        meant_range_sized x kind (Some q) (Some (a_param p)) s h e = let k = h.is_assignable in absurd (search (rules, k))
+        meant_range_sized x kind None (Some (a_signal n)) s h e = absurd (s refl)
+        meant_range_sized x kind (Some q) (Some (a_signal n)) s h e = select_sized x n (kind_select (range_at look.entries n) kind q) (allows n h.is_assignable)
+            (λ c. kind_inside (range_at look.entries n) (wid n) kind q c (spans_at look.entries n)) e
+        meant_range_sized x kind r (Some (a_memory m)) s h e = absurd (search (rules, e))
+        meant_range_sized x kind r (Some no_value) s h e = absurd h.stands
 
         -- bounds that break no rule make a range
         ranged : (l r : Term) → l.broken ≡ [] → r.broken ≡ [] → range_of l r ≢ None
@@ -144,11 +145,13 @@ module _ (look : Look) (words : AreWords (width_at look.entries)) (known : (x : 
             go true false h k e = absurd (search (rules, k))
             go false b h k e = absurd (search (rules, h))
 
-        part_aim_sized : (x : Text) (l r : Term) → IsAimSized (part_aim look use_ x l r)
-        part_aim_sized x l r = behind_sized (name_rules look use_ x ++ (as_bound l).broken ++ (as_bound r).broken) (meant_range look use_ x (range_of (as_bound l) (as_bound r)) (meaning look x)) (λ e.
-            let p = none_of_both (name_rules look use_ x ++ (as_bound l).broken) (as_bound r).broken e in
-            let q = none_of_both (name_rules look use_ x) (as_bound l).broken p.0 in
-            meant_range_sized x (range_of (as_bound l) (as_bound r)) (meaning look x) (ranged (as_bound l) (as_bound r) q.1 p.1) (allowed x q.0))
+        part_aim_sized : (x : Text) (kind : PartKind) (l r : Term) → IsAimSized (part_aim look use_ x kind l r)
+        part_aim_sized x kind l r =
+            let a = as_bound l in let b = as_second kind r in
+            behind_sized (name_rules look use_ x ++ a.broken ++ b.broken) (meant_range look use_ x kind (range_of a b) (meaning look x)) (λ e.
+            let p = none_of_both (name_rules look use_ x ++ a.broken) b.broken e in
+            let q = none_of_both (name_rules look use_ x) a.broken p.0 in
+            meant_range_sized x kind (range_of a b) (meaning look x) (ranged a b q.1 p.1) (allowed x q.0))
 
         -- ---- concatenations
 
@@ -195,7 +198,7 @@ module _ (look : Look) (words : AreWords (width_at look.entries)) (known : (x : 
           pub aim_sized : (t : TargetTree) → IsTargetFormed t → IsAimSized (aim look use_ t)
           aim_sized (whole x) h = behind_sized (name_rules look use_ x) (meant_whole look use_ x (meaning look x)) (λ e. meant_whole_sized x (meaning look x) (allowed x e))
           aim_sized (index_of x i) h = as_fixed_sized x (index_goal look use_ x (read look i)) (index_goal_sized x (read look i) (sized look words known i h))
-          aim_sized (part_of x l r) h = part_aim_sized x (read look l) (read look r)
+          aim_sized (part_of x kind l r) h = part_aim_sized x kind (read look l) (read look r)
           aim_sized (join_of parts) h = group_sized (aims look use_ parts) (some_aims parts h.0) (aims_sized parts h.1)
 
           pub aims_sized : (ts : TargetTrees) → AreTargetsFormed ts → AreAimsSized (aims look use_ ts)
@@ -214,7 +217,7 @@ module _ (look : Look) (words : AreWords (width_at look.entries)) (known : (x : 
   pub goal_sized : (t : TargetTree) → IsTargetFormed t → IsGoalSized of_registers is_reg (goal look t)
   goal_sized (whole x) h = ruled_sized of_registers is_reg (λ s e. e) (λ u s e. e) (whole x) h
   goal_sized (index_of x i) h = index_goal_sized of_registers is_reg (λ s e. e) (λ u s e. e) x (read look i) (sized look words known i h)
-  goal_sized (part_of x l r) h = ruled_sized of_registers is_reg (λ s e. e) (λ u s e. e) (part_of x l r) h
+  goal_sized (part_of x kind l r) h = ruled_sized of_registers is_reg (λ s e. e) (λ u s e. e) (part_of x kind l r) h
   goal_sized (join_of parts) h = ruled_sized of_registers is_reg (λ s e. e) (λ u s e. e) (join_of parts) h
 
   -- ---- what `assign`, a gate or an output drives
@@ -241,7 +244,7 @@ module _ (look : Look) (words : AreWords (width_at look.entries)) (known : (x : 
       formed_target : (e : ExprTree) (t : TargetTree) → IsFormed e → as_target e ≡ Some t → IsTargetFormed t
       formed_target (name x) t h k = subst IsTargetFormed (some_is (whole x) t k) tt
       formed_target (index x i) t h k = subst IsTargetFormed (some_is (index_of x i) t k) h
-      formed_target (part x l r) t h k = subst IsTargetFormed (some_is (part_of x l r) t k) h
+      formed_target (part x kind l r) t h k = subst IsTargetFormed (some_is (part_of x kind l r) t k) h
       formed_target (join parts) t h k = go (as_targets parts) (λ ts e. (some_target parts ts h.0 e, formed_targets parts ts h.1 e)) k
         where
           go : (o : Option TargetTrees) → ((ts : TargetTrees) → o ≡ Some ts → AreSomeParts ts × AreTargetsFormed ts) → option_map join_of o ≡ Some t → IsTargetFormed t

@@ -11,7 +11,9 @@ use Rattle.verilog_ast.specs.declared.GateKind.TheVariants as g
 use Rattle.verilog_ast.specs.declared.Event.TheVariants as event
 use Rattle.verilog_ast.specs.declared.EdgeKind.TheVariants as edge
 use Rattle.verilog_reading.specs.ExprTree.{ExprTree, part, unary, binary, choice, repeat, and_trees, no_trees, paren}
-use Rattle.verilog_reading.specs.StmtTree.{when, either, switch, and_arms, no_arms}
+use Rattle.verilog_reading.specs.StmtTree.{when, either, set, switch, switch_else, subject_of, by_value, by_mask, and_arms, no_arms}
+use Rattle.verilog_ast.specs.declared.PartKind.TheVariants as select
+use Rattle.verilog_ast.specs.declared.Delay.TheVariants as delay
 use Rattle.verilog_reading.specs.SourceTree.{BodyTree, ModuleTree, assign, decl, gate, instance, initial, always, ordered}
 use Rattle.flat_meaning.specs.Flat as f
 use Rattle.flat_meaning.specs.Design.{Flat}
@@ -94,6 +96,47 @@ constants : top_m (a_module "m" [] (port k.Output (down_to_zero 3) "q" ∷ []) (
     })
 unfolding keyword_of is_left_out
 constants = refl
+
+-- module m(input [3:0] v, output [4:0] o); assign o = -v; endmodule
+-- this is `0 - v`, and the 0 has four bits
+minus : top_m (a_module "m" [] (port k.Input (down_to_zero 3) "v" ∷ port k.Output (down_to_zero 4) "o" ∷ []) (assign (to "o") (unary u.Minus (v "v")) ∷ []) ∷ [])
+    ≡ good (record {
+      signals = ranged "v" 1 3 Input ∷ ranged "o" 1 4 Wire ∷ [];
+      assigns = (f.Whole 1, f.Binary f.minus (f.Number 4 0) (f.Read 0 0 4)) ∷ [];
+      combs = [];
+      clocked = [];
+      outputs = 1 ∷ [];
+    })
+unfolding keyword_of is_left_out
+minus = refl
+
+-- assign o = v & -1; `-1` is no whole number from 0 to 2^31 - 1
+minus_of_number : h (assign (to "o") (binary b.And (v "v") (unary u.Minus (plain 1))) ∷ []) ≡ refused_at 307 2 ""
+minus_of_number = refl
+
+-- assign o = v & -0;
+minus_of_zero : h (assign (to "o") (binary b.And (v "v") (unary u.Minus (plain 0))) ∷ assign (to "q") (v "d") ∷ []) ≡ h (assign (to "o") (binary b.And (v "v") (plain 0)) ∷ assign (to "q") (v "d") ∷ [])
+minus_of_zero = refl
+
+-- v[1 +: 2] is v[2:1], v[3 -: 2] is v[3:2]
+part_up : h (assign (to "o") (part (codes "v") select.Up (plain 1) (plain 2)) ∷ []) ≡ h (assign (to "o") (part (codes "v") select.Range (plain 2) (plain 1)) ∷ [])
+part_up = refl
+
+part_down : h (assign (to "o") (part (codes "v") select.Down (plain 3) (plain 2)) ∷ []) ≡ h (assign (to "o") (part (codes "v") select.Range (plain 3) (plain 2)) ∷ [])
+part_down = refl
+
+-- v[3 +: 2] and v[0 -: 2] are outside, v[d +: 2] has no constant base, and v[1 +: 0] no bits
+part_above : h (assign (to "o") (part (codes "v") select.Up (plain 3) (plain 2)) ∷ []) ≡ refused_at 314 2 "v"
+part_above = refl
+
+part_below : h (assign (to "o") (part (codes "v") select.Down (plain 0) (plain 2)) ∷ []) ≡ refused_at 314 2 "v"
+part_below = refl
+
+part_of_variable : h (assign (to "o") (part (codes "v") select.Up (v "d") (plain 2)) ∷ []) ≡ refused_at 307 2 ""
+part_of_variable = refl
+
+part_of_nothing : h (assign (to "o") (part (codes "v") select.Up (plain 1) (plain 0)) ∷ []) ≡ refused_at 307 2 ""
+part_of_nothing = refl
 
 -- assign o = {3, d}; and assign o = {'h3, d}; a part has a size of its own
 plain_part : h (assign (to "o") (pair (plain 3) (v "d")) ∷ []) ≡ refused_at 308 2 ""
@@ -251,19 +294,82 @@ index_before = refl
 read_beside_broken : h (reg None "r" ∷ of_wires (blocking (to "r") (binary b.And (v "r") (bit "v" (plain 9)))) ∷ []) ≡ refused_at 311 3 "r"
 read_beside_broken = refl
 
--- always @(d or e) r = d & e; is no clocked process
-plain_levels : h (reg None "r" ∷ always (event.Edges (on edge.Level "d" ∷ on edge.Level "e" ∷ [])) (blocking (to "r") (binary b.And (v "d") (v "e"))) ∷ []) ≡ refused_at 316 3 "d"
+-- always @(d or e) r = d & e; is read as with `@*`, and so it is where further names are in the list
+plain_levels : h (reg None "r" ∷ always (event.Edges (on edge.Level "d" ∷ on edge.Level "e" ∷ [])) (blocking (to "r") (binary b.And (v "d") (v "e"))) ∷ [])
+    ≡ h (reg None "r" ∷ of_wires (blocking (to "r") (binary b.And (v "d") (v "e"))) ∷ [])
 plain_levels = refl
+
+more_levels : h (reg None "r" ∷ always (event.Edges (on edge.Level "d" ∷ on edge.Level "r" ∷ on edge.Level "e" ∷ [])) (blocking (to "r") (v "d")) ∷ []) ≡ h (reg None "r" ∷ of_wires (blocking (to "r") (v "d")) ∷ [])
+more_levels = refl
+
+-- always @(d) r = d & e; a name is missing
+missing_level : h (reg None "r" ∷ always (event.Edges (on edge.Level "d" ∷ [])) (blocking (to "r") (binary b.And (v "d") (v "e"))) ∷ []) ≡ refused_at 316 3 "d"
+missing_level = refl
+
+-- always @* begin s = d; r <= s; end reads nothing that it assigns by `<=`
+later_in_star : h (reg None "r" ∷ reg None "s" ∷ of_wires (rows (blocking (to "s") (v "d") ∷ later (to "r") (v "s") ∷ [])) ∷ [])
+    ≡ h (reg None "r" ∷ reg None "s" ∷ always (event.Edges (on edge.Level "d" ∷ [])) (rows (blocking (to "s") (v "d") ∷ later (to "r") (v "s") ∷ [])) ∷ [])
+later_in_star = refl
+
+-- always @* begin s <= d; r = s; end does
+later_is_read : h (reg None "r" ∷ reg None "s" ∷ of_wires (rows (later (to "s") (v "d") ∷ blocking (to "r") (v "s") ∷ [])) ∷ []) ≡ refused_at 313 4 "s"
+later_is_read = refl
+
+-- always @* r <= #1 d;
+delay_in_star : h (reg None "r" ∷ of_wires (set false (Some (delay.Number 1)) (to "r") (v "d")) ∷ []) ≡ refused_at 313 3 "r"
+delay_in_star = refl
+
+-- always @(posedge ca) begin r <= #1 d; r <= e; end the first one would win
+two_delays : h (reg None "r" ∷ at_clock "ca" (rows (set false (Some (delay.Number 1)) (to "r") (v "d") ∷ later (to "r") (v "e") ∷ [])) ∷ []) ≡ refused_at 313 3 "r"
+two_delays = refl
+
+-- always @(posedge ca) if (d) r <= #1 d; else r <= e; these are two paths
+delays_apart : h (reg None "r" ∷ at_clock "ca" (either (v "d") (set false (Some (delay.Number 1)) (to "r") (v "d")) (later (to "r") (v "e"))) ∷ assign (to "q") (v "r") ∷ [])
+    ≡ h (reg None "r" ∷ at_clock "ca" (either (v "d") (later (to "r") (v "d")) (later (to "r") (v "e"))) ∷ assign (to "q") (v "r") ∷ [])
+delays_apart = refl
+
+-- a third one behind them has one delay or another
+delay_behind_two : h (reg None "r" ∷ at_clock "ca" (rows (either (v "d") (set false (Some (delay.Number 1)) (to "r") (v "d")) (later (to "r") (v "e")) ∷ later (to "r") (v "d") ∷ [])) ∷ []) ≡ refused_at 313 3 "r"
+delay_behind_two = refl
 
 -- always @(posedge v) r = d; a clock of four bits has the form, and the assignment is of the wrong kind
 wide_clock : h (reg None "r" ∷ at_clock "v" (blocking (to "r") (v "d")) ∷ []) ≡ refused_at 313 3 "r"
 wide_clock = refl
 
+-- module m(input [1:0] v, input e, output q); reg r; always @* casez (v) 2'b1?, 2'b00: r = e; 2'b?1: r = 1'b0; default: r = 1'b1; endcase assign q = r; endmodule
+-- what isn't open is compared, at the largest size; 2'b00 has no open bit
+masks : top_m (a_module "m" [] (port k.Input (down_to_zero 1) "v" ∷ input "e" ∷ output "q" ∷ []) (
+    reg None "r"
+    ∷ of_wires (switch_else (subject_of true (v "v"))
+    (and_arms (by_mask 2 1 2 ∷ by_value (sized 2 0) ∷ []) (blocking (to "r") (v "e")) (and_arms (by_mask 1 2 2 ∷ []) (blocking (to "r") (sized 1 0)) no_arms)) (blocking (to "r") (sized 1 1)))
+    ∷ assign (to "q") (v "r")
+    ∷ []) ∷ [])
+    ≡ good (record {
+      signals = ranged "v" 1 1 Input ∷ one_bit "e" 1 Input ∷ one_bit "q" 1 Wire ∷ one_bit "r" 2 Wire ∷ [];
+      assigns = (f.Whole 2, f.Read 3 0 1) ∷ [];
+      combs = f.If (f.Binary f.logical_or (f.Binary f.is_equal (f.Binary f.bitwise_and (f.Read 0 0 2) (f.Number 2 2)) (f.Number 2 2)) (f.Binary f.is_equal (f.Read 0 0 2) (f.Number 2 0)))
+          (f.Set true (f.Whole 3) (f.Read 1 0 1))
+          (f.If (f.Binary f.is_equal (f.Binary f.bitwise_and (f.Read 0 0 2) (f.Number 2 1)) (f.Number 2 1)) (f.Set true (f.Whole 3) (f.Number 1 0)) (f.Set true (f.Whole 3) (f.Number 1 1))) ∷ [];
+      clocked = [];
+      outputs = 2 ∷ [];
+    })
+unfolding keyword_of is_left_out
+masks = refl
+
+-- reg r; always @* casez (v) d: r = 1'b1; default: r = 1'b0; endcase a label is a mask or a constant
+mask_of_signal : h (reg None "r" ∷ of_wires (switch_else (subject_of true (v "v")) (and_arms (by_value (v "d") ∷ []) (blocking (to "r") (sized 1 1)) no_arms) (blocking (to "r") (sized 1 0))) ∷ [])
+    ≡ refused_at 307 3 ""
+mask_of_signal = refl
+
+-- reg r; always @* casez (d) 1'b?: r = 1'b1; endcase there is no `else`
+open_mask : h (reg None "r" ∷ of_wires (switch (subject_of true (v "d")) (and_arms (by_mask 0 1 1 ∷ []) (blocking (to "r") (sized 1 1)) no_arms)) ∷ []) ≡ refused_at 311 3 "r"
+open_mask = refl
+
 -- module m(input d, e, output q); reg r; always @* case (d) 1'b0: r = e; 1'b1: r = 1'b0; endcase assign q = r; endmodule
 -- the labels take every value, so there is no default
 full_case : top_m (a_module "m" [] (input "d" ∷ input "e" ∷ output "q" ∷ []) (
     reg None "r"
-    ∷ of_wires (switch (v "d") (and_arms (sized 1 0 ∷ []) (blocking (to "r") (v "e")) (and_arms (sized 1 1 ∷ []) (blocking (to "r") (sized 1 0)) no_arms)))
+    ∷ of_wires (switch (subject_of false (v "d")) (and_arms (by_value (sized 1 0) ∷ []) (blocking (to "r") (v "e")) (and_arms (by_value (sized 1 1) ∷ []) (blocking (to "r") (sized 1 0)) no_arms)))
     ∷ assign (to "q") (v "r")
     ∷ []) ∷ [])
     ≡ good (record {
@@ -398,7 +504,7 @@ unfolding keyword_of is_left_out digits
 wide_index = refl
 
 -- reg M [0:2]; assign q = M[v[1:0]]; has four values for three words
-index_beyond_words : h (memory None "M" (range (plain 0) (plain 2)) ∷ assign (to "q") (bit "M" (part (codes "v") (plain 1) (plain 0))) ∷ []) ≡ refused_at 315 3 "M"
+index_beyond_words : h (memory None "M" (range (plain 0) (plain 2)) ∷ assign (to "q") (bit "M" (part (codes "v") select.Range (plain 1) (plain 0))) ∷ []) ≡ refused_at 315 3 "M"
 unfolding keyword_of is_left_out digits
 index_beyond_words = refl
 

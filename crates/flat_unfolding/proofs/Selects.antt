@@ -2,8 +2,10 @@
 use Rattle.std.proofs.Common.{◌≡◌, ℕ, ◌+◌, ◌-◌, ◌^◌, ◌<◌, ◌≤◌, Bool, true, false, cond, ◌&&◌, ◌==◌, nat_lt, nat_le, List, Option, Some, None, refl, sym, ap, subst, ◌∙◌, arith, rules, ltb-false, leb-true}
 use Rattle.std.specs.Prelude.{slice_get}
 use Rattle.std.proofs.lemmas.Bool.{and_parts}
+use Rattle.verilog_ast.specs.declared.PartKind.{PartKind}
+use Rattle.verilog_ast.specs.declared.PartKind.TheVariants as k
 use Rattle.flat_unfolding.specs.Names.{Range, span, width_of, offset, Entry, width_at, range_at}
-use Rattle.flat_unfolding.specs.Expressions.{Select, one_bit, bit_select, bits_between, part_select, may_index}
+use Rattle.flat_unfolding.specs.Expressions.{Select, one_bit, bit_select, bits_between, part_select, indices_select, kind_select, may_index}
 use Rattle.flat_unfolding.proofs.Steps.{some_is}
 
 abbrev pub IsInside : ℕ → Select → Type 0
@@ -64,6 +66,15 @@ part_inside (Some q) n p s h e = go (offset p.left q) (offset p.right q) refl e
     go None b k e = absurd (search (rules, e))
     go (Some high) None k e = absurd (search (rules, e))
     go (Some high) (Some low) k e = let l = offset_below p.left q high k in let m = h q refl in either high low (nat_lt high low) refl (omega arith) e
+
+pub kind_inside : (r : Option Range) (n : ℕ) (kind : PartKind) (p : Range) (s : Select) → Spans r n → kind_select r kind p ≡ Some s → IsInside n s
+kind_inside r n k.Range p s h e = part_inside r n p s h e
+kind_inside r n k.Up p s h e = part_inside r n _ s h e
+kind_inside r n k.Down p s h e = go (nat_lt p.left (p.right - 1)) e
+  where
+    go : (b : Bool) → cond b None (indices_select r (p.left - (p.right - 1)) p.left) ≡ Some s → IsInside n s
+    go true e = absurd (search (rules, e))
+    go false e = part_inside r n _ s h e
 
 pub index_inside : (r : Option Range) (n k : ℕ) → Spans r n → may_index r k ≡ true → 2 ^ k ≤ n
 index_inside None n k h e = absurd (search (rules, e))

@@ -51,10 +51,10 @@ to_pair a b = join_of (and_parts a (and_parts b no_parts))
 -- ---- statements
 
 abbrev pub blocking : TargetTree → ExprTree → StmtTree
-blocking t e = set true t e
+blocking t e = set true None t e
 
 abbrev pub later : TargetTree → ExprTree → StmtTree
-later t e = set false t e
+later t e = set false None t e
 
 abbrev pub rows : List StmtTree → StmtTree
 rows ss = block (stmt_trees_of ss)

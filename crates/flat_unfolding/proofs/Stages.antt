@@ -25,7 +25,7 @@ use Rattle.flat_unfolding.specs.Targets.{is_input, of_wires, takes, first_pick, 
 use Rattle.flat_unfolding.specs.Statements.{of_wires as wires, clocked, neither, done, done_all}
 use Rattle.flat_unfolding.specs.Reads.{is_latch, latch_rule}
 use Rattle.flat_unfolding.specs.Resets.{peeled, peeled_rows, reset_signals, tested_signals, ResetForm, branch_given, form_with, form_in, reset_form}
-use Rattle.flat_unfolding.specs.Processes.{has_form, first_edge, meant_edge, edge_rules, meant_signal, edge_signal, is_wide, names_reset, clock_of, is_clock_falling, event_rules, edge_kind, form_of, pair_rules, body_without, wires_process, clocked_process, always_item}
+use Rattle.flat_unfolding.specs.Processes.{delay_rules, later_rules, counts_as_star, has_form, first_edge, meant_edge, edge_rules, meant_signal, edge_signal, is_wide, names_reset, clock_of, is_clock_falling, event_rules, edge_kind, form_of, pair_rules, body_without, wires_process, clocked_process, always_item}
 use Rattle.flat_unfolding.specs.Starts.{Starts, with_starts, start_of}
 use Rattle.flat_unfolding.specs.Wires.{assign_item, has_terminals, gate_op, is_inverted, gate_value, output_rule, input_rules, count_rule, gate_item}
 use Rattle.flat_unfolding.specs.Design.{Design, Stage, look_of, with_design, assigned}
@@ -241,14 +241,15 @@ module _ (s : Stage) (h : IsStage s) where
   wires_next : (p : Place) (body : StmtTree) (t : Stage) → IsStmtFormed body → wires_process s p body ≡ good t → IsNext s t
   wires_next p body t f = judged_next by_number p _ s _ t (λ b.
       let d = done (look_of s) wires body in
-      let q = none_of_both d.broken (latch_rule es d.stmt) b in
+      let m = none_of_both (d.broken ++ later_rules body) (latch_rule es d.stmt) b in
+      let q = none_of_both d.broken (later_rules body) m.0 in
       record {
         stage = record {
           names = h.names;
           design = record {
             entries = h.design.entries;
             assigns = h.design.assigns;
-            combs = All-push (IsCombIn es) s.design.combs d.stmt h.design.combs (done_sized (look_of s) words known wires body f q.0, no_latches es d.stmt q.1);
+            combs = All-push (IsCombIn es) s.design.combs d.stmt h.design.combs (done_sized (look_of s) words known wires body f q.0, no_latches es d.stmt m.1);
             clocked = h.design.clocked;
             outputs = h.design.outputs;
           };
@@ -264,11 +265,11 @@ module _ (s : Stage) (h : IsStage s) where
     peeled_fine : (body : StmtTree) → IsFine body → IsFine (peeled body)
     peeled_fine (block rows) f = rows_fine rows f.0 f.1
     peeled_fine null f = f
-    peeled_fine (set b t e) f = f
+    peeled_fine (set b delay t e) f = f
     peeled_fine (when c x) f = f
     peeled_fine (either c x y) f = f
-    peeled_fine (switch e rows) f = f
-    peeled_fine (switch_else e rows d) f = f
+    peeled_fine (switch c rows) f = f
+    peeled_fine (switch_else c rows d) f = f
 
     rows_fine : (rows : StmtTrees) → AreRowsFormed rows → (done_all (look_of s) clocked rows).broken ≡ [] → IsFine (peeled_rows rows)
     rows_fine no_rows f e = (f, e)
@@ -353,8 +354,9 @@ module _ (s : Stage) (h : IsStage s) where
   clocked_next : (p : Place) (edges : List Edge) (body : StmtTree) (t : Stage) → IsStmtFormed body → clocked_process s p edges body ≡ good t → IsNext s t
   clocked_next p edges body t f = judged_next by_number p _ s _ t (λ b.
       let look = look_of s in
-      let o = none_of_both (event_rules look edges ++ (done look (edge_kind look edges) body).broken ++ pair_rules look edges) _ b in
-      let q = none_of_both (event_rules look edges ++ (done look (edge_kind look edges) body).broken) (pair_rules look edges) o.0 in
+      let o = none_of_both (event_rules look edges ++ (done look (edge_kind look edges) body).broken ++ delay_rules body ++ pair_rules look edges) _ b in
+      let u = none_of_both (event_rules look edges ++ (done look (edge_kind look edges) body).broken ++ delay_rules body) (pair_rules look edges) o.0 in
+      let q = none_of_both (event_rules look edges ++ (done look (edge_kind look edges) body).broken) (delay_rules body) u.0 in
       let r = none_of_both (event_rules look edges) (done look (edge_kind look edges) body).broken q.0 in
       let c = clock_one edges r.0 in
       let i : (done look clocked body).broken ≡ [] = ap (λ b. (done look (cond b clocked neither) body).broken) (sym c.0) ∙ r.1 in
@@ -382,7 +384,11 @@ module _ (s : Stage) (h : IsStage s) where
 
   pub always_next : (p : Place) (e : Event) (body : StmtTree) (t : Stage) → IsStmtFormed body → always_item s p e body ≡ good t → IsNext s t
   always_next p event.Star body t f = wires_next p body t f
-  always_next p (event.Edges edges) body t f = clocked_next p edges body t f
+  always_next p (event.Edges edges) body t f = go (counts_as_star (look_of s) edges body)
+    where
+      go : (b : Bool) → cond b (wires_process s p body) (clocked_process s p edges body) ≡ good t → IsNext s t
+      go true e = wires_next p body t f e
+      go false e = clocked_next p edges body t f e
 
   -- ---- start values
 

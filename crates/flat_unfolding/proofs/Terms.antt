@@ -6,6 +6,7 @@ use Rattle.std.proofs.Math.Nat.{mod-lt}
 use Rattle.std.proofs.Math.Pow.{pow-lt}
 use Rattle.cdc_base.specs.declared.signal.ResetPin.{ResetPin}
 use Rattle.verilog_ast.specs.declared.UnaryOp.{UnaryOp}
+use Rattle.verilog_ast.specs.declared.PartKind.{PartKind}
 use Rattle.verilog_ast.specs.declared.BinaryOp.{BinaryOp}
 use Rattle.verilog_ast.specs.declared.BinaryOp.TheVariants as b
 use Rattle.verilog_reading.specs.ExprTree.{ExprTree, number, name, index, part, unary, binary, choice, join, repeat, paren, ExprTrees, no_trees, and_trees}
@@ -13,16 +14,17 @@ use Rattle.flat_meaning.specs.Flat as f
 use Rattle.flat_meaning.specs.Flat.{Expr, Number, Read, At, Unary, Binary, Choose, Gate, Join, Repeat, Exprs, no_exprs, expr, size, sizes, largest, unary_size, binary_size}
 use Rattle.flat_meaning.specs.Fits.{has_cell}
 use Rattle.flat_meaning.specs.Law.{AreWords}
+use Rattle.flat_form.specs.declared.flat.FUnaryOp.{FUnaryOp}
 use Rattle.flat_form.specs.View.{binary_of}
 use Rattle.flat_unfolding.specs.Outcome.{Text, Broken, breaks, breaks_if}
 use Rattle.flat_unfolding.specs.Names.{Range, width_of, Param, Memory, Meaning, a_param, a_signal, a_memory, no_value, Names, Look, meaning, width_at, range_at, reset_at, level, bits_read, whole_of, unknown}
-use Rattle.flat_unfolding.specs.Constants.{own_value, counted_size, within, whole, whole_unary, whole_binary, size_in}
+use Rattle.flat_unfolding.specs.Constants.{own_value, counted_size, plain_unary, within, whole, whole_unary, whole_binary, size_in}
 use Rattle.flat_unfolding.specs.Signs.{compares_signed, is_unsized}
-use Rattle.flat_unfolding.specs.Expressions.{Term, is_empty, is_sound, all_broken, all_sound, joined, spoilt, no_expr, also, as_bound, as_count, range_of, Select, bit_select, part_select, may_index, word_of, unary_term, is_whole_only, binary_term, choice_term, join_term, repeat_term, meant_term, param_bits, signal_bits, word_bits, param_index, signal_index, words_from, memory_index, is_param, meant_index, index_term, meant_part, part_term, whole_number, judged_whole, read, read_parts}
+use Rattle.flat_unfolding.specs.Expressions.{Term, is_empty, is_sound, all_broken, all_sound, joined, spoilt, no_expr, also, as_bound, as_count, as_second, range_of, Select, bit_select, kind_select, may_index, word_of, unary_expr, unary_term, is_whole_only, binary_term, choice_term, join_term, repeat_term, meant_term, param_bits, signal_bits, word_bits, param_index, signal_index, words_from, memory_index, is_param, meant_index, index_term, meant_part, part_term, whole_number, judged_whole, read, read_parts}
 use Rattle.flat_unfolding.specs.Formed.{IsFormed, AreFormed, AreSome}
 use Rattle.flat_unfolding.specs.Sized.{IsSized, AreSized}
 use Rattle.flat_unfolding.proofs.Steps.{not_broken, none_of_both, some_is}
-use Rattle.flat_unfolding.proofs.Selects.{IsInside, spans_own, spans_at, bit_inside, part_inside, index_inside}
+use Rattle.flat_unfolding.proofs.Selects.{IsInside, spans_own, spans_at, bit_inside, kind_inside, index_inside}
 use Rattle.flat_unfolding.proofs.Known.{IsParamSized, Stands, StandsIf}
 
 -- ---- sizes
@@ -33,7 +35,7 @@ IsWide n = (1 ≤ n) × (n ≤ 64)
 one_wide : IsWide 1
 one_wide = ((let a : 1 ≤ 1 = omega arith in a), (let b : 1 ≤ 64 = omega arith in b))
 
-max_wide : (m n : ℕ) → IsWide m → IsWide n → IsWide (max m n)
+pub max_wide : (m n : ℕ) → IsWide m → IsWide n → IsWide (max m n)
 max_wide m n h k = let a = h.0 in let b = h.1 in let c = k.1 in ((let x : 1 ≤ max m n = omega arith in x), (let y : max m n ≤ 64 = omega arith in y))
 
 unary_wide : (op : f.UnaryOp) (m : ℕ) → IsWide m → IsWide (unary_size op m)
@@ -122,7 +124,7 @@ then_small g (Some a) h n e = h a n e
 -- a whole expression counts as a plain number
 module _ (names : Names) where
   whole_unary_small : (op : UnaryOp) (a : ExprTree) → IsSmall (whole names (unary op a))
-  whole_unary_small op a = then_small _ (whole names a) (λ m. within_small (size_in names (unary op a)) (whole_unary op (size_in names a) m))
+  whole_unary_small op a = then_small _ (whole names a) (λ m. then_small _ (whole_unary op (size_in names a) m) (within_small (size_in names (unary op a))))
 
   whole_binary_small : (op : BinaryOp) (a b : ExprTree) → IsSmall (whole names (binary op a b))
   whole_binary_small op a b = then_small _ (whole names a) (λ m. then_small _ (whole names b) (λ n. then_small _ (whole_binary op m n) (within_small (size_in names (binary op a b)))))
@@ -236,22 +238,24 @@ module _ (look : Look) (words : AreWords (width_at look.entries)) where
 
   -- ---- a part
 
-  meant_part_sized : (x : Text) (r : Option Range) (o : Option Meaning) → StandsIf look.entries o → IsTermSized (meant_part look x r o)
-  meant_part_sized x None None h e = no_expr_sized
-  meant_part_sized x (Some q) None h e = no_expr_sized
-  meant_part_sized x None (Some (a_param p)) h e = no_expr_sized
-  meant_part_sized x (Some q) (Some (a_param p)) h e = bits_sized x p (part_select p.range q) (λ s. part_inside p.range (width_of p.range) q s (spans_own p.range)) h e
-  meant_part_sized x None (Some (a_signal s)) h e = no_expr_sized
-  meant_part_sized x (Some q) (Some (a_signal s)) h e = signal_sized x s (part_select (range_at look.entries s) q) (λ c. part_inside (range_at look.entries s) (wid s) q c (spans_at look.entries s)) e
-  meant_part_sized x None (Some (a_memory m)) h e = no_expr_sized
-  meant_part_sized x (Some q) (Some (a_memory m)) h e = no_expr_sized
-  meant_part_sized x None (Some no_value) h e = no_expr_sized
-  meant_part_sized x (Some q) (Some no_value) h e = no_expr_sized
+  meant_part_sized : (x : Text) (kind : PartKind) (r : Option Range) (o : Option Meaning) → StandsIf look.entries o → IsTermSized (meant_part look x kind r o)
+  meant_part_sized x kind None None h e = no_expr_sized
+  meant_part_sized x kind (Some q) None h e = no_expr_sized
+  meant_part_sized x kind None (Some (a_param p)) h e = no_expr_sized
+  meant_part_sized x kind (Some q) (Some (a_param p)) h e = bits_sized x p (kind_select p.range kind q) (λ s. kind_inside p.range (width_of p.range) kind q s (spans_own p.range)) h e
+  meant_part_sized x kind None (Some (a_signal s)) h e = no_expr_sized
+  meant_part_sized x kind (Some q) (Some (a_signal s)) h e =
+      signal_sized x s (kind_select (range_at look.entries s) kind q) (λ c. kind_inside (range_at look.entries s) (wid s) kind q c (spans_at look.entries s)) e
+  meant_part_sized x kind None (Some (a_memory m)) h e = no_expr_sized
+  meant_part_sized x kind (Some q) (Some (a_memory m)) h e = no_expr_sized
+  meant_part_sized x kind None (Some no_value) h e = no_expr_sized
+  meant_part_sized x kind (Some q) (Some no_value) h e = no_expr_sized
 
-  part_sized : (x : Text) (l r : Term) → StandsIf look.entries (meaning look x) → IsTermSized (part_term look x l r)
-  part_sized x l r h e =
-      let rest = meant_part look x (range_of (as_bound l) (as_bound r)) (meaning look x) in
-      meant_part_sized x (range_of (as_bound l) (as_bound r)) (meaning look x) h (none_of_both (unknown look x ++ (as_bound l).broken ++ (as_bound r).broken) rest.broken e).1
+  part_sized : (x : Text) (kind : PartKind) (l r : Term) → StandsIf look.entries (meaning look x) → IsTermSized (part_term look x kind l r)
+  part_sized x kind l r h e =
+      let range = range_of (as_bound l) (as_second kind r) in
+      let rest = meant_part look x kind range (meaning look x) in
+      meant_part_sized x kind range (meaning look x) h (none_of_both (unknown look x ++ (as_bound l).broken ++ (as_second kind r).broken) rest.broken e).1
 
   -- ---- operators
 
@@ -277,6 +281,15 @@ module _ (look : Look) (words : AreWords (width_at look.entries)) where
   operated_sized op l r h k e =
       let p = none_of_both (l.broken ++ r.broken) (breaks_if (is_whole_only op) 307 []) e in let q = none_of_both l.broken r.broken p.0 in
       (has_a_cell op (not_broken (is_whole_only op) 307 [] p.1), h q.0, k q.1)
+
+  unary_sized : (op : UnaryOp) (t : Term) → IsTermSized t → IsTermSized (unary_term op t)
+  unary_sized op t h = go (plain_unary op)
+    where
+      go : (o : Option FUnaryOp) → IsTermSized (spoilt (unary_expr o t.expr) t.is_constant t.broken)
+      go (Some o) e = h e
+      go None e =
+          let k = h e in let w = size_wide wid words t.expr k in let p = pow_pos (size t.expr) in
+          (refl, (w.0, w.1, (let z : 0 < 2 ^ size t.expr = omega arith in z)), k)
 
   choice_sized : (c l r : Term) → IsTermSized c → IsTermSized l → IsTermSized r → IsTermSized (choice_term c l r)
   choice_sized c l r h i j e =
@@ -336,8 +349,8 @@ module _ (look : Look) (words : AreWords (width_at look.entries)) where
       sized (number v w spelt) h e = (h.0, h.1, h.2)
       sized (name x) h e = meant_sized x (meaning look x) (known x) e
       sized (index x i) h e = index_sized x (read look i) (known x) (sized i h) e
-      sized (part x l r) h e = part_sized x (read look l) (read look r) (known x) e
-      sized (unary op a) h e = judged_sized (counted_size look.names (unary op a)) (whole look.names (unary op a)) (unary_term op (read look a)) (whole_unary_small look.names op a) (sized a h) e
+      sized (part x kind l r) h e = part_sized x kind (read look l) (read look r) (known x) e
+      sized (unary op a) h e = judged_sized (counted_size look.names (unary op a)) (whole look.names (unary op a)) (unary_term op (read look a)) (whole_unary_small look.names op a) (unary_sized op (read look a) (sized a h)) e
       sized (binary op a b) h e = judged_sized (counted_size look.names (binary op a b)) (whole look.names (binary op a b)) (also (binary_term op (read look a) (read look b)) (breaks_if (compares_signed look.names op a b) 307 [])) (whole_binary_small look.names op a b)
           (also_sized (binary_term op (read look a) (read look b)) (breaks_if (compares_signed look.names op a b) 307 []) (operated_sized op (read look a) (read look b) (sized a h.0) (sized b h.1))) e
       sized (choice c a b) h e = judged_sized (counted_size look.names (choice c a b)) (whole look.names (choice c a b)) (choice_term (read look c) (read look a) (read look b)) (whole_choice_small look.names c a b)

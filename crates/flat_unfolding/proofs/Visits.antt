@@ -1,5 +1,5 @@
 -- What visits keep: the limits of signals.
-use Rattle.std.proofs.Common.{◌≡◌, ℕ, zero, suc, ◌-◌, ◌≤◌, false, not, ◌&&◌, List, [], ◌∷◌, ◌++◌, length, map, Option, Some, None, refl, sym, ap, subst, ◌∙◌, rules}
+use Rattle.std.proofs.Common.{◌≡◌, ℕ, zero, suc, ◌-◌, ◌≤◌, false, not, ◌&&◌, List, [], ◌∷◌, ◌++◌, length, map, Option, Some, None, refl, sym, ap, subst, ◌∙◌, rules, Bool, true, cond}
 use Rattle.std.specs.Prelude.{codes}
 use Rattle.std.specs.List.{list_any}
 use Rattle.cdc_base.specs.declared.fault.Place.{Place}
@@ -24,7 +24,7 @@ use Rattle.flat_unfolding.specs.Memories.{word_names}
 use Rattle.flat_unfolding.specs.Design.{Design, no_design, Stage, look_of, with_design}
 use Rattle.flat_unfolding.specs.Starts.{start_of}
 use Rattle.flat_unfolding.specs.Wires.{assign_item, gate_item}
-use Rattle.flat_unfolding.specs.Processes.{always_item}
+use Rattle.flat_unfolding.specs.Processes.{counts_as_star, wires_process, clocked_process, always_item}
 use Rattle.flat_unfolding.specs.Parameters.{range_read, Overrides, parameter_order, parameter, params_of, parameters}
 use Rattle.flat_unfolding.specs.Declarations.{is_plain_port, declaration_order, Site, again, range_rule, array_read, declaration_rules, entry, declared_again, add_declared, declaration, header_of, header_decls, sites, header_twice, has_direction, directed, declarations}
 use Rattle.flat_unfolding.specs.Instances.{override_rules, overrides_of, Link, into, out_of, connection_rules, links_of, resolving_to, into_port, out_of_port, connect_one, connect_all, connected, leaning_of, is_short}
@@ -79,7 +79,11 @@ module _ (before : List Entry) where
 
   always_keeps : (s : Stage) (p : Place) (event : Event) (body : StmtTree) (t : Stage) → always_item s p event body ≡ good t → SoundStage s → SoundStage t
   always_keeps s p event.Star body t e h = judged_keeps by_number p _ _ t e h
-  always_keeps s p (event.Edges edges) body t e h = judged_keeps by_number p _ _ t e h
+  always_keeps s p (event.Edges edges) body t e h = go (counts_as_star (look_of s) edges body) e
+    where
+      go : (b : Bool) → cond b (wires_process s p body) (clocked_process s p edges body) ≡ good t → SoundStage t
+      go true e = judged_keeps by_number p _ _ t e h
+      go false e = judged_keeps by_number p _ _ t e h
 
   start_keeps : (s : Stage) (p : Place) (x : Text) (m : Option Meaning) (v : Term) (t : Stage) → start_of s p x m v ≡ good t → SoundStage s → SoundStage t
   start_keeps s p x (Some (a_signal n)) v t e h = judged_keeps by_number p _ _ t e h

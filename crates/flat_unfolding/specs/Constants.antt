@@ -1,9 +1,12 @@
 -- Counted and whole expressions: plain numbers and counted parameters, taken as whole numbers.
 use Rattle.std.specs.Prelude.{ℕ, ◌+◌, ◌-◌, ◌*◌, ◌^◌, ◌/◌, ◌%◌, max, Bool, true, false, cond, not, ◌&&◌, ◌||◌, ◌==◌, nat_lt, nat_le, Option, Some, None, is_some, option_map, option_and_then, unwrap_or, bit_and, bit_or, bit_xor}
+use Rattle.std.specs.Option.{option_map_or}
 use Rattle.cdc_base.specs.declared.size.NumberSize.{NumberSize}
 use Rattle.cdc_base.specs.declared.size.NumberSize.TheVariants as z
 use Rattle.verilog_ast.specs.declared.UnaryOp.{UnaryOp}
 use Rattle.verilog_ast.specs.declared.UnaryOp.TheVariants as u
+use Rattle.flat_form.specs.declared.flat.FUnaryOp.{FUnaryOp}
+use Rattle.flat_form.specs.declared.flat.FUnaryOp.TheVariants as flat
 use Rattle.verilog_ast.specs.declared.BinaryOp.{BinaryOp}
 use Rattle.verilog_ast.specs.declared.BinaryOp.TheVariants as b
 use Rattle.verilog_reading.specs.ExprTree.{ExprTree, number, name, index, part, unary, binary, choice, join, repeat, paren}
@@ -39,13 +42,29 @@ abbrev pub is_plain : NumberSize → Bool
 is_plain z.Plain = true
 is_plain spelt = false
 
+-- the operator over its operand; `-` has none, since `-a` stands for `0 - a`
+abbrev pub plain_unary : UnaryOp → Option FUnaryOp
+plain_unary u.Minus = None
+plain_unary u.Not = Some flat.Not
+plain_unary u.LogicNot = Some flat.LogicNot
+plain_unary u.And = Some flat.And
+plain_unary u.Or = Some flat.Or
+plain_unary u.Xor = Some flat.Xor
+plain_unary u.Nand = Some flat.Nand
+plain_unary u.Nor = Some flat.Nor
+plain_unary u.Xnor = Some flat.Xnor
+
+-- the own size of a unary expression over an operand of size n; a difference from 0 has its operand's
+abbrev pub own_unary : UnaryOp → (n : ℕ) → ℕ
+own_unary op n = option_map_or (λ o. unary_size (unary_of o) n) (plain_unary op) n
+
 -- the own size of a counted expression, and nothing of any other: no concatenation, replication, select or sized number is counted
 abbrev pub counted_size : Names → ExprTree → Option ℕ
 counted_size names (number v w spelt) = cond (is_plain spelt) (Some w) None
 counted_size names (name x) = option_map (λ (p : Param). p.width) (counted_param names x)
 counted_size names (index x i) = None
-counted_size names (part x l r) = None
-counted_size names (unary op a) = option_map (unary_size (unary_of op)) (counted_size names a)
+counted_size names (part x kind l r) = None
+counted_size names (unary op a) = option_map (own_unary op) (counted_size names a)
 counted_size names (binary op a b) = both (binary_size (binary_of op)) (counted_size names a) (counted_size names b)
 counted_size names (choice c a b) = both (λ k n. n) (counted_size names c) (both max (counted_size names a) (counted_size names b))
 counted_size names (join parts) = None
@@ -60,9 +79,9 @@ abbrev pub within : (size n : ℕ) → Option ℕ
 within size n = cond (nat_lt n (cond (size == 1) 2 (2 ^ 31))) (Some n) None
 
 -- `~x` counts as 2^32 - 1 - x; a reduction is taken over its operand's own size
-abbrev pub whole_unary : UnaryOp → (size n : ℕ) → ℕ
-whole_unary u.Not size n = 2 ^ 32 - 1 - n
-whole_unary op size n = word.number (meaning.unary (unary_of op) size (word.bit_at n)) 1
+abbrev pub whole_plain : FUnaryOp → (size n : ℕ) → ℕ
+whole_plain flat.Not size n = 2 ^ 32 - 1 - n
+whole_plain op size n = word.number (meaning.unary (unary_of op) size (word.bit_at n)) 1
 
 abbrev pub truth : Bool → ℕ
 truth t = cond t 1 0
@@ -89,6 +108,10 @@ whole_binary b.Or m n = Some (bit_or m n)
 whole_binary b.LogicAnd m n = Some (truth (not (m == 0) && not (n == 0)))
 whole_binary b.LogicOr m n = Some (truth (not (m == 0) || not (n == 0)))
 
+-- `-x` counts as 0 - x
+abbrev pub whole_unary : UnaryOp → (size n : ℕ) → Option ℕ
+whole_unary op size n = option_map_or (λ o. Some (whole_plain o size n)) (plain_unary op) (whole_binary b.Sub 0 n)
+
 module _ (names : Names) where
   abbrev pub size_in : ExprTree → ℕ
   size_in e = unwrap_or (counted_size names e) 0
@@ -98,8 +121,8 @@ module _ (names : Names) where
   whole (number v w spelt) = within 32 v
   whole (name x) = option_and_then (λ (p : Param). within p.width p.value) (counted_param names x)
   whole (index x i) = None
-  whole (part x l r) = None
-  whole (unary op a) = option_and_then (λ m. within (size_in (unary op a)) (whole_unary op (size_in a) m)) (whole a)
+  whole (part x kind l r) = None
+  whole (unary op a) = option_and_then (λ m. option_and_then (within (size_in (unary op a))) (whole_unary op (size_in a) m)) (whole a)
   whole (binary op a b) = option_and_then (λ m. option_and_then (λ n. option_and_then (within (size_in (binary op a b))) (whole_binary op m n)) (whole b)) (whole a)
   whole (choice c a b) = option_and_then (λ k. option_and_then (within (size_in (choice c a b))) (cond (k == 0) (whole b) (whole a))) (whole c)
   whole (join parts) = None

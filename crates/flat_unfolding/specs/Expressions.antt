@@ -2,14 +2,17 @@
 use Rattle.std.specs.Prelude.{ℕ, zero, suc, ◌+◌, ◌-◌, ◌*◌, ◌^◌, ◌/◌, ◌%◌, Bool, true, false, cond, not, ◌&&◌, ◌==◌, nat_lt, nat_le, List, [], ◌∷◌, ◌++◌, map, flat_map, Option, Some, None}
 use Rattle.std.specs.List.{list_all}
 use Rattle.verilog_ast.specs.declared.UnaryOp.{UnaryOp}
+use Rattle.verilog_ast.specs.declared.PartKind.{PartKind}
+use Rattle.verilog_ast.specs.declared.PartKind.TheVariants as k
 use Rattle.verilog_ast.specs.declared.BinaryOp.{BinaryOp}
 use Rattle.verilog_ast.specs.declared.BinaryOp.TheVariants as b
 use Rattle.verilog_reading.specs.ExprTree.{ExprTree, number, name, index, part, unary, binary, choice, join, repeat, paren, ExprTrees, no_trees, and_trees}
-use Rattle.flat_meaning.specs.Flat.{is_equal, Expr, Number, At, Unary, Binary, Choose, Join, Repeat, Exprs, size, sizes}
+use Rattle.flat_meaning.specs.Flat.{minus, is_equal, Expr, Number, At, Unary, Binary, Choose, Join, Repeat, Exprs, size, sizes}
+use Rattle.flat_form.specs.declared.flat.FUnaryOp.{FUnaryOp}
 use Rattle.flat_form.specs.View.{unary_of, binary_of, exprs_of}
 use Rattle.flat_unfolding.specs.Outcome.{Text, Broken, breaks, breaks_if}
 use Rattle.flat_unfolding.specs.Names.{Range, span, offset_in, Param, Memory, Meaning, a_param, a_signal, a_memory, Look, meaning, range_at, bits_of, whole_of, unknown}
-use Rattle.flat_unfolding.specs.Constants.{own_value, counted_size, whole}
+use Rattle.flat_unfolding.specs.Constants.{own_value, plain_unary, counted_size, whole}
 use Rattle.flat_unfolding.specs.Signs.{compares_signed, is_unsized}
 
 -- an expression as it was read. `is_constant` tells that no signal is in it, `broken` has the rules that it breaks in textual order.
@@ -66,6 +69,11 @@ as_bound t = let c = as_constant t in also c (breaks_if (is_sound c && nat_le (2
 abbrev pub as_count : Term → Term
 as_count t = let c = as_bound t in also c (breaks_if (is_sound c && (own_value c.expr == 0)) 307 [])
 
+-- what stands second between the brackets of a part: a bound, or a count of bits
+abbrev pub as_second : PartKind → Term → Term
+as_second k.Range t = as_bound t
+as_second kind t = as_count t
+
 -- the range with these bounds; none where one of them breaks a rule
 abbrev pub range_of : Term → Term → Option Range
 range_of l r = cond (is_sound l && is_sound r) (Some (record { left = own_value l.expr; right = own_value r.expr })) None
@@ -90,6 +98,20 @@ bits_between a b = None
 abbrev pub part_select : Option Range → Range → Option Select
 part_select r p = bits_between (offset_in r p.left) (offset_in r p.right)
 
+-- the indices from low to high, of which the higher stands first where the range descends
+abbrev pub ascends : Option Range → Bool
+ascends None = false
+ascends (Some r) = nat_lt r.left r.right
+
+abbrev pub indices_select : Option Range → (low high : ℕ) → Option Select
+indices_select r low high = part_select r (record { left = cond (ascends r) low high; right = cond (ascends r) high low })
+
+-- `[left:right]`, `[b +: n]` with the indices b to b + n - 1, `[b -: n]` with b - n + 1 to b, by the two numbers between the brackets; n isn't 0
+abbrev pub kind_select : Option Range → PartKind → Range → Option Select
+kind_select r k.Range p = part_select r p
+kind_select r k.Up p = indices_select r p.left (p.left + (p.right - 1))
+kind_select r k.Down p = cond (nat_lt p.left (p.right - 1)) None (indices_select r (p.left - (p.right - 1)) p.left)
+
 -- E315, but for this: `right` is 0, `left` isn't smaller, and 2 to the index's size is at most the width
 abbrev pub may_index : Option Range → ℕ → Bool
 may_index None n = false
@@ -105,8 +127,13 @@ is_index i n = Binary is_equal i (Number (size i) n)
 
 -- ---- operators, concatenations and replications over what was read
 
+-- `-a` is `0 - a`, this 0 having a's own size
+abbrev pub unary_expr : Option FUnaryOp → Expr → Expr
+unary_expr (Some op) e = Unary (unary_of op) e
+unary_expr None e = Binary minus (Number (size e) 0) e
+
 abbrev pub unary_term : UnaryOp → Term → Term
-unary_term op a = spoilt (Unary (unary_of op) a.expr) a.is_constant a.broken
+unary_term op a = spoilt (unary_expr (plain_unary op) a.expr) a.is_constant a.broken
 
 -- E307: `* / %` stand in whole expressions alone
 abbrev pub is_whole_only : BinaryOp → Bool
@@ -196,15 +223,15 @@ module _ (look : Look) where
 
   -- ---- a part: E314, and E319 of a memory
 
-  abbrev pub meant_part : Text → Option Range → Option Meaning → Term
-  meant_part x (Some p) (Some (a_param a)) = param_bits x a (part_select a.range p)
-  meant_part x (Some p) (Some (a_signal s)) = signal_bits x s (part_select (range_at look.entries s) p)
-  meant_part x None (Some (a_param a)) = spoilt no_expr true []
-  meant_part x o (Some (a_memory m)) = spoilt no_expr false (breaks 319 x)
-  meant_part x o m = spoilt no_expr false []
+  abbrev pub meant_part : Text → PartKind → Option Range → Option Meaning → Term
+  meant_part x kind (Some p) (Some (a_param a)) = param_bits x a (kind_select a.range kind p)
+  meant_part x kind (Some p) (Some (a_signal s)) = signal_bits x s (kind_select (range_at look.entries s) kind p)
+  meant_part x kind None (Some (a_param a)) = spoilt no_expr true []
+  meant_part x kind o (Some (a_memory m)) = spoilt no_expr false (breaks 319 x)
+  meant_part x kind o m = spoilt no_expr false []
 
-  abbrev pub part_term : Text → Term → Term → Term
-  part_term x left right = let l = as_bound left in let r = as_bound right in let rest = meant_part x (range_of l r) (meaning look x) in
+  abbrev pub part_term : Text → PartKind → Term → Term → Term
+  part_term x kind left right = let l = as_bound left in let r = as_second kind right in let rest = meant_part x kind (range_of l r) (meaning look x) in
       spoilt rest.expr rest.is_constant (unknown look x ++ l.broken ++ r.broken ++ rest.broken)
 
   -- ---- expressions
@@ -223,7 +250,7 @@ module _ (look : Look) where
     read (number v w spelt) = constant (Number w v)
     read (name x) = name_term x
     read (index x i) = index_term x (read i)
-    read (part x l r) = part_term x (read l) (read r)
+    read (part x kind l r) = part_term x kind (read l) (read r)
     read (unary op a) = judged_whole (counted_size look.names (unary op a)) (whole look.names (unary op a)) (unary_term op (read a))
     read (binary op a b) = judged_whole (counted_size look.names (binary op a b)) (whole look.names (binary op a b)) (also (binary_term op (read a) (read b)) (breaks_if (compares_signed look.names op a b) 307 []))
     read (choice c a b) = judged_whole (counted_size look.names (choice c a b)) (whole look.names (choice c a b)) (choice_term (read c) (read a) (read b))

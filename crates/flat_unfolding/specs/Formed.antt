@@ -2,7 +2,7 @@
 use Rattle.std.specs.Prelude.{◌≡◌, ◌^◌, ◌<◌, ◌≤◌, true, List, [], ◌∷◌, All, Option, Some, None}
 use Rattle.verilog_reading.specs.ExprTree.{ExprTree, number, name, index, part, unary, binary, choice, join, repeat, paren, ExprTrees, no_trees, and_trees, TargetTree, whole, index_of, part_of, join_of, TargetTrees, no_parts, and_parts}
 use Rattle.flat_unfolding.specs.Constants.{is_plain}
-use Rattle.verilog_reading.specs.StmtTree.{StmtTree, null, set, when, either, switch, switch_else, block, StmtTrees, no_rows, and_rows, ArmTrees, no_arms, and_arms}
+use Rattle.verilog_reading.specs.StmtTree.{StmtTree, null, set, when, either, switch, switch_else, block, StmtTrees, no_rows, and_rows, LabelTree, by_value, by_mask, ArmTrees, no_arms, and_arms}
 use Rattle.verilog_reading.specs.SourceTree.{Bounds, ParamTree, DeclTree, PortTree, ConnTree, ConnsTree, ordered, named, BodyTree, param, decl, assign, gate, instance, always, initial, ItemTree, ModuleTree}
 
 -- some parts
@@ -15,7 +15,7 @@ abbrev mutual
   IsFormed (number v w spelt) = (1 ≤ w) × (w ≤ 64) × (v < 2 ^ w) × (is_plain spelt ≡ true → (w ≡ 32) × (v < 2 ^ 31))
   IsFormed (name x) = Unit {0}
   IsFormed (index x i) = IsFormed i
-  IsFormed (part x l r) = IsFormed l × IsFormed r
+  IsFormed (part x kind l r) = IsFormed l × IsFormed r
   IsFormed (unary op a) = IsFormed a
   IsFormed (binary op a b) = IsFormed a × IsFormed b
   IsFormed (choice c a b) = IsFormed c × IsFormed a × IsFormed b
@@ -35,26 +35,31 @@ abbrev mutual
   pub IsTargetFormed : TargetTree → Type 0
   IsTargetFormed (whole x) = Unit {0}
   IsTargetFormed (index_of x i) = IsFormed i
-  IsTargetFormed (part_of x l r) = IsFormed l × IsFormed r
+  IsTargetFormed (part_of x kind l r) = IsFormed l × IsFormed r
   IsTargetFormed (join_of parts) = AreSomeParts parts × AreTargetsFormed parts
 
   pub AreTargetsFormed : TargetTrees → Type 0
   AreTargetsFormed no_parts = Unit {0}
   AreTargetsFormed (and_parts t rest) = IsTargetFormed t × AreTargetsFormed rest
 
+-- a mask has a value and open bits of its 1 to 64 bits
+abbrev pub IsLabelFormed : LabelTree → Type 0
+IsLabelFormed (by_value e) = IsFormed e
+IsLabelFormed (by_mask v opened w) = (1 ≤ w) × (w ≤ 64) × (v < 2 ^ w) × (opened < 2 ^ w)
+
 -- labels of an item: one at least
-abbrev pub AreLabels : List ExprTree → Type 0
+abbrev pub AreLabels : List LabelTree → Type 0
 AreLabels [] = ⊥
-AreLabels (e ∷ es) = All IsFormed (e ∷ es)
+AreLabels (a ∷ rest) = All IsLabelFormed (a ∷ rest)
 
 abbrev mutual
   pub IsStmtFormed : StmtTree → Type 0
   IsStmtFormed null = Unit {0}
-  IsStmtFormed (set blocking t e) = IsTargetFormed t × IsFormed e
+  IsStmtFormed (set blocking delay t e) = IsTargetFormed t × IsFormed e
   IsStmtFormed (when c s) = IsFormed c × IsStmtFormed s
   IsStmtFormed (either c s z) = IsFormed c × IsStmtFormed s × IsStmtFormed z
-  IsStmtFormed (switch e arms) = IsFormed e × AreArmsFormed arms
-  IsStmtFormed (switch_else e arms d) = IsFormed e × AreArmsFormed arms × IsStmtFormed d
+  IsStmtFormed (switch c arms) = IsFormed c.value × AreArmsFormed arms
+  IsStmtFormed (switch_else c arms d) = IsFormed c.value × AreArmsFormed arms × IsStmtFormed d
   IsStmtFormed (block rows) = AreRowsFormed rows
 
   pub AreRowsFormed : StmtTrees → Type 0

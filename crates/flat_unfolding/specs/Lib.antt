@@ -8,6 +8,8 @@ pub mod Memories
 pub mod Statements
 pub mod Design
 pub mod Reads
+pub mod Mentions
+pub mod Delays
 pub mod Resets
 pub mod Processes
 pub mod Starts

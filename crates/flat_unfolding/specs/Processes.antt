@@ -1,7 +1,7 @@
 -- `always`: processes of wires and clocked ones.
-use Rattle.std.specs.Prelude.{ℕ, Bool, true, false, cond, not, ◌&&◌, ◌||◌, ◌==◌, List, [], ◌∷◌, ◌++◌, flat_map, Option, Some, None, is_some, is_none, unwrap_or, option_and_then}
+use Rattle.std.specs.Prelude.{ℕ, Bool, true, false, cond, not, ◌&&◌, ◌||◌, ◌==◌, List, [], ◌∷◌, ◌++◌, flat_map, map, Option, Some, None, is_some, is_none, unwrap_or, option_and_then}
 use Rattle.std.specs.Option.{option_map_or}
-use Rattle.std.specs.List.{list_any}
+use Rattle.std.specs.List.{list_all, list_any}
 use Rattle.cdc_base.specs.declared.fault.Place.{Place}
 use Rattle.verilog_ast.specs.declared.Edge.{Edge}
 use Rattle.verilog_ast.specs.declared.EdgeKind.{EdgeKind}
@@ -11,11 +11,22 @@ use Rattle.verilog_ast.specs.declared.Event.TheVariants as event
 use Rattle.verilog_reading.specs.StmtTree.{StmtTree}
 use Rattle.flat_meaning.specs.Flat.{Stmt, Null}
 use Rattle.flat_unfolding.specs.Outcome.{Text, Broken, breaks, breaks_if, Outcome, judged, by_number}
-use Rattle.flat_unfolding.specs.Names.{Meaning, a_signal, Look, meaning, width_at, unknown}
+use Rattle.flat_unfolding.specs.Names.{Meaning, a_param, a_signal, a_memory, Look, meaning, width_at, unknown}
+use Rattle.flat_unfolding.specs.Mentions.{unlisted, first_mixed}
+use Rattle.flat_unfolding.specs.Delays.{first_clash}
 use Rattle.flat_unfolding.specs.Statements.{of_wires, clocked, neither, Kind, done}
 use Rattle.flat_unfolding.specs.Reads.{latch_rule}
 use Rattle.flat_unfolding.specs.Resets.{ResetForm, is_reset, reset_form, reset_rules}
 use Rattle.flat_unfolding.specs.Design.{Given, Stage, look_of, with_design}
+
+-- E313 with a name
+abbrev pub wrong_name : Option Text → List Broken
+wrong_name None = []
+wrong_name (Some x) = breaks 313 x
+
+-- two nonblocking assignments on one path give one name two delays
+abbrev pub delay_rules : StmtTree → List Broken
+delay_rules body = wrong_name (first_clash body)
 
 abbrev pub is_rising : EdgeKind → Bool
 is_rising edge.Pos = true
@@ -31,6 +42,9 @@ has_form [] = false
 has_form (c ∷ []) = is_rising c.kind
 has_form (c ∷ e ∷ []) = is_an_edge c.kind && is_an_edge e.kind && (is_rising c.kind || is_rising e.kind)
 has_form (c ∷ e ∷ f ∷ rest) = false
+
+abbrev pub is_level : EdgeKind → Bool
+is_level k = not (is_an_edge k)
 
 abbrev pub first_edge : List Edge → Text
 first_edge [] = []
@@ -63,6 +77,18 @@ module _ (look : Look) where
 
   abbrev pub names_reset : Edge → Bool
   names_reset e = option_map_or (is_reset look) (edge_signal e) false
+
+  -- ---- a list of levels
+
+  abbrev pub needs_level : Option Meaning → Bool
+  needs_level (Some (a_signal s)) = true
+  needs_level (Some (a_memory m)) = true
+  needs_level m = false
+
+  -- it counts as `@*` where all its names are signals', and each signal and memory that the process reads and that is no target of it is among them
+  abbrev pub counts_as_star : List Edge → StmtTree → Bool
+  counts_as_star edges body = list_all (λ (e : Edge). is_level e.kind && is_some (edge_signal e)) edges
+      && not (list_any (λ x. needs_level (meaning look x)) (unlisted (map (λ (e : Edge). e.name) edges) body))
 
   -- of two edges the one that names a reset, where the other one doesn't
   abbrev pub reset_edge : List Edge → Option Edge
@@ -99,7 +125,7 @@ module _ (look : Look) where
   pair_rules edges = breaks_if (has_form edges && (are_two edges && is_none (reset_edge edges))) 317 (first_edge edges)
 
   abbrev pub clocked_rules : List Edge → StmtTree → List Broken
-  clocked_rules edges body = event_rules edges ++ (done look (edge_kind edges) body).broken ++ pair_rules edges
+  clocked_rules edges body = event_rules edges ++ (done look (edge_kind edges) body).broken ++ delay_rules body ++ pair_rules edges
       ++ reset_rules look (first_edge edges) (reset_edge edges) (form_of edges body)
 
   -- what reset form leaves, else the whole
@@ -125,9 +151,13 @@ module _ (look : Look) where
   abbrev pub reset_of : List Edge → StmtTree → Option ℕ × Stmt
   reset_of edges body = (reset_signal edges, reset_branch (form_of edges body))
 
+-- E313: `@*` assigns by `<=` what it also reads, or assigns by `=`, or assigns with a delay
+abbrev pub later_rules : StmtTree → List Broken
+later_rules body = wrong_name (first_mixed body)
+
 abbrev pub wires_process : Stage → Place → StmtTree → Outcome Stage
 wires_process s p body = let look = look_of s in let b = done look of_wires body in
-    judged by_number p (b.broken ++ latch_rule look.entries b.stmt) (with_design s (record s.design { combs = s.design.combs ++ (b.stmt ∷ []) }))
+    judged by_number p (b.broken ++ later_rules body ++ latch_rule look.entries b.stmt) (with_design s (record s.design { combs = s.design.combs ++ (b.stmt ∷ []) }))
 
 abbrev pub clocked_process : Stage → Place → List Edge → StmtTree → Outcome Stage
 clocked_process s p edges body = let look = look_of s in
@@ -139,4 +169,4 @@ clocked_process s p edges body = let look = look_of s in
 
 abbrev pub always_item : Stage → Place → Event → StmtTree → Outcome Stage
 always_item s p event.Star body = wires_process s p body
-always_item s p (event.Edges edges) body = clocked_process s p edges body
+always_item s p (event.Edges edges) body = cond (counts_as_star (look_of s) edges body) (wires_process s p body) (clocked_process s p edges body)

@@ -17,6 +17,7 @@ use Rattle.flat_unfolding.specs.Constants.{own_value, assigned_value, both}
 use Rattle.flat_unfolding.specs.Expressions.{Term, is_sound, read}
 use Rattle.flat_unfolding.specs.Targets.{of_registers, aim}
 use Rattle.flat_unfolding.specs.Design.{Given}
+use Rattle.flat_unfolding.specs.Mentions.{names_in}
 
 -- a statement without the blocks of one statement around it
 abbrev mutual
@@ -27,23 +28,6 @@ abbrev mutual
   pub peeled_rows : StmtTrees → StmtTree
   peeled_rows (and_rows s no_rows) = peeled s
   peeled_rows rows = block rows
-
-abbrev mutual
-  pub names_in : ExprTree → List Text
-  names_in (number v w spelt) = []
-  names_in (name x) = x ∷ []
-  names_in (index x i) = x ∷ names_in i
-  names_in (part x l r) = x ∷ names_in l ++ names_in r
-  names_in (unary op a) = names_in a
-  names_in (binary op a b) = names_in a ++ names_in b
-  names_in (choice c a b) = names_in c ++ names_in a ++ names_in b
-  names_in (join parts) = all_names_in parts
-  names_in (repeat count parts) = names_in count ++ all_names_in parts
-  names_in (paren a) = names_in a
-
-  pub all_names_in : ExprTrees → List Text
-  all_names_in no_trees = []
-  all_names_in (and_trees a rest) = names_in a ++ all_names_in rest
 
 module _ (look : Look) where
   -- the signals among some names, parameters left out; none where another name is among them
@@ -107,7 +91,7 @@ module _ (look : Look) where
     pub has_variable_index : TargetTree → Bool
     has_variable_index (whole x) = false
     has_variable_index (index_of x i) = not (read look i).is_constant
-    has_variable_index (part_of x l r) = false
+    has_variable_index (part_of x kind l r) = false
     has_variable_index (join_of parts) = has_variable_index_in parts
 
     pub has_variable_index_in : TargetTrees → Bool
@@ -128,7 +112,7 @@ module _ (look : Look) where
 
   -- a nonblocking assignment of a constant, without a variable index
   abbrev pub row_given : StmtTree → Option (List Given)
-  row_given (set false t e) = let v = read look e in let a = aim look of_registers t in
+  row_given (set false delay t e) = let v = read look e in let a = aim look of_registers t in
       cond (v.is_constant && not (has_variable_index t)) (Some (go v a.bits a.target)) None
     where
       go : Term → Option ℕ → Target → List Given

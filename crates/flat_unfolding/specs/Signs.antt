@@ -18,9 +18,10 @@ abbrev pub meant_signed : Option Meaning → Bool
 meant_signed (Some (a_param p)) = p.is_signed
 meant_signed m = false
 
--- `~` of a signed operand is signed
+-- `~` and `-` of a signed operand are signed
 abbrev pub unary_signed : UnaryOp → Bool → Bool
 unary_signed u.Not a = a
+unary_signed u.Minus a = a
 unary_signed op a = false
 
 -- `+ - & | ^ ~^` of two signed operands is, and a shift of a signed one
@@ -39,7 +40,7 @@ abbrev pub is_signed : Names → ExprTree → Bool
 is_signed names (number v w spelt) = is_plain spelt
 is_signed names (name x) = meant_signed (meaning_in names x)
 is_signed names (index x i) = false
-is_signed names (part x l r) = false
+is_signed names (part x kind l r) = false
 is_signed names (unary op a) = counts_whole names (unary op a) || unary_signed op (is_signed names a)
 is_signed names (binary op a b) = counts_whole names (binary op a b) || binary_signed op (is_signed names a) (is_signed names b)
 is_signed names (choice c a b) = counts_whole names (choice c a b) || (is_signed names a && is_signed names b)
@@ -58,9 +59,10 @@ is_order op = false
 abbrev pub compares_signed : Names → BinaryOp → ExprTree → ExprTree → Bool
 compares_signed names op a b = is_order op && (is_signed names a && is_signed names b) && not (is_counted names (binary op a b))
 
--- `~` of one operand leans, `+ - ~^ <<` of two, `& | ^` with an operand that leans, and `>>` with a left one that does
+-- `~` and `-` of one operand lean, `+ - ~^ <<` of two, `& | ^` with an operand that leans, and `>>` with a left one that does
 abbrev pub unary_leans : UnaryOp → Bool
 unary_leans u.Not = true
+unary_leans u.Minus = true
 unary_leans op = false
 
 abbrev pub binary_leans : BinaryOp → Bool → Bool → Bool
@@ -79,7 +81,7 @@ abbrev pub leans : Names → ExprTree → Bool
 leans names (number v w spelt) = false
 leans names (name x) = false
 leans names (index x i) = false
-leans names (part x l r) = false
+leans names (part x kind l r) = false
 leans names (unary op a) = not (counts_whole names (unary op a)) && unary_leans op
 leans names (binary op a b) = not (counts_whole names (binary op a b)) && binary_leans op (leans names a) (leans names b)
 leans names (choice c a b) = not (counts_whole names (choice c a b)) && (leans names a || leans names b)

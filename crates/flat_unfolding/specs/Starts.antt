@@ -55,7 +55,7 @@ module _ (look : Look) where
 
   -- E313: `initial` has blocking assignments of constants to whole registers
   abbrev pub initial_row : Starts → StmtTree → Starts
-  initial_row before (set blocking t e) = let a = aim look of_registers t in let v = read look e in
+  initial_row before (set blocking delay t e) = let a = aim look of_registers t in let v = read look e in
       go (record { starts = before.starts; broken = before.broken ++ a.broken ++ breaks_if (not blocking || not (names_register t)) 313 (first_name t) }) v a.target
     where
       go : Starts → Term → Target → Starts

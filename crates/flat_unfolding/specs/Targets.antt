@@ -2,6 +2,7 @@
 use Rattle.std.specs.Prelude.{ℕ, ◌+◌, ◌^◌, Bool, true, false, cond, not, ◌&&◌, ◌||◌, nat_lt, nat_le, List, [], ◌∷◌, ◌++◌, length, map, flat_map, Option, Some, None, slice_get, option_map}
 use Rattle.std.specs.List.{list_any}
 use Rattle.std.specs.Option.{option_map_or, option_or}
+use Rattle.verilog_ast.specs.declared.PartKind.{PartKind}
 use Rattle.verilog_reading.specs.ExprTree.{ExprTree, name, index, part, join, ExprTrees, no_trees, and_trees, TargetTree, whole, index_of, part_of, join_of, TargetTrees, no_parts, and_parts}
 use Rattle.cell_graph.specs.Tree.{any_below}
 use Rattle.flat_meaning.specs.Assigned.{reaches}
@@ -11,7 +12,7 @@ use Rattle.flat_form.specs.Uses.{target_reads}
 use Rattle.flat_unfolding.specs.Outcome.{Text, Broken, breaks, breaks_if}
 use Rattle.flat_unfolding.specs.Names.{Range, Memory, Meaning, a_param, a_signal, a_memory, Direction, inner, inward, outward, Entry, Look, meaning, width_at, range_at, own_at, unknown}
 use Rattle.flat_unfolding.specs.Constants.{own_value, both}
-use Rattle.flat_unfolding.specs.Expressions.{Term, is_sound, as_bound, range_of, Select, bit_select, part_select, may_index, word_of, read}
+use Rattle.flat_unfolding.specs.Expressions.{Term, is_sound, as_bound, as_second, range_of, Select, bit_select, kind_select, may_index, word_of, read}
 
 -- a target as it was read: its bits, where no part of it breaks a rule; what breaks one assigns nothing
 pub record Aim : Type 0 where
@@ -66,7 +67,7 @@ abbrev mutual
   pub first_name : TargetTree → Text
   first_name (whole x) = x
   first_name (index_of x i) = x
-  first_name (part_of x l r) = x
+  first_name (part_of x kind l r) = x
   first_name (join_of parts) = first_name_in parts
 
   pub first_name_in : TargetTrees → Text
@@ -155,20 +156,20 @@ module _ (look : Look) (use_ : Use) where
   as_fixed x (fixed a) = a
   as_fixed x (a_word m i bs) = nowhere (bs ++ breaks 319 x)
 
-  abbrev pub meant_range : Text → Option Range → Option Meaning → Aim
-  meant_range x (Some p) (Some (a_signal s)) = select_aim x s (part_select (range_at look.entries s) p)
-  meant_range x o (Some (a_memory m)) = nowhere (breaks 319 x)
-  meant_range x o m = nowhere []
+  abbrev pub meant_range : Text → PartKind → Option Range → Option Meaning → Aim
+  meant_range x kind (Some p) (Some (a_signal s)) = select_aim x s (kind_select (range_at look.entries s) kind p)
+  meant_range x kind o (Some (a_memory m)) = nowhere (breaks 319 x)
+  meant_range x kind o m = nowhere []
 
-  abbrev pub part_aim : Text → Term → Term → Aim
-  part_aim x left right = let l = as_bound left in let r = as_bound right in
-      behind (name_rules x ++ l.broken ++ r.broken) (meant_range x (range_of l r) (meaning look x))
+  abbrev pub part_aim : Text → PartKind → Term → Term → Aim
+  part_aim x kind left right = let l = as_bound left in let r = as_second kind right in
+      behind (name_rules x ++ l.broken ++ r.broken) (meant_range x kind (range_of l r) (meaning look x))
 
   abbrev mutual
     pub aim : TargetTree → Aim
     aim (whole x) = whole_aim x
     aim (index_of x i) = as_fixed x (index_goal x (read look i))
-    aim (part_of x l r) = part_aim x (read look l) (read look r)
+    aim (part_of x kind l r) = part_aim x kind (read look l) (read look r)
     aim (join_of parts) = group_of (aims parts) (total (aims parts))
 
     pub aims : TargetTrees → List Aim
@@ -180,7 +181,7 @@ module _ (look : Look) (use_ : Use) where
     pub pieces : TargetTree → List Piece
     pieces (whole x) = record { name = x; target = (aim (whole x)).target } ∷ []
     pieces (index_of x i) = record { name = x; target = (aim (index_of x i)).target } ∷ []
-    pieces (part_of x l r) = record { name = x; target = (aim (part_of x l r)).target } ∷ []
+    pieces (part_of x kind l r) = record { name = x; target = (aim (part_of x kind l r)).target } ∷ []
     pieces (join_of parts) = pieces_in parts
 
     pub pieces_in : TargetTrees → List Piece
@@ -227,7 +228,7 @@ abbrev mutual
   pub as_target : ExprTree → Option TargetTree
   as_target (name x) = Some (whole x)
   as_target (index x i) = Some (index_of x i)
-  as_target (part x l r) = Some (part_of x l r)
+  as_target (part x kind l r) = Some (part_of x kind l r)
   as_target (join parts) = option_map join_of (as_targets parts)
   as_target e = None
 

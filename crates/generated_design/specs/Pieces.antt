@@ -39,7 +39,7 @@ byte_item name = item (decl (record { kind = Reg; range = Some byte; name = name
 
 -- TARGET <= VALUE;
 abbrev pub takes : List ℕ → ExprTree → StmtTree
-takes target value = set false (whole target) value
+takes target value = set false None (whole target) value
 
 -- always @(posedge CLOCK) begin .. end
 abbrev pub clocked : List ℕ → List StmtTree → ItemTree

@@ -105,6 +105,7 @@ pub fn takes(target: Name, value: Expr) -> Stmt
 {
     Stmt::Set {
         blocking: false,
+        delay: None,
         target: Target::Whole(target),
         value,
     }

@@ -2,10 +2,12 @@
 use cdc_base::{List, Name, NoMemory, Place, SigKind, Signal, Stop};
 use cell_graph::{Cell, CellId, Net, Values};
 use elaborate::elaborate;
-use flat_form::{FCaseItem, FExpr, FStmt, FTarget, Flat, FlatAssign, FlatClocked, FlatComb};
+use flat_form::{
+    FCaseItem, FExpr, FStmt, FTarget, FUnaryOp, Flat, FlatAssign, FlatClocked, FlatComb,
+};
 use std::alloc::Global;
 use std::test::Fail;
-use verilog_ast::{BinaryOp, UnaryOp};
+use verilog_ast::BinaryOp;
 
 fn add_signal(
     alloc: Global,
@@ -62,7 +64,7 @@ fn number(width: u8, value: u64) -> FExpr {
     FExpr::Number { value, width }
 }
 
-fn unary(alloc: Global, op: UnaryOp, a: FExpr, width: u8) -> Result<FExpr, NoMemory> {
+fn unary(alloc: Global, op: FUnaryOp, a: FExpr, width: u8) -> Result<FExpr, NoMemory> {
     let a = boxed(alloc, a)?;
     Ok(FExpr::Unary { op, a, width })
 }
@@ -129,7 +131,7 @@ fn later_assignment_wins(rt: HostRuntime) -> Result<(), Fail> {
             ("r", 1, SigKind::Register),
         ],
     )?;
-    let inverted = unary(alloc, UnaryOp::Not, read(1, 1), 1)?;
+    let inverted = unary(alloc, FUnaryOp::Not, read(1, 1), 1)?;
     let body = block(alloc, set(2, false, read(1, 1)), set(2, false, inverted))?;
     flat.clocked.push(FlatClocked { clock: 0, body })?;
     let net = elaborate(alloc, &flat)?;
@@ -322,7 +324,7 @@ fn loops_name_their_first_signal(rt: HostRuntime) -> Result<(), Fail> {
     )?;
     // `a` reads the loop of `b` and `c`, and is not on it.
     for (target, source) in [(0, 1), (1, 2), (2, 1)] {
-        let value = unary(alloc, UnaryOp::Not, read(source, 1), 1)?;
+        let value = unary(alloc, FUnaryOp::Not, read(source, 1), 1)?;
         assign(&mut flat, FTarget::Whole { sig: target }, value)?;
     }
     let (number, name) = refusal(alloc, &flat)?;

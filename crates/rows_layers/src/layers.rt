@@ -118,6 +118,95 @@ fn the_later_assignment_wins(rt: HostRuntime) -> Result<(), Fail> {
     Ok(())
 }
 
+/// The value of the design's first output while its inputs, the first signals, have these values.
+fn output_of(alloc: Global, net: &Net, words: &[u64]) -> Result<u64, Fail> {
+    let mut values = Values::open(alloc, &net.graph)?;
+    values.fill(&net.graph, words);
+    match net.outputs.as_slice() {
+        [first, ..] => Ok(values.value(*first)),
+        [] => Ok(0),
+    }
+}
+
+/// A unary minus is a difference from 0 of the operand's size, at the size of the whole.
+#[test]
+fn a_minus_is_a_difference_from_0(rt: HostRuntime) -> Result<(), Fail> {
+    let alloc = rt.alloc();
+    let net = net_of(
+        alloc,
+        "module m(input [3:0] v, output [7:0] o); assign o = -v[3 -: 2] <<< 1; endmodule",
+    )?;
+    for (v, o) in [(0, 0), (4, 254), (11, 252), (15, 250)] {
+        assert_eq!(&rt; output_of(alloc, &net, &[v, 0])?, o, "{v}");
+    }
+    Ok(())
+}
+
+/// A part by a base and a count has the bits with these indices, in a range of either direction.
+#[test]
+fn parts_count_by_indices(rt: HostRuntime) -> Result<(), Fail> {
+    let alloc = rt.alloc();
+    let net = net_of(
+        alloc,
+        "module m(input [7:0] v, input [2:9] w, output [7:0] o); assign o = {v[1 +: 2], v[7 -: 2], w[2 +: 2], w[9 -: 2]}; endmodule",
+    )?;
+    for (v, w, o) in [
+        (6, 0, 192),
+        (192, 0, 48),
+        (0, 192, 12),
+        (0, 3, 3),
+        (73, 60, 16),
+    ] {
+        assert_eq!(&rt; output_of(alloc, &net, &[v, w, 0])?, o, "{v} {w}");
+    }
+    Ok(())
+}
+
+/// The first label of a `casez` that agrees where it isn't open decides.
+#[test]
+fn the_first_mask_decides(rt: HostRuntime) -> Result<(), Fail> {
+    let alloc = rt.alloc();
+    let net = net_of(
+        alloc,
+        "module m(input [3:0] v, output reg [2:0] o); always @* casez (v) 4'b1??0, 4'b0001: o = 1; 4'b?1zZ: o = 2; 4'b?0: o = 3; default: o = 4; endcase endmodule",
+    )?;
+    for (v, o) in [
+        (8, 1),
+        (14, 1),
+        (1, 1),
+        (15, 2),
+        (4, 2),
+        (0, 3),
+        (2, 3),
+        (3, 4),
+        (9, 4),
+    ] {
+        assert_eq!(&rt; output_of(alloc, &net, &[v, 0])?, o, "{v}");
+    }
+    Ok(())
+}
+
+/// A list of levels with all that its process reads counts as `@*`, where the later assignment wins.
+#[test]
+fn levels_count_as_a_star(rt: HostRuntime) -> Result<(), Fail> {
+    let alloc = rt.alloc();
+    let net = net_of(
+        alloc,
+        "module m(input [1:0] v, w, output reg o); reg s; always @(w or v) begin s = v[0] ^ w[0]; o <= s; if (v[1]) o <= w[1]; end endmodule",
+    )?;
+    for (v, w, o) in [
+        (0, 1, 1),
+        (1, 1, 0),
+        (1, 3, 0),
+        (2, 1, 0),
+        (2, 3, 1),
+        (3, 2, 1),
+    ] {
+        assert_eq!(&rt; output_of(alloc, &net, &[v, w, 0])?, o, "{v} {w}");
+    }
+    Ok(())
+}
+
 /// How many rings the netlist has.
 fn ring_count(alloc: Global, text: &str) -> Result<usize, Fail> {
     let net = net_of(alloc, text)?;

@@ -4,7 +4,7 @@ use std::alloc::Global;
 use std::test::Fail;
 
 /// A text, and its one spelling: a blank behind each token, a line for each item and statement.
-const TEXTS: [(&str, &str); 13] = [
+const TEXTS: [(&str, &str); 16] = [
     ("", ""),
     (
         "module m; endmodule module \\a+b (); endmodule",
@@ -53,6 +53,18 @@ const TEXTS: [(&str, &str); 13] = [
     (
         "module m; always @* case (s) 0, 1: x = a; default ; 2'b11: begin end endcase always @* case ({a, b}) 3: case (c) default: x = 0; endcase endcase endmodule",
         "module m ( ) ; \nalways @ * case ( s ) \n0 , 1 : x = a ; \n2'h3 : begin \nend \ndefault : ; \nendcase \nalways @ * case ( { a , b } ) \n3 : case ( c ) \ndefault : x = 0 ; \nendcase \nendcase \nendmodule \n",
+    ),
+    (
+        "module m; assign a[7-:4] = -b[c+:2] - -d[3:2]; assign {e[0 +: 2]} = f; endmodule",
+        "module m ( ) ; \nassign a [ 7 -: 4 ] = - b [ c +: 2 ] - - d [ 3 : 2 ] ; \nassign { e [ 0 +: 2 ] } = f ; \nendmodule \n",
+    ),
+    (
+        "module m; always @* casez (s) 4'b1??0, 4'b?0101, 3: x = a; 8'h?: ; default casez (t) 'h9: ; endcase endcase endmodule",
+        "module m ( ) ; \nalways @ * casez ( s ) \n4'b?1??0 , 4'b?0101 , 3 : x = a ; \n8'b????????? : ; \ndefault : casez ( t ) \n'h9 : ; \nendcase \nendcase \nendmodule \n",
+    ),
+    (
+        "module m; always @(posedge c) begin q <= #1 d; r <= #(D) e; s = f; t <= #4'd9 g; end endmodule",
+        "module m ( ) ; \nalways @ ( posedge c ) begin \nq <= # 64'h1 d ; \nr <= # D e ; \ns = f ; \nt <= # 64'h9 g ; \nend \nendmodule \n",
     ),
 ];
 

@@ -53,6 +53,30 @@ fn tokens_and_grammar(rt: HostRuntime) -> Result<(), Fail> {
                 "error E201: no reading at 1:26",
             ),
             (
+                "module m; always @* case (s) 4'b1?: ; endcase endmodule",
+                "error E201: no reading at 1:30",
+            ),
+            (
+                "module m; always @* casez (s) (4'b1?): ; endcase endmodule",
+                "error E201: no reading at 1:32",
+            ),
+            (
+                "module m; assign a = 4'b1?; endmodule",
+                "error E201: no reading at 1:22",
+            ),
+            (
+                "module m; initial a = #1 b; endmodule",
+                "error E201: no reading at 1:23",
+            ),
+            (
+                "module m; initial a <= #(1, 2) b; endmodule",
+                "error E201: no reading at 1:27",
+            ),
+            (
+                "module m; wire [1 +: 1] a; endmodule",
+                "error E201: no reading at 1:19",
+            ),
+            (
                 "`celldefine wire w;",
                 "error E104: directive left out at 1:1: celldefine",
             ),
@@ -130,6 +154,108 @@ fn flattening(rt: HostRuntime) -> Result<(), Fail> {
             (
                 "module m(input ca, output q); wire w = ~w; assign q = w; endmodule",
                 "error E312: combinational loop at 1:31: w",
+            ),
+        ],
+    )
+}
+
+/// Parts by a base and a count, the unary minus, masks of labels, delays of assignments.
+#[test]
+fn parts_and_masks(rt: HostRuntime) -> Result<(), Fail> {
+    refuse_all(
+        &rt,
+        rt.alloc(),
+        &[
+            (
+                "module m(input ca, input [3:0] v, output q); assign q = v[4 -: 2]; endmodule",
+                "error E314: index out of range at 1:46: v",
+            ),
+            (
+                "module m(input ca, input [3:0] v, output q); assign q = v[3 +: 2]; endmodule",
+                "error E314: index out of range at 1:46: v",
+            ),
+            (
+                "module m(input ca, input [3:0] v, output q); assign q = v[0 -: 2]; endmodule",
+                "error E314: index out of range at 1:46: v",
+            ),
+            (
+                "module m(input ca, input [3:0] v, output q); assign q = v[ca +: 1]; endmodule",
+                "error E307: constant out of range at 1:46",
+            ),
+            (
+                "module m(input ca, input [3:0] v, output q); assign q = v[1 +: 0]; endmodule",
+                "error E307: constant out of range at 1:46",
+            ),
+            (
+                "module m(input ca, input [3:0] v, output [3:0] q); assign q = v & -1; endmodule",
+                "error E307: constant out of range at 1:52",
+            ),
+            (
+                "module n(input [3:0] i); endmodule module m(input ca); n u(-ca); endmodule",
+                "error E306: port or parameter mismatch at 1:56: n",
+            ),
+            (
+                "module m(input ca, input [3:0] v); reg r; always @* casez (v) ca: r = 1; default: r = 0; endcase endmodule",
+                "error E307: constant out of range at 1:43",
+            ),
+            (
+                "module m(input ca); reg r; always @* casez (ca) 1'b?: r = 1; endcase endmodule",
+                "error E311: latch at 1:28: r",
+            ),
+            (
+                "module m(input ca, input [3:0] v); reg r; always @* case (v) 4'b1??0: r = 1; default: r = 0; endcase endmodule",
+                "error E201: no reading at 1:62",
+            ),
+            (
+                "module m(input ca, d); reg r; always @(posedge ca) begin r <= #1 d; r <= #2 d; end endmodule",
+                "error E313: wrong kind of assignment at 1:31: r",
+            ),
+        ],
+    )
+}
+
+/// Lists of levels, later assignments of wires and delays that would change an order.
+#[test]
+fn levels_and_delays(rt: HostRuntime) -> Result<(), Fail> {
+    refuse_all(
+        &rt,
+        rt.alloc(),
+        &[
+            (
+                "module m(input ca, input a, b); reg r; always @(a) r = a ^ b; endmodule",
+                "error E316: clock form at 1:40: a",
+            ),
+            (
+                "module m(input ca, input a, b); reg r; always @(a or n) r = a; endmodule",
+                "error E305: unknown name at 1:40: n",
+            ),
+            (
+                "module m(input ca, input a, b); reg r; always @(posedge ca or b) r <= a; endmodule",
+                "error E316: clock form at 1:40: ca",
+            ),
+            (
+                "module m(input ca, input a, b); parameter P = 1; reg r; always @(a, P) r = a; endmodule",
+                "error E316: clock form at 1:57: a",
+            ),
+            (
+                "module m(input ca, input a, b); reg r; always @* begin r <= a; r = b; end endmodule",
+                "error E313: wrong kind of assignment at 1:40: r",
+            ),
+            (
+                "module m(input ca, input a, b); reg r, s; always @(a or r) begin r <= a; s <= r; end endmodule",
+                "error E313: wrong kind of assignment at 1:43: r",
+            ),
+            (
+                "module m(input ca, input a, b); reg r; always @* r <= #1 a; endmodule",
+                "error E313: wrong kind of assignment at 1:40: r",
+            ),
+            (
+                "module m(input ca, input a, b); reg r; always @(posedge ca) begin r <= a; if (b) r <= #1 b; end endmodule",
+                "error E313: wrong kind of assignment at 1:40: r",
+            ),
+            (
+                "module m(input ca, input a, b); reg r; always @(posedge ca) begin r <= #T a; r <= #1 b; end endmodule",
+                "error E313: wrong kind of assignment at 1:40: r",
             ),
         ],
     )

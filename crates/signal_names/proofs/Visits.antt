@@ -9,6 +9,7 @@ use Rattle.cdc_base.specs.Words.{is_in}
 use Rattle.verilog_ast.specs.declared.DeclKind.{DeclKind}
 use Rattle.verilog_ast.specs.declared.DeclKind.TheVariants as k
 use Rattle.verilog_ast.specs.declared.GateKind.{GateKind}
+use Rattle.verilog_ast.specs.declared.Edge.{Edge}
 use Rattle.verilog_ast.specs.declared.Event.{Event}
 use Rattle.verilog_ast.specs.declared.Event.TheVariants as event
 use Rattle.verilog_reading.specs.ExprTree.{ExprTree, TargetTree, whole}
@@ -23,7 +24,7 @@ use Rattle.flat_unfolding.specs.Memories.{words_of, word_names, taken}
 use Rattle.flat_unfolding.specs.Design.{Design, no_design, Stage, look_of, with_design, change_entry}
 use Rattle.flat_unfolding.specs.Starts.{start_of}
 use Rattle.flat_unfolding.specs.Wires.{assign_item, gate_item}
-use Rattle.flat_unfolding.specs.Processes.{always_item}
+use Rattle.flat_unfolding.specs.Processes.{counts_as_star, wires_process, clocked_process, always_item}
 use Rattle.flat_unfolding.specs.Parameters.{bounds_read, range_read, Overrides, parameter_order, parameter, params_of, parameters}
 use Rattle.flat_unfolding.specs.Declarations.{is_plain_port, declaration_order, Site, taken_names, again, range_rule, array_read, count_rules, declaration_rules, entry, declared_again, add_declared, declaration, header_of, header_decls, item_decls, decl_in, sites, header_twice, has_direction, directed, declarations}
 use Rattle.flat_unfolding.specs.Instances.{override_rules, overrides_of, Link, into, out_of, connection_rules, links_of, resolving_to, into_port, out_of_port, connect_one, connect_all, connected, leaning_of, is_short}
@@ -54,9 +55,19 @@ gate_quiet : (s : Stage) (p : Place) (kind : GateKind) (es : List ExprTree) (t :
 gate_quiet s p kind [] t e = judged_quiet by_number p _ s _ t e (quiet_itself s)
 gate_quiet s p kind (x ∷ es) t e = judged_quiet by_number p _ s _ t e (record { names = refl; printed = refl })
 
+wires_quiet : (s : Stage) (p : Place) (body : StmtTree) (t : Stage) → wires_process s p body ≡ good t → IsQuiet s t
+wires_quiet s p body t e = judged_quiet by_number p _ s _ t e (record { names = refl; printed = refl })
+
+clocked_quiet : (s : Stage) (p : Place) (edges : List Edge) (body : StmtTree) (t : Stage) → clocked_process s p edges body ≡ good t → IsQuiet s t
+clocked_quiet s p edges body t e = judged_quiet by_number p _ s _ t e (record { names = refl; printed = refl })
+
 always_quiet : (s : Stage) (p : Place) (event : Event) (body : StmtTree) (t : Stage) → always_item s p event body ≡ good t → IsQuiet s t
-always_quiet s p event.Star body t e = judged_quiet by_number p _ s _ t e (record { names = refl; printed = refl })
-always_quiet s p (event.Edges edges) body t e = judged_quiet by_number p _ s _ t e (record { names = refl; printed = refl })
+always_quiet s p event.Star body t e = wires_quiet s p body t e
+always_quiet s p (event.Edges edges) body t e = go (counts_as_star (look_of s) edges body) e
+  where
+    go : (b : Bool) → cond b (wires_process s p body) (clocked_process s p edges body) ≡ good t → IsQuiet s t
+    go true h = wires_quiet s p body t h
+    go false h = clocked_quiet s p edges body t h
 
 start_quiet : (s : Stage) (p : Place) (x : Text) (m : Option Meaning) (v : Term) (t : Stage) → start_of s p x m v ≡ good t → IsQuiet s t
 start_quiet s p x (Some (a_signal n)) v t e = judged_quiet by_number p _ s _ t e (record { names = refl; printed = refl })

@@ -12,14 +12,14 @@ use Rattle.verilog_reading.specs.ItemReading.{is_list, IsListed, IsMaybeRange, n
 use Rattle.verilog_reading.specs.SourceTree.{Bounds, ParamTree, ConnTree, ConnsTree, ItemTree, ModuleTree, joined}
 use Rattle.flat_unfolding.specs.Formed.{IsFormed, IsFormedIf, IsRangeFormed, IsParamFormed, IsTargetFormed, IsPortFormed, AreConnsFormed, IsBodyFormed, IsModuleFormed, IsSourceFormed}
 use Rattle.source_forms.specs.Numerals.{AreNumerals}
-use Rattle.source_forms.proofs.Statements.{Fit, fit, front, rest, tail, Gives, more_formed, each_formed, range_formed, expr_formed, target_formed, stmt_formed}
+use Rattle.source_forms.proofs.Statements.{Fit, fit, front, rest, tail, Gives, more_formed, each_formed, part_formed, expr_formed, target_formed, stmt_formed}
 
 listed_formed : {A : Type 0} (R : List Token → A → Type 0) (P : A → Type 0) → Gives R P → {m : MarkKind} {u : List Token} {xs : List A} → IsListed m R u xs → Fit u → All P xs
 listed_formed R P f (is_list q {u} {v} {a} {bs} x y) r = All-cons P a bs (f u a x (front u _ r)) (more_formed R P f y (front v _ (rest u _ r)))
 
 bounds_formed : {u : List Token} {r : Option Bounds} → IsMaybeRange u r → Fit u → IsRangeFormed r
 bounds_formed no_range r = tt
-bounds_formed (a_range x) r = range_formed x r
+bounds_formed (a_range x) r = part_formed x r
 
 init_formed : {u : List Token} {e : Option ExprTree} → IsInit u e → Fit u → IsFormedIf e
 init_formed no_init r = tt

@@ -28,7 +28,7 @@ numeral_stands (Ident n) h = tt
 numeral_stands (Number v w Plain) h = let f = wide_fits v w h.0 (omega (arith, h.1)) in (f.0, f.1, f.2, λ e. (h.0, h.1))
 numeral_stands (Number v w Unsized) h = let f = wide_fits v w h.0 h.1 in (f.0, f.1, f.2, λ e. absurd (search (rules, e)))
 numeral_stands (Number v w Sized) h = (h.0, h.1, h.2, λ e. absurd (search (rules, e)))
-numeral_stands (Mask v b w) h = tt
+numeral_stands (Mask v b w) h = (h.0, h.1, h.2, h.3)
 numeral_stands (Mark s) h = tt
 numeral_stands End h = tt
 

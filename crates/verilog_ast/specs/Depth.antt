@@ -11,6 +11,8 @@ use Rattle.verilog_ast.specs.declared.Stmt.{Stmt}
 use Rattle.verilog_ast.specs.declared.Stmt.TheOpen.{Stmt-F, CaseItem-F}
 use Rattle.verilog_ast.specs.declared.Stmt.TheFolds.{fold-Stmt, fold-CaseItem}
 use Rattle.verilog_ast.specs.declared.CaseItem.{CaseItem}
+use Rattle.verilog_ast.specs.declared.Label.{Label}
+use Rattle.verilog_ast.specs.declared.Label.TheVariants as label
 use Rattle.verilog_ast.specs.declared.Range.{Range}
 use Rattle.verilog_ast.specs.declared.ParamDecl.{ParamDecl}
 use Rattle.verilog_ast.specs.declared.Decl.{Decl}
@@ -36,7 +38,7 @@ abbrev pub expr_step : Expr-F ℕ → ℕ
 expr_step (Expr-F.Number value width spelt) = 1
 expr_step (Expr-F.Ident name) = 1
 expr_step (Expr-F.At name index) = index.value + 1
-expr_step (Expr-F.Part name left right) = max left.value right.value + 1
+expr_step (Expr-F.Part name kind left right) = max left.value right.value + 1
 expr_step (Expr-F.Unary op a) = a.value + 1
 expr_step (Expr-F.Binary op a b) = max a.value b.value + 1
 expr_step (Expr-F.Choose cond chosen other) = max (max cond.value chosen.value) other.value + 1
@@ -50,11 +52,15 @@ expr_depth = fold-Expr ℕ expr_step
 abbrev pub target_step : Target-F ℕ → ℕ
 target_step (Target-F.Whole name) = 1
 target_step (Target-F.At name index) = expr_depth index + 1
-target_step (Target-F.Part name left right) = max (expr_depth left) (expr_depth right) + 1
+target_step (Target-F.Part name kind left right) = max (expr_depth left) (expr_depth right) + 1
 target_step (Target-F.Join parts) = greatest parts + 1
 
 abbrev pub target_depth : Target → ℕ
 target_depth = fold-Target ℕ target_step
+
+abbrev pub label_depth : Label → ℕ
+label_depth (label.Value e) = expr_depth e
+label_depth (label.Mask value open_bits width) = 1
 
 abbrev pub of_boxed : Option (Box ℕ Global) → ℕ
 of_boxed None = 0
@@ -62,14 +68,14 @@ of_boxed (Some b) = b.value
 
 abbrev pub stmt_step : Stmt-F ℕ ℕ → ℕ
 stmt_step Stmt-F.Null = 1
-stmt_step (Stmt-F.Set blocking target value) = max (target_depth target) (expr_depth value) + 1
+stmt_step (Stmt-F.Set blocking delay target value) = max (target_depth target) (expr_depth value) + 1
 stmt_step (Stmt-F.If cond chosen other) = max (max (expr_depth cond) chosen.value) (of_boxed other) + 1
-stmt_step (Stmt-F.Case subject items rest) = max (max (expr_depth subject) (greatest items)) (of_boxed rest) + 1
+stmt_step (Stmt-F.Case masks subject items rest) = max (max (expr_depth subject) (greatest items)) (of_boxed rest) + 1
 stmt_step (Stmt-F.Block parts) = greatest parts + 1
 
 -- an item of a `case` is no level of its own
 abbrev pub case_item_step : CaseItem-F ℕ ℕ → ℕ
-case_item_step i = max (greatest (map expr_depth i.labels)) i.body
+case_item_step i = max (greatest (map label_depth i.labels)) i.body
 
 abbrev pub stmt_depth : Stmt → ℕ
 stmt_depth = fold-Stmt ℕ ℕ stmt_step case_item_step

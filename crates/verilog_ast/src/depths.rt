@@ -1,13 +1,13 @@
 //! How deep statements, targets, expressions and sources are. A depth stands still at the end of `u32`.
 ghost use Rattle.std.specs.Prelude.{◌≡◌, ◌+◌, map};
 ghost use Rattle.verilog_ast.specs.Depth.{capped, greatest, optional};
-ghost use Rattle.verilog_ast.specs.Depth.{expr_depth, target_depth, stmt_depth, case_item_depth};
+ghost use Rattle.verilog_ast.specs.Depth.{expr_depth, label_depth, target_depth, stmt_depth, case_item_depth};
 ghost use Rattle.verilog_ast.specs.Depth.{range_depth, param_depth, decl_depth, port_depth, conn_depth, conns_depth};
 ghost use Rattle.verilog_ast.specs.Depth.{body_depth, item_depth, module_depth, source_depth};
 
 use crate::{
-    CaseItem, Conn, Conns, Decl, Expr, Item, ItemBody, Module, ParamDecl, Port, Range, Source,
-    Stmt, Target,
+    CaseItem, Conn, Conns, Decl, Expr, Item, ItemBody, Label, Module, ParamDecl, Port, Range,
+    Source, Stmt, Target,
 };
 
 /// The greatest depth of a statement, target or expression in the source, 0 where it has none. A leaf has depth 1,
@@ -164,6 +164,7 @@ fn depth_of_stmt(stmt: &Stmt) -> u32
             subject,
             items,
             default,
+            ..
         } => {
             let most = depth_of_expr(subject).max(deepest_case_item(items.as_slice()));
             match default {
@@ -192,10 +193,29 @@ fn deepest_case_item(items: &[CaseItem]) -> u32
 {
     let mut most = 0;
     for item in items {
-        let here = deepest_expr(item.labels.as_slice()).max(depth_of_stmt(&item.body));
+        let here = deepest_label(item.labels.as_slice()).max(depth_of_stmt(&item.body));
         most = here.max(most);
     }
     most
+}
+
+fn deepest_label(labels: &[Label]) -> u32
+    ensures { result ≡ capped (greatest (map label_depth labels.now)) }
+{
+    let mut most = 0;
+    for label in labels {
+        most = depth_of_label(label).max(most);
+    }
+    most
+}
+
+fn depth_of_label(label: &Label) -> u32
+    ensures { result ≡ capped (label_depth label.now) }
+{
+    match label {
+        Label::Value(value) => depth_of_expr(value),
+        Label::Mask { .. } => 1,
+    }
 }
 
 #[cycle(depth_of_target)]

@@ -140,13 +140,15 @@ pub enum EdgeKind {
     Level,
 }
 
-/// A statement. The `default` of a `case` stands apart from its items, wherever the text has it.
+/// A statement. Only one that doesn't block has a `delay`. `masks` tells a `casez`, whose labels may be masks; the
+/// `default` stands apart from the items, wherever the text has it.
 #[derive(Drop)]
 #[cycle(stmt)]
 pub enum Stmt {
     Null,
     Set {
         blocking: bool,
+        delay: Option<Delay>,
         target: Target,
         value: Expr,
     },
@@ -156,6 +158,7 @@ pub enum Stmt {
         other: Option<Box<Stmt>>,
     },
     Case {
+        masks: bool,
         subject: Expr,
         items: List<CaseItem>,
         default: Option<Box<Stmt>>,
@@ -163,19 +166,49 @@ pub enum Stmt {
     Block(List<Stmt>),
 }
 
+/// The delay of an assignment, as it is written.
+#[derive(Drop)]
+pub enum Delay {
+    Number(u64),
+    Name(Name),
+}
+
 #[derive(Drop)]
 #[cycle(stmt)]
 pub struct CaseItem {
-    pub labels: List<Expr>,
+    pub labels: List<Label>,
     pub body: Stmt,
+}
+
+/// What a subject is compared with: a value, or a mask, whose `value` is 0 at the bits of `open`.
+#[derive(Drop)]
+pub enum Label {
+    Value(Expr),
+    Mask { value: u64, open: u64, width: u8 },
+}
+
+/// What stands between the brackets of a part: `[left:right]`, `[left +: right]`, `[left -: right]`.
+#[derive(Clone, Copy, PartialEq, Eq, Debug, Drop)]
+pub enum PartKind {
+    Range,
+    Up,
+    Down,
 }
 
 /// What is assigned: a whole name, an index or a part of it, or a concatenation, whose first part has the highest bits.
 #[derive(Drop)]
 pub enum Target {
     Whole(Name),
-    At { name: Name, index: Expr },
-    Part { name: Name, left: Expr, right: Expr },
+    At {
+        name: Name,
+        index: Expr,
+    },
+    Part {
+        name: Name,
+        kind: PartKind,
+        left: Expr,
+        right: Expr,
+    },
     Join(List<Target>),
 }
 
@@ -194,6 +227,7 @@ pub enum Expr {
     },
     Part {
         name: Name,
+        kind: PartKind,
         left: Box<Expr>,
         right: Box<Expr>,
     },
@@ -219,9 +253,10 @@ pub enum Expr {
     Paren(Box<Expr>),
 }
 
-/// `~ ! & | ^ ~& ~| ~^`, in this order.
+/// `- ~ ! & | ^ ~& ~| ~^`, in this order.
 #[derive(Clone, Copy, PartialEq, Eq, Debug, Drop)]
 pub enum UnaryOp {
+    Minus,
     Not,
     LogicNot,
     And,

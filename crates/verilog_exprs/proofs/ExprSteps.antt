@@ -2,6 +2,7 @@
 use Rattle.std.proofs.Common.{◌≡◌, ℕ, zero, suc, ◌+◌, ◌-◌, ◌<◌, ◌≤◌, max, true, false, List, [], ◌∷◌, ◌++◌, map, length, Option, Some, None, refl, sym, ap, subst, ◌∙◌, arith, rules}
 use Rattle.verilog_ast.specs.declared.UnaryOp.{UnaryOp}
 use Rattle.verilog_ast.specs.declared.BinaryOp.{BinaryOp}
+use Rattle.verilog_ast.specs.declared.PartKind.{PartKind}
 use Rattle.verilog_ast.specs.declared.Expr.{Expr}
 use Rattle.verilog_exprs.specs.declared.halt.Halt.{Halt}
 use Rattle.verilog_exprs.specs.declared.halt.Halt.TheVariants.{Refused}
@@ -12,11 +13,12 @@ use Rattle.verilog_exprs.proofs.Steps.{halts_then, halts_by, halts_at, then_done
 use Rattle.verilog_lex.specs.declared.token.Token.{Token}
 use Rattle.verilog_lex.specs.declared.marks.MarkKind.TheVariants.{ParenOpen, ParenClose, BracketOpen, BracketClose, BraceOpen, BraceClose, Comma, Colon, Question}
 use Rattle.verilog_reading.specs.Lexemes.{Spot, mark_in, ident_in, Numeral, numeral_in}
+use Rattle.verilog_reading.specs.Parts.{divider_in}
 use Rattle.verilog_reading.specs.Operators.{Prefix, prefix_in, Joint, joint_in, levels}
 use Rattle.verilog_reading.specs.ExprTree.{ExprTree, number, name, unary, binary, choice, join, repeat, paren, and_trees, tree_of, trees_of, height, heights}
 use Rattle.verilog_reading.specs.Outcome.{Outcome, done, stop, then_read, next, refuse, expect, enter}
 use Rattle.verilog_reading.specs.Lists.{more}
-use Rattle.verilog_reading.specs.Reader.{Readers, readers, closed, Select, at_index, between, at_bound, in_bound, at_range, behind_index, select, selected, in_unary, at_paren, in_paren, at_join, in_join, at_repeat, behind_part, in_repeat, behind_first, in_braces, in_name, unary_at, beside, onward, in_other, at_colon, in_choice, choice_at}
+use Rattle.verilog_reading.specs.Reader.{Readers, readers, closed, Select, at_index, between, at_bound, in_bound, at_part, behind_index, select, selected, in_unary, at_paren, in_paren, at_join, in_join, at_repeat, behind_part, in_repeat, behind_first, in_braces, in_name, unary_at, beside, onward, in_other, at_colon, in_choice, choice_at}
 use Rattle.verilog_reading.proofs.ExprComplete.{downs, readers_is, beside_some}
 use Rattle.verilog_reading.proofs.ExprLocal.{local}
 
@@ -307,35 +309,35 @@ select_begins : (k : ℕ) (ts : List Token) (a : ExprTree) (mid : List Token) �
 select_begins k ts a mid e = then_done ((readers k).expr ts) (behind_index (readers k)) a mid e
 
 pub select_index : (k : ℕ) (ts : List Token) (a : ExprTree) (mid : List Token) (s : Spot) (rest : List Token) → (readers k).expr ts ≡ done a mid → Takes (mark_in BracketClose) s mid rest → select (readers k) ts ≡ done (at_index a) rest
-select_index k ts a mid s rest e w = select_begins k ts a mid e ∙ next_takes (mark_in BracketClose) (λ _. done (at_index a)) (at_range (readers k) a) s mid rest w
+select_index k ts a mid s rest e w = select_begins k ts a mid e ∙ next_takes (mark_in BracketClose) (λ _. done (at_index a)) (at_part (readers k) a) s mid rest w
 
-select_range : (k : ℕ) (ts : List Token) (a : ExprTree) (mid : List Token) → (readers k).expr ts ≡ done a mid → Lacks (mark_in BracketClose) mid → select (readers k) ts ≡ at_range (readers k) a mid
-select_range k ts a mid e w = select_begins k ts a mid e ∙ next_lacks (mark_in BracketClose) (λ _. done (at_index a)) (at_range (readers k) a) mid w
+select_divided : (k : ℕ) (ts : List Token) (a : ExprTree) (mid : List Token) → (readers k).expr ts ≡ done a mid → Lacks (mark_in BracketClose) mid → select (readers k) ts ≡ at_part (readers k) a mid
+select_divided k ts a mid e w = select_begins k ts a mid e ∙ next_lacks (mark_in BracketClose) (λ _. done (at_index a)) (at_part (readers k) a) mid w
 
-pub select_refused : (k : ℕ) (ts : List Token) (a : ExprTree) (mid : List Token) (h : Halt) → (readers k).expr ts ≡ done a mid → Lacks (mark_in BracketClose) mid → Lacks (mark_in Colon) mid → h ≡ Refused false (length mid)
+pub select_refused : (k : ℕ) (ts : List Token) (a : ExprTree) (mid : List Token) (h : Halt) → (readers k).expr ts ≡ done a mid → Lacks (mark_in BracketClose) mid → Lacks divider_in mid → h ≡ Refused false (length mid)
     → HaltsAs (select (readers k) ts) h
-select_refused k ts a mid h e v w q = halts_by (select (readers k) ts) (at_range (readers k) a mid) h (select_range k ts a mid e v) (expect_halts (mark_in Colon) (in_bound (readers k) a) mid h w q)
+select_refused k ts a mid h e v w q = halts_by (select (readers k) ts) (at_part (readers k) a mid) h (select_divided k ts a mid e v) (expect_halts divider_in (in_bound (readers k) a) mid h w q)
 
-select_right : (k : ℕ) (ts : List Token) (a : ExprTree) (mid : List Token) (s : Spot) (inner : List Token) → (readers k).expr ts ≡ done a mid → Lacks (mark_in BracketClose) mid → Takes (mark_in Colon) s mid inner
-    → select (readers k) ts ≡ then_read ((readers k).expr inner) (at_bound a)
-select_right k ts a mid s inner e v w = select_range k ts a mid e v ∙ next_takes (mark_in Colon) (in_bound (readers k) a) refuse s mid inner w
+select_right : (k : ℕ) (ts : List Token) (a : ExprTree) (mid : List Token) (kind : PartKind) (s : Spot) (inner : List Token) → (readers k).expr ts ≡ done a mid → Lacks (mark_in BracketClose) mid → Takes divider_in (record { kind = kind; spot = s }) mid inner
+    → select (readers k) ts ≡ then_read ((readers k).expr inner) (at_bound kind a)
+select_right k ts a mid kind s inner e v w = select_divided k ts a mid e v ∙ next_takes divider_in (in_bound (readers k) a) refuse (record { kind = kind; spot = s }) mid inner w
 
-pub select_right_halts : (k : ℕ) (ts : List Token) (a : ExprTree) (mid : List Token) (s : Spot) (inner : List Token) (h : Halt) → (readers k).expr ts ≡ done a mid → Lacks (mark_in BracketClose) mid → Takes (mark_in Colon) s mid inner
+pub select_right_halts : (k : ℕ) (ts : List Token) (a : ExprTree) (mid : List Token) (kind : PartKind) (s : Spot) (inner : List Token) (h : Halt) → (readers k).expr ts ≡ done a mid → Lacks (mark_in BracketClose) mid → Takes divider_in (record { kind = kind; spot = s }) mid inner
     → HaltsAs ((readers k).expr inner) h → HaltsAs (select (readers k) ts) h
-select_right_halts k ts a mid s inner h e v w x = halts_by (select (readers k) ts) (then_read ((readers k).expr inner) (at_bound a)) h (select_right k ts a mid s inner e v w) (halts_then ((readers k).expr inner) (at_bound a) h x)
+select_right_halts k ts a mid kind s inner h e v w x = halts_by (select (readers k) ts) (then_read ((readers k).expr inner) (at_bound kind a)) h (select_right k ts a mid kind s inner e v w) (halts_then ((readers k).expr inner) (at_bound kind a) h x)
 
-select_bound : (k : ℕ) (ts : List Token) (a : ExprTree) (mid : List Token) (s : Spot) (inner : List Token) (b : ExprTree) (last : List Token) → (readers k).expr ts ≡ done a mid → Lacks (mark_in BracketClose) mid
-    → Takes (mark_in Colon) s mid inner → (readers k).expr inner ≡ done b last → select (readers k) ts ≡ at_bound a b last
-select_bound k ts a mid s inner b last e v w x = select_right k ts a mid s inner e v w ∙ then_done ((readers k).expr inner) (at_bound a) b last x
+select_bound : (k : ℕ) (ts : List Token) (a : ExprTree) (mid : List Token) (kind : PartKind) (s : Spot) (inner : List Token) (b : ExprTree) (last : List Token) → (readers k).expr ts ≡ done a mid → Lacks (mark_in BracketClose) mid
+    → Takes divider_in (record { kind = kind; spot = s }) mid inner → (readers k).expr inner ≡ done b last → select (readers k) ts ≡ at_bound kind a b last
+select_bound k ts a mid kind s inner b last e v w x = select_right k ts a mid kind s inner e v w ∙ then_done ((readers k).expr inner) (at_bound kind a) b last x
 
-pub select_open : (k : ℕ) (ts : List Token) (a : ExprTree) (mid : List Token) (s : Spot) (inner : List Token) (b : ExprTree) (last : List Token) (h : Halt) → (readers k).expr ts ≡ done a mid → Lacks (mark_in BracketClose) mid
-    → Takes (mark_in Colon) s mid inner → (readers k).expr inner ≡ done b last → Lacks (mark_in BracketClose) last → h ≡ Refused false (length last) → HaltsAs (select (readers k) ts) h
-select_open k ts a mid s inner b last h e v w x y q = halts_by (select (readers k) ts) (at_bound a b last) h (select_bound k ts a mid s inner b last e v w x)
-    (expect_halts (mark_in BracketClose) (λ _. done (between a b)) last h y q)
+pub select_open : (k : ℕ) (ts : List Token) (a : ExprTree) (mid : List Token) (kind : PartKind) (s : Spot) (inner : List Token) (b : ExprTree) (last : List Token) (h : Halt) → (readers k).expr ts ≡ done a mid → Lacks (mark_in BracketClose) mid
+    → Takes divider_in (record { kind = kind; spot = s }) mid inner → (readers k).expr inner ≡ done b last → Lacks (mark_in BracketClose) last → h ≡ Refused false (length last) → HaltsAs (select (readers k) ts) h
+select_open k ts a mid kind s inner b last h e v w x y q = halts_by (select (readers k) ts) (at_bound kind a b last) h (select_bound k ts a mid kind s inner b last e v w x)
+    (expect_halts (mark_in BracketClose) (λ _. done (between kind a b)) last h y q)
 
-pub select_part : (k : ℕ) (ts : List Token) (a : ExprTree) (mid : List Token) (s : Spot) (inner : List Token) (b : ExprTree) (last : List Token) (t : Spot) (rest : List Token) → (readers k).expr ts ≡ done a mid
-    → Lacks (mark_in BracketClose) mid → Takes (mark_in Colon) s mid inner → (readers k).expr inner ≡ done b last → Takes (mark_in BracketClose) t last rest → select (readers k) ts ≡ done (between a b) rest
-select_part k ts a mid s inner b last t rest e v w x y = select_bound k ts a mid s inner b last e v w x ∙ next_takes (mark_in BracketClose) (λ _. done (between a b)) refuse t last rest y
+pub select_part : (k : ℕ) (ts : List Token) (a : ExprTree) (mid : List Token) (kind : PartKind) (s : Spot) (inner : List Token) (b : ExprTree) (last : List Token) (t : Spot) (rest : List Token) → (readers k).expr ts ≡ done a mid
+    → Lacks (mark_in BracketClose) mid → Takes divider_in (record { kind = kind; spot = s }) mid inner → (readers k).expr inner ≡ done b last → Takes (mark_in BracketClose) t last rest → select (readers k) ts ≡ done (between kind a b) rest
+select_part k ts a mid kind s inner b last t rest e v w x y = select_bound k ts a mid kind s inner b last e v w x ∙ next_takes (mark_in BracketClose) (λ _. done (between kind a b)) refuse t last rest y
 
 pub ruleset select_steps = (select_first_halts, select_index, select_refused, select_right_halts, select_open, select_part)
 

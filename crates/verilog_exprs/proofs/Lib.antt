@@ -1,3 +1,4 @@
 pub mod Steps
 pub mod ExprSteps
 pub mod TokenSteps
+pub mod DvalSteps

@@ -6,12 +6,14 @@ use Rattle.cdc_base.specs.contracts.words.KeywordPartialEq.TheImpl as words
 use Rattle.cdc_base.specs.contracts.words.Keyword.{the_type as keyword_type}
 use Rattle.verilog_ast.specs.declared.UnaryOp.{UnaryOp}
 use Rattle.verilog_ast.specs.declared.BinaryOp.{BinaryOp}
+use Rattle.verilog_ast.specs.declared.PartKind.{PartKind}
 use Rattle.verilog_lex.specs.declared.marks.MarkKind.{MarkKind}
 use Rattle.verilog_lex.specs.contracts.marks.MarkKindPartialEq.TheImpl as marks
 use Rattle.verilog_lex.specs.contracts.marks.MarkKind.{the_type as mark_type}
 use Rattle.verilog_lex.specs.declared.token.Token.{Token}
 use Rattle.verilog_lex.specs.declared.token.TokenKind.TheVariants.{Word, Mark}
 use Rattle.verilog_reading.specs.Lexemes.{spot_of, mark_of, mark_in, word_of, word_in}
+use Rattle.verilog_reading.specs.Parts.{part_kind_of, as_divider, divider_of, divider_in}
 use Rattle.verilog_reading.specs.Operators.{as_prefix, unary_of, prefix_in, prefix_of, as_joint, joint_in, joint_of, joins, at_level, level_of}
 use denote.Enum.Bare.{same_true, true_same}
 
@@ -29,6 +31,9 @@ prefix_found m op t e q = ap (λ k. prefix_of k (spot_of t)) e ∙ ap (λ o. as_
 
 pub joint_found : (l : ℕ) (m : MarkKind) (op : BinaryOp) (t : Token) → t.kind ≡ Mark m → joins l m ≡ Some op → joint_in l t ≡ Some (record { op = op; sign = m; spot = spot_of t })
 joint_found l m op t e q = ap (λ k. joint_of l k (spot_of t)) e ∙ ap (λ o. as_joint o m (spot_of t)) q
+
+pub divider_found : (m : MarkKind) (kind : PartKind) (t : Token) → t.kind ≡ Mark m → part_kind_of m ≡ Some kind → divider_in t ≡ Some (record { kind = kind; spot = spot_of t })
+divider_found m kind t e q = ap (λ k. divider_of k (spot_of t)) e ∙ ap (λ o. as_divider o (spot_of t)) q
 
 pub at_level_found : (o : Option BinaryOp) (l : ℕ) (op : BinaryOp) → o ≡ Some op → level_of op ≡ l → at_level l o ≡ Some op
 at_level_found o l op e q = ap (at_level l) e ∙ some_if (level_of op == l) op (eq-eqb (level_of op) l q)

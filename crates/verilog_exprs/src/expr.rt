@@ -12,9 +12,10 @@ ghost use Rattle.verilog_reading.specs.Lists.{more};
 ghost use Rattle.verilog_reading.specs.Outcome.{done, then_read};
 ghost use Rattle.verilog_reading.specs.Reader.{readers, select, select_height, onward, at_paren, behind_first, behind_part, in_join};
 
+use crate::divider::past_divider;
 use crate::halt::{Halt, deeper};
 use crate::make::{
-    make_binary, make_choice, make_join, make_name, make_paren, make_repeat, make_select,
+    PartEnd, make_binary, make_choice, make_join, make_name, make_paren, make_repeat, make_select,
     make_unary,
 };
 use crate::operators::{LEVELS, after_binary, after_unary};
@@ -45,7 +46,7 @@ pub struct Several<'a> {
 #[derive(Drop)]
 pub struct Selected<'a> {
     pub index: Expr,
-    pub right: Option<Expr>,
+    pub right: Option<PartEnd>,
     pub height: u32,
     pub rest: &'a [Token],
 }
@@ -277,12 +278,15 @@ pub fn read_select<'a>(alloc: Global, tokens: &'a [Token], left: u32) -> Result<
             rest,
         });
     }
-    let inner = past_mark(index.rest, MarkKind::Colon)?;
+    let (kind, inner) = past_divider(index.rest)?;
     let right = read_expr(alloc, inner, left)?;
     let rest = past_mark(right.rest, MarkKind::BracketClose)?;
     Ok(Selected {
         index: index.expr,
-        right: Some(right.expr),
+        right: Some(PartEnd {
+            kind,
+            expr: right.expr,
+        }),
         height: index.height.max(right.height),
         rest,
     })

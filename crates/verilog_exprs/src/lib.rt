@@ -1,6 +1,7 @@
 //! Expressions of a netlist, read from its tokens.
 #![tactic(auto)]
 
+pub mod divider;
 pub mod expr;
 pub mod halt;
 pub mod make;

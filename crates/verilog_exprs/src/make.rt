@@ -6,7 +6,14 @@ ghost use Rattle.verilog_reading.specs.Reader.{selected, select_height};
 
 use cdc_base::{List, Name, NoMemory, NumberSize};
 use std::alloc::Global;
-use verilog_ast::{BinaryOp, Expr, UnaryOp};
+use verilog_ast::{BinaryOp, Expr, PartKind, UnaryOp};
+
+/// The end of a part that stands to the right, and the kind of part that it ends.
+#[derive(Drop)]
+pub struct PartEnd {
+    pub kind: PartKind,
+    pub expr: Expr,
+}
 
 pub fn boxed(alloc: Global, expr: Expr) -> Result<Box<Expr>, NoMemory>
     ensures { IfOk result (λ b. b.value ≡ expr) }
@@ -92,7 +99,7 @@ pub fn make_select(
     alloc: Global,
     name: Name,
     index: Expr,
-    right: Option<Expr>,
+    right: Option<PartEnd>,
 ) -> Result<Expr, NoMemory>
     ensures tree { IfOk result (λ e. tree_of e ≡ selected name (selection_of index right)) }
     ensures tall { IfOk result (λ e. height (tree_of e) ≡ suc (select_height (selection_of index right))) }
@@ -102,8 +109,9 @@ pub fn make_select(
         None => Ok(Expr::At { name, index }),
         Some(right) => Ok(Expr::Part {
             name,
+            kind: right.kind,
             left: index,
-            right: boxed(alloc, right)?,
+            right: boxed(alloc, right.expr)?,
         }),
     }
 }

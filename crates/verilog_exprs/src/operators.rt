@@ -14,6 +14,7 @@ fn unary_of(mark: MarkKind) -> Option<UnaryOp>
     ensures { result ≡ reading.unary_of mark }
 {
     match mark {
+        MarkKind::Minus => Some(UnaryOp::Minus),
         MarkKind::Tilde => Some(UnaryOp::Not),
         MarkKind::Bang => Some(UnaryOp::LogicNot),
         MarkKind::Ampersand => Some(UnaryOp::And),

@@ -1,19 +1,18 @@
 -- The steps of the reader of delays: one for each way out of a function of the parser.
-use Rattle.std.proofs.Common.{◌≡◌, false, List, [], ◌∷◌, length, Some, None, refl, ap, ◌∙◌, rules, if◌then◌else◌}
+use Rattle.std.proofs.Common.{◌≡◌, false, List, length, ap, ◌∙◌, if◌then◌else◌}
 use Rattle.verilog_ast.specs.declared.DeclKind.{DeclKind}
 use Rattle.verilog_ast.specs.declared.DeclKind.TheVariants.{Wire}
 use Rattle.verilog_exprs.specs.declared.halt.Halt.{Halt}
 use Rattle.verilog_exprs.specs.declared.halt.Halt.TheVariants.{Refused}
 use Rattle.verilog_exprs.specs.Halts.{HaltsAs}
 use Rattle.verilog_exprs.specs.Next.{Takes, Lacks}
+use Rattle.verilog_exprs.proofs.DvalSteps.{number_value, name_value, no_value}
 use Rattle.verilog_exprs.proofs.Steps.{halts_by, next_takes, next_lacks, expect_halts}
 use Rattle.verilog_lex.specs.declared.token.Token.{Token}
-use Rattle.verilog_lex.specs.declared.token.TokenKind.{TokenKind}
-use Rattle.verilog_lex.specs.declared.token.TokenKind.TheVariants.{Ident, Number}
 use Rattle.verilog_lex.specs.declared.marks.MarkKind.TheVariants.{ParenOpen, ParenClose, Comma, Hash}
-use Rattle.verilog_reading.specs.ItemReader.{dval_of, dval_in, delay_end, second_delay, in_delays, in_delay, maybe_delay, delay_of}
-use Rattle.verilog_reading.specs.ItemReading.{Dval, by_number, by_name, has_delay}
-use Rattle.verilog_reading.specs.Lexemes.{Spot, spot_of, mark_in, Named, ident_of, ident_in, Numeral, numeral_of, numeral_in}
+use Rattle.verilog_reading.specs.ItemReader.{delay_end, second_delay, in_delays, in_delay, maybe_delay, delay_of}
+use Rattle.verilog_reading.specs.ItemReading.{has_delay}
+use Rattle.verilog_reading.specs.Lexemes.{Spot, mark_in, Dval, dval_in}
 use Rattle.verilog_reading.specs.Outcome.{Outcome, done, next, expect, refuse}
 
 abbrev Delay : Type 0
@@ -29,29 +28,6 @@ delay_wire kind ts e = ap (λ z. delay_of z ts) e
 pub ruleset kind_steps = (delay_none, delay_wire)
 
 -- `dval`
-number_kind : (k : TokenKind) (s : Spot) (n : Numeral) → numeral_of k s ≡ Some n → dval_of k s ≡ Some (by_number n)
-number_kind (Number v w z) s n e = let h : record { value = v; width = w; size = z; spot = s } ≡ n = search (rules, e) in ap (λ x. Some (by_number x)) h
-number_kind k s n e = absurd (search (rules, e))
-
-name_kind : (k : TokenKind) (s : Spot) (n : Named) → ident_of k s ≡ Some n → dval_of k s ≡ Some (by_name n)
-name_kind (Ident m) s n e = let h : record { name = m; spot = s } ≡ n = search (rules, e) in ap (λ x. Some (by_name x)) h
-name_kind k s n e = absurd (search (rules, e))
-
-other_kind : (k : TokenKind) (s : Spot) → numeral_of k s ≡ None → ident_of k s ≡ None → dval_of k s ≡ None
-other_kind (Number v w z) s e f = absurd (search (rules, e))
-other_kind (Ident m) s e f = absurd (search (rules, f))
-other_kind k s e f = refl
-
-pub number_value : (ts rest : List Token) (n : Numeral) → Takes numeral_in n ts rest → (d : Dval) × Takes dval_in d ts rest
-number_value ts rest n w = (by_number n, record { token = w.token; is = w.is; finds = number_kind w.token.kind (spot_of w.token) n w.finds })
-
-pub name_value : (ts rest : List Token) (n : Named) → Takes ident_in n ts rest → (d : Dval) × Takes dval_in d ts rest
-name_value ts rest n w = (by_name n, record { token = w.token; is = w.is; finds = name_kind w.token.kind (spot_of w.token) n w.finds })
-
-pub no_value : (ts : List Token) → Lacks numeral_in ts → Lacks ident_in ts → Lacks dval_in ts
-no_value [] v w = record { free = tt }
-no_value (t ∷ ts) v w = record { free = other_kind t.kind (spot_of t) v.free w.free }
-
 pub ruleset value_steps = (number_value, name_value, no_value)
 
 -- `[delay]`

@@ -7,7 +7,7 @@ use cdc_base::{List, NoMemory};
 use std::alloc::Global;
 use verilog_ast::{Conn, Conns, Expr, Range};
 use verilog_exprs::make::{
-    make_binary, make_choice, make_join, make_name, make_number, make_paren, make_repeat,
+    PartEnd, make_binary, make_choice, make_join, make_name, make_number, make_paren, make_repeat,
     make_select, make_unary,
 };
 
@@ -22,10 +22,18 @@ pub fn copy_expr(alloc: Global, expr: &Expr) -> Result<Expr, NoMemory>
             let index = copy_expr(alloc, index)?;
             make_select(alloc, name.copy(alloc)?, index, None)
         }
-        Expr::Part { name, left, right } => {
+        Expr::Part {
+            name,
+            kind,
+            left,
+            right,
+        } => {
             let left = copy_expr(alloc, left)?;
-            let right = copy_expr(alloc, right)?;
-            make_select(alloc, name.copy(alloc)?, left, Some(right))
+            let end = PartEnd {
+                kind: *kind,
+                expr: copy_expr(alloc, right)?,
+            };
+            make_select(alloc, name.copy(alloc)?, left, Some(end))
         }
         Expr::Unary { op, a } => make_unary(alloc, *op, copy_expr(alloc, a)?),
         Expr::Binary { op, a, b } => {

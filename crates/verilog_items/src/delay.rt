@@ -3,9 +3,7 @@ ghost use Rattle.std.specs.Prelude.{◌≡◌, ◌≤◌, ◌<◌, length, false
 ghost use Rattle.verilog_exprs.specs.Halts.{HaltsAs};
 ghost use Rattle.verilog_exprs.specs.Next.{Takes, Lacks};
 ghost use Rattle.verilog_reading.specs.ItemReader as reader;
-ghost use Rattle.verilog_reading.specs.ItemReader.{dval_in};
-ghost use Rattle.verilog_reading.specs.ItemReading.{Dval};
-ghost use Rattle.verilog_reading.specs.Lexemes.{Spot};
+ghost use Rattle.verilog_reading.specs.Lexemes.{Spot, Dval, dval_in};
 ghost use Rattle.verilog_reading.specs.Outcome.{done};
 
 use verilog_ast::DeclKind;

@@ -4,14 +4,16 @@ use Rattle.verilog_ast.specs.declared.UnaryOp.{UnaryOp}
 use Rattle.verilog_ast.specs.declared.UnaryOp.TheVariants as u
 use Rattle.verilog_ast.specs.declared.BinaryOp.{BinaryOp}
 use Rattle.verilog_ast.specs.declared.BinaryOp.TheVariants as b
+use Rattle.verilog_ast.specs.declared.PartKind.{PartKind}
+use Rattle.verilog_reading.specs.Parts.{part_mark}
 use Rattle.verilog_lex.specs.declared.token.Token.{Token}
 use Rattle.verilog_lex.specs.declared.token.TokenKind.{TokenKind}
 use Rattle.verilog_lex.specs.declared.marks.MarkKind.{MarkKind}
-use Rattle.verilog_lex.specs.declared.marks.MarkKind.TheVariants.{BracketClose, BraceOpen, BraceClose, Comma, Colon}
+use Rattle.verilog_lex.specs.declared.marks.MarkKind.TheVariants.{BracketClose, BraceOpen, BraceClose, Comma}
 use Rattle.verilog_reading.specs.Lexemes.{Spot, token_at}
 use Rattle.verilog_reading.specs.Operators.{unary_of, binary_of, at_level, joins}
 use Rattle.verilog_reading.specs.ExprTree.{ExprTree, ExprTrees, TargetTree, TargetTrees}
-use Rattle.verilog_reading.specs.Reading.{IsUnary, IsBinary, IsExpr, AreMoreExprs, IsRange, is_number, is_name, is_index, is_part, is_paren, is_join, is_repeat, is_unary, is_single, is_tighter, is_binary, is_plain, is_choice, no_exprs, more_exprs, is_range, IsTarget, AreMoreTargets, is_whole, is_index_of, is_part_of, is_join_of, no_targets, more_targets}
+use Rattle.verilog_reading.specs.Reading.{IsUnary, IsBinary, IsExpr, AreMoreExprs, IsPart, is_number, is_name, is_index, is_part, is_paren, is_join, is_repeat, is_unary, is_single, is_tighter, is_binary, is_plain, is_choice, no_exprs, more_exprs, are_bounds, IsTarget, AreMoreTargets, is_whole, is_index_of, is_part_of, is_join_of, no_targets, more_targets}
 use Rattle.verilog_parse.specs.Printed.{Printed, token, line_end, mark, behind}
 use Rattle.verilog_parse.specs.Pieces.{unary_mark, binary_mark, expr_pieces, each_expr, in_brackets, from_to, target_pieces, each_target}
 use Rattle.verilog_parse.specs.Written.{HasKinds}
@@ -54,6 +56,7 @@ ungrouped {P} ps qs rs b = subst (Back P) (append_assoc ps qs rs) b
 
 -- a mark of an operator is read as it
 unary_back : (op : UnaryOp) → unary_of (unary_mark op) ≡ Some op
+unary_back u.Minus = refl
 unary_back u.Not = refl
 unary_back u.LogicNot = refl
 unary_back u.And = refl
@@ -96,7 +99,7 @@ mutual
   back_unary (is_number n) = at_last (λ s. is_number (record { value = n.value; width = n.width; size = n.size; spot = s }))
   back_unary (is_name n) = at_last (λ s. is_name (record { name = n.name; spot = s }))
   back_unary (is_index n p q x) = at_token (λ s. at_token (λ o. at_part (back_expr x) (λ u y. at_last (λ r. is_index (record { name = n.name; spot = s }) o r y))))
-  back_unary (is_part n x) = at_token (λ s. at_all (back_range x) (λ u y. is_part (record { name = n.name; spot = s }) y))
+  back_unary (is_part n x) = at_token (λ s. at_all (back_part x) (λ u y. is_part (record { name = n.name; spot = s }) y))
   back_unary (is_paren p q x) = at_token (λ o. at_part (back_expr x) (λ u y. at_last (λ r. is_paren o r y)))
   back_unary (is_join p q {u} {v} {a} {bs} x y) = at_token (λ o. grouped (expr_pieces a) (behind (mark Comma) (each_expr bs)) (mark BraceClose) (at_part (back_expr x) (λ u a. at_part (back_exprs y) (λ v b. at_last (λ r. is_join o r a b)))))
   back_unary (is_repeat p o q r {u} {v} {w} {c} {a} {bs} x y z) = let ms = behind (mark Comma) (each_expr bs) in
@@ -105,8 +108,8 @@ mutual
       at_token (λ i. at_last (λ j. is_repeat s t i j c a b))))))))))
   back_unary (is_unary p e x) = at_token (λ s. at_all (back_unary x) (λ u a. is_unary (record { op = p.op; sign = unary_mark p.op; spot = s }) (unary_back p.op) a))
 
-  pub back_range : {u : List Token} {a b : ExprTree} → IsRange u a b → Back (λ v. IsRange v a b) (in_brackets (from_to (expr_pieces a) (expr_pieces b)))
-  back_range (is_range p o q {u} {v} {a} {b} x y) = at_token (λ s. grouped (expr_pieces a) (mark Colon ++ expr_pieces b) (mark BracketClose) (at_part (back_expr x) (λ u a. at_token (λ t. at_part (back_expr y) (λ v b. at_last (λ r. is_range s t r a b))))))
+  pub back_part : {kind : PartKind} {u : List Token} {a b : ExprTree} → IsPart kind u a b → Back (λ v. IsPart kind v a b) (in_brackets (from_to kind (expr_pieces a) (expr_pieces b)))
+  back_part (are_bounds {kind} p o q {u} {v} {a} {b} x y) = at_token (λ s. grouped (expr_pieces a) (mark (part_mark kind) ++ expr_pieces b) (mark BracketClose) (at_part (back_expr x) (λ u a. at_token (λ t. at_part (back_expr y) (λ v b. at_last (λ r. are_bounds s t r a b))))))
 
   back_binary : {l : ℕ} {u : List Token} {a : ExprTree} → IsBinary l u a → Back (λ v. IsBinary l v a) (expr_pieces a)
   back_binary (is_single x) = at_all (back_unary x) (λ u a. is_single a)
@@ -125,7 +128,7 @@ mutual
   pub back_target : {u : List Token} {t : TargetTree} → IsTarget u t → Back (λ v. IsTarget v t) (target_pieces t)
   back_target (is_whole n) = at_last (λ s. is_whole (record { name = n.name; spot = s }))
   back_target (is_index_of n p q x) = at_token (λ s. at_token (λ o. at_part (back_expr x) (λ u y. at_last (λ r. is_index_of (record { name = n.name; spot = s }) o r y))))
-  back_target (is_part_of n x) = at_token (λ s. at_all (back_range x) (λ u y. is_part_of (record { name = n.name; spot = s }) y))
+  back_target (is_part_of n x) = at_token (λ s. at_all (back_part x) (λ u y. is_part_of (record { name = n.name; spot = s }) y))
   back_target (is_join_of p q {u} {v} {a} {bs} x y) = at_token (λ o. grouped (target_pieces a) (behind (mark Comma) (each_target bs)) (mark BraceClose) (at_part (back_target x) (λ u a. at_part (back_targets y) (λ v b. at_last (λ r. is_join_of o r a b)))))
 
   back_targets : {u : List Token} {bs : TargetTrees} → AreMoreTargets u bs → Back (λ v. AreMoreTargets v bs) (behind (mark Comma) (each_target bs))

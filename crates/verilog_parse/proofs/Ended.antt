@@ -28,6 +28,8 @@ use Rattle.verilog_reading.specs.Lexemes.{Spot, end_of, end_in}
 use Rattle.verilog_reading.specs.Refusals.{IsEnded}
 use Rattle.std.proofs.Math.Nat.{mod-lt}
 use Rattle.std.proofs.lemmas.Nat.{pow_pos}
+use Rattle.verilog_parse.specs.Written.{Apart}
+use Rattle.verilog_parse.proofs.Apart.{nothing_apart, digits_apart, whole_bits, apart_cut}
 use Rattle.verilog_parse.proofs.Kept.{CanStand, Stand, s_end, s_more}
 
 -- a token that begins a text can stand in it, and is no end
@@ -35,7 +37,7 @@ abbrev pub IsRead : TokenKind → Type 0
 IsRead (kind.Word w) = Unit {0}
 IsRead (kind.Ident n) = CanStand (kind.Ident n)
 IsRead (kind.Number v w z) = CanStand (kind.Number v w z)
-IsRead (kind.Mask v x w) = Unit {0}
+IsRead (kind.Mask v o w) = CanStand (kind.Mask v o w)
 IsRead (kind.Mark m) = Unit {0}
 IsRead kind.End = ⊥
 
@@ -137,17 +139,6 @@ sized_hold_of None v h = tt
 sized_hold_of (Some w) None h = tt
 sized_hold_of (Some w) (Some v) h = ((h w refl).0, (h w refl).1, mod-lt v (pow_pos w))
 
-mask_or_hold : (w : ℕ) (g v : Option ℕ) (bits : ℕ) → HoldsIf (mask_or w g v bits)
-mask_or_hold w None v bits = tt
-mask_or_hold w (Some g) None bits = tt
-mask_or_hold w (Some g) (Some v) bits = tt
-
-mask_hold : (w base : Option ℕ) (digits : List ℕ) → HoldsIf (mask_of w base digits)
-mask_hold None base digits = tt
-mask_hold (Some w) None digits = tt
-mask_hold (Some w) (Some base) digits = choice (base == 10) None (mask_in w base digits) (λ e. tt)
-    (λ e. mask_or_hold w (small (value_in base (base - 1) 0 digits)) (small (value_in base 0 0 digits)) (open_in base (open_above digits) digits))
-
 within : (m : ℕ) → (nat_le 1 m && nat_le m 64) ≡ true → (1 ≤ m) × (m ≤ 64)
 within m h = (grind (arith, h), grind (arith, h))
 
@@ -162,6 +153,29 @@ allowed (Some w) m e = by (nat_le 1 w && nat_le w 64) (λ h. within w h) e
 width_allowed : (size : List ℕ) (m : ℕ) → width_of size ≡ Some m → (1 ≤ m) × (m ≤ 64)
 width_allowed size m e = allowed (closed_value 10 size) m e
 
+mask_or_hold : (w : ℕ) (g v : Option ℕ) (bits : ℕ) → (1 ≤ w) × (w ≤ 64) → ((n : ℕ) → v ≡ Some n → Apart n bits) → HoldsIf (mask_or w g v bits)
+mask_or_hold w None v bits h a = tt
+mask_or_hold w (Some g) None bits h a = tt
+mask_or_hold w (Some g) (Some v) bits h a = (h.0, h.1, mod-lt v (pow_pos w), mod-lt bits (pow_pos w), apart_cut v bits w (a v refl))
+
+of_small : (o : Option ℕ) (n : ℕ) → small o ≡ Some n → o ≡ Some n
+of_small None n e = absurd (search (rules, e))
+of_small (Some m) n e = by (nat_lt m (2 ^ 128)) e
+  where
+    by : (t : Bool) → (if t then Some m else None) ≡ Some n → Some m ≡ Some n
+    by true e = e
+    by false e = absurd (search (rules, e))
+
+read_apart : (base : ℕ) (digits : List ℕ) → (j : ℕ) × (base ≡ 2 ^ j) → (n : ℕ) → small (value_in base 0 0 digits) ≡ Some n → Apart n (open_in base (open_above digits) digits)
+read_apart base digits (j, q) n e = subst (λ b. Apart n (open_in b (open_above digits) digits)) (sym q)
+    (digits_apart j 0 (open_above digits) n digits (nothing_apart (open_above digits)) (of_small (value_in (2 ^ j) 0 0 digits) n (subst (λ b. small (value_in b 0 0 digits) ≡ Some n) q e)))
+
+mask_hold : (w : Option ℕ) (letter : ℕ) (base : Option ℕ) (digits : List ℕ) → base_of letter ≡ base → ((m : ℕ) → w ≡ Some m → (1 ≤ m) × (m ≤ 64)) → HoldsIf (mask_of w base digits)
+mask_hold None letter base digits q h = tt
+mask_hold (Some w) letter None digits q h = tt
+mask_hold (Some w) letter (Some base) digits q h = choice (base == 10) None (mask_in w base digits) (λ e. tt)
+    (λ e. mask_or_hold w (small (value_in base (base - 1) 0 digits)) (small (value_in base 0 0 digits)) (open_in base (open_above digits) digits) (h w refl) (read_apart base digits (whole_bits letter base q e)))
+
 based_hold : (size : List ℕ) (letter : ℕ) (figures : List ℕ) → HoldsIf (based_of size letter figures)
 based_hold size letter figures =
     let value = value_by (base_of letter) figures in
@@ -170,7 +184,7 @@ based_hold size letter figures =
     let closed = if list_any is_open figures then mask else sized in
     choice (length figures == 0 || front figures == 95) None (if length size == 0 then unsized_of value else closed) (λ e. tt)
     (λ e. choice (length size == 0) (unsized_of value) closed (λ e. unsized_hold value)
-    (λ e. choice (list_any is_open figures) mask sized (λ e. mask_hold (width_of size) (base_of letter) figures) (λ e. sized_hold_of (width_of size) value (width_allowed size))))
+    (λ e. choice (list_any is_open figures) mask sized (λ e. mask_hold (width_of size) letter (base_of letter) figures refl (width_allowed size)) (λ e. sized_hold_of (width_of size) value (width_allowed size))))
 
 sized_hold : (size : List ℕ) (before : ℕ) (rest : List ℕ) → Holds (based_piece size before rest)
 unfolding based_piece
@@ -280,7 +294,7 @@ can_stand : (k : TokenKind) → IsRead k → CanStand k
 can_stand (kind.Word w) h = tt
 can_stand (kind.Ident n) h = h
 can_stand (kind.Number v w z) h = h
-can_stand (kind.Mask v x w) h = tt
+can_stand (kind.Mask v x w) h = h
 can_stand (kind.Mark m) h = tt
 can_stand kind.End h = tt
 

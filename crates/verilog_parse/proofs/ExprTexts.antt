@@ -4,6 +4,7 @@ use Rattle.std.specs.Prelude.{Box}
 use Rattle.std.specs.declared.alloc.Global.{Global}
 use Rattle.verilog_ast.specs.declared.UnaryOp.{UnaryOp}
 use Rattle.verilog_ast.specs.declared.BinaryOp.{BinaryOp}
+use Rattle.verilog_ast.specs.declared.PartKind.{PartKind}
 use Rattle.verilog_ast.specs.declared.Expr.{Expr}
 use Rattle.verilog_ast.specs.declared.Expr.TheOpen.{Expr-F}
 use Rattle.verilog_ast.specs.declared.Expr.TheFolds.{fold-roll-Expr}
@@ -15,6 +16,7 @@ use Rattle.verilog_ast.specs.declared.Target.TheVariants as t
 use Rattle.verilog_lex.specs.declared.marks.MarkKind.{MarkKind}
 use Rattle.verilog_lex.specs.declared.marks.MarkKind.TheVariants.{BracketOpen, BracketClose, BraceOpen, BraceClose, ParenOpen, ParenClose, Colon, Question}
 use Rattle.verilog_reading.specs.ExprTree.{ExprTree, tree_of, expr_tree_step, TargetTree, target_tree_of, target_tree_step}
+use Rattle.verilog_reading.specs.Parts.{part_mark}
 use Rattle.verilog_parse.specs.Pieces.{unary_mark, binary_mark, expr_pieces, target_pieces}
 use Rattle.verilog_parse.specs.Printed.{mark, ident, with_commas}
 use Rattle.verilog_parse.specs.Texts.{printed_expr, printed_target}
@@ -24,10 +26,12 @@ pub at_printed : (x : Expr) (n : List ℕ) (i : Box Expr Global) (y : Expr) → 
 at_printed x n i y p q0 = ap printed_expr p ∙ ap printed_expr (sym (rolls-At n i)) ∙ ap expr_pieces (fold-roll-Expr ExprTree expr_tree_step (Expr-F.At n i))
     ∙ ap (λ z. ident n ++ (mark BracketOpen ++ (printed_expr z ++ mark BracketClose))) (sym q0)
 
-pub part_printed : (x : Expr) (n : List ℕ) (i : Box Expr Global) (j : Box Expr Global) (y : Expr) (w : Expr) → x ≡ Part n i j → y ≡ i.value → w ≡ j.value → printed_expr x ≡ ident n ++ (mark BracketOpen ++ ((printed_expr y ++ (mark Colon ++ printed_expr w)) ++ mark BracketClose))
-part_printed x n i j y w p q0 q1 = ap printed_expr p ∙ ap printed_expr (sym (rolls-Part n i j)) ∙ ap expr_pieces (fold-roll-Expr ExprTree expr_tree_step (Expr-F.Part n i j))
-    ∙ ap (λ z. ident n ++ (mark BracketOpen ++ ((printed_expr z ++ (mark Colon ++ printed_expr j.value)) ++ mark BracketClose))) (sym q0)
-    ∙ ap (λ z. ident n ++ (mark BracketOpen ++ ((printed_expr y ++ (mark Colon ++ printed_expr z)) ++ mark BracketClose))) (sym q1)
+pub part_printed : (x : Expr) (n : List ℕ) (kind : PartKind) (i : Box Expr Global) (j : Box Expr Global) (y : Expr) (w : Expr) (s : MarkKind) → x ≡ Part n kind i j → y ≡ i.value → w ≡ j.value → s ≡ part_mark kind
+    → printed_expr x ≡ ident n ++ (mark BracketOpen ++ ((printed_expr y ++ (mark s ++ printed_expr w)) ++ mark BracketClose))
+part_printed x n kind i j y w s p q0 q1 q = ap printed_expr p ∙ ap printed_expr (sym (rolls-Part n kind i j)) ∙ ap expr_pieces (fold-roll-Expr ExprTree expr_tree_step (Expr-F.Part n kind i j))
+    ∙ ap (λ z. ident n ++ (mark BracketOpen ++ ((printed_expr z ++ (mark (part_mark kind) ++ printed_expr j.value)) ++ mark BracketClose))) (sym q0)
+    ∙ ap (λ z. ident n ++ (mark BracketOpen ++ ((printed_expr y ++ (mark (part_mark kind) ++ printed_expr z)) ++ mark BracketClose))) (sym q1)
+    ∙ ap (λ z. ident n ++ (mark BracketOpen ++ ((printed_expr y ++ (mark z ++ printed_expr w)) ++ mark BracketClose))) (sym q)
 
 pub unary_printed : (x : Expr) (op : UnaryOp) (i : Box Expr Global) (y : Expr) (s : MarkKind) → x ≡ Unary op i → y ≡ i.value → s ≡ unary_mark op → printed_expr x ≡ mark s ++ printed_expr y
 unary_printed x op i y s p q0 q = ap printed_expr p ∙ ap printed_expr (sym (rolls-Unary op i)) ∙ ap expr_pieces (fold-roll-Expr ExprTree expr_tree_step (Expr-F.Unary op i))
@@ -68,5 +72,7 @@ targets_printed x ts us p q = ap printed_target p ∙ ap printed_target (sym (t.
 pub target_at_printed : (x : Target) (n : List ℕ) (i : Expr) → x ≡ t.At n i → printed_target x ≡ ident n ++ (mark BracketOpen ++ (printed_expr i ++ mark BracketClose))
 target_at_printed x n i p = ap printed_target p ∙ ap printed_target (sym (t.rolls-At n i)) ∙ ap target_pieces (fold-roll-Target TargetTree target_tree_step (Target-F.At n i))
 
-pub target_part_printed : (x : Target) (n : List ℕ) (i j : Expr) → x ≡ t.Part n i j → printed_target x ≡ ident n ++ (mark BracketOpen ++ ((printed_expr i ++ (mark Colon ++ printed_expr j)) ++ mark BracketClose))
-target_part_printed x n i j p = ap printed_target p ∙ ap printed_target (sym (t.rolls-Part n i j)) ∙ ap target_pieces (fold-roll-Target TargetTree target_tree_step (Target-F.Part n i j))
+pub target_part_printed : (x : Target) (n : List ℕ) (kind : PartKind) (i j : Expr) (s : MarkKind) → x ≡ t.Part n kind i j → s ≡ part_mark kind
+    → printed_target x ≡ ident n ++ (mark BracketOpen ++ ((printed_expr i ++ (mark s ++ printed_expr j)) ++ mark BracketClose))
+target_part_printed x n kind i j s p q = ap printed_target p ∙ ap printed_target (sym (t.rolls-Part n kind i j)) ∙ ap target_pieces (fold-roll-Target TargetTree target_tree_step (Target-F.Part n kind i j))
+    ∙ ap (λ z. ident n ++ (mark BracketOpen ++ ((printed_expr i ++ (mark z ++ printed_expr j)) ++ mark BracketClose))) (sym q)

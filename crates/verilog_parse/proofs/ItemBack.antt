@@ -20,7 +20,7 @@ use Rattle.verilog_reading.specs.ItemReading.{IsList, is_list, IsListed, IsMaybe
 use Rattle.verilog_reading.specs.SourceTree.{Bounds, ConnTree, ConnsTree, ordered, named, BodyTree, ItemTree}
 use Rattle.verilog_parse.specs.Printed.{Printed, mark, word, ident, behind, with_commas, separated}
 use Rattle.verilog_parse.specs.Pieces.{expr_pieces, target_pieces, if_any, bounds_pieces, init_pieces, kind_pieces, gate_word, value_pieces, conn_pieces, conns_pieces, overrides_pieces, edge_pieces, event_pieces, body_pieces}
-use Rattle.verilog_parse.proofs.Back.{Back, at_end, at_token, at_last, at_all, at_part, grouped, ungrouped, back_expr, back_range, back_target}
+use Rattle.verilog_parse.proofs.Back.{Back, at_end, at_token, at_last, at_all, at_part, grouped, ungrouped, back_expr, back_part, back_target}
 use Rattle.verilog_parse.proofs.StmtBack.{back_more, back_stmt}
 
 pub back_listed : {A : Type 0} (R : List Token → A → Type 0) (f : A → List Printed) → ((u : List Token) (a : A) → R u a → Back (λ v. R v a) (f a)) → {m : MarkKind} {u : List Token} {bs : List A}
@@ -29,7 +29,7 @@ back_listed R f g {m} (is_list q {u} {v} {a} {bs} x y) = grouped (f a) (behind (
 
 pub back_maybe_range : {u : List Token} {r : Option Bounds} → IsMaybeRange u r → Back (λ v. IsMaybeRange v r) (if_any bounds_pieces r)
 back_maybe_range no_range = at_end no_range
-back_maybe_range (a_range x) = at_all (back_range x) (λ u y. a_range y)
+back_maybe_range (a_range x) = at_all (back_part x) (λ u y. a_range y)
 
 pub back_init : {u : List Token} {e : Option ExprTree} → IsInit u e → Back (λ v. IsInit v e) (init_pieces e)
 back_init no_init = at_end no_init

@@ -20,14 +20,14 @@ use Rattle.verilog_parse.specs.Printed.{Printed, mark, word, ident, behind, with
 use Rattle.verilog_parse.specs.Pieces.{expr_pieces, target_pieces, if_any, bounds_pieces, init_pieces, kind_pieces, value_pieces, conn_pieces, conns_pieces, overrides_pieces, edge_pieces, event_pieces, body_pieces, item_pieces, param_pieces, header_pieces, decl_pieces, is_short, port_pieces, module_pieces, source_pieces}
 use Rattle.verilog_parse.specs.Written.{IsWritable}
 use Rattle.verilog_parse.proofs.TextSteps.{map_twice}
-use Rattle.verilog_parse.proofs.Kept.{CanStand, Stand, s_more, front, rest, tail, Written, w_end, w_still, w_token, w_line, w_mark, w_word, both, Keeps, kept_more, kept_range, kept_expr, kept_target, kept_stmt}
+use Rattle.verilog_parse.proofs.Kept.{CanStand, Stand, s_more, front, rest, tail, Written, w_end, w_still, w_token, w_line, w_mark, w_word, both, Keeps, kept_more, kept_part, kept_expr, kept_target, kept_stmt}
 
 kept_listed : {b : Bool} {A : Type 0} (R : List Token → A → Type 0) (f : A → List Printed) → Keeps R f → {m : MarkKind} {u : List Token} {bs : List A} → IsListed m R u bs → Stand u → Written false b (with_commas (map f bs) ++ mark m)
 kept_listed R f g (is_list q {u} {v} {a} {bs} x y) r = both (both (g u a x (front u _ r)) (kept_more R f g y (front v _ (rest u _ r)))) (w_mark w_end)
 
 kept_maybe_range : {u : List Token} {b : Option Bounds} → IsMaybeRange u b → Stand u → Written false false (if_any bounds_pieces b)
 kept_maybe_range no_range r = w_end
-kept_maybe_range (a_range x) r = kept_range x r
+kept_maybe_range (a_range x) r = kept_part x r
 
 kept_init : {u : List Token} {e : Option ExprTree} → IsInit u e → Stand u → Written false true (init_pieces e)
 kept_init no_init r = w_end

@@ -19,6 +19,7 @@ use Rattle.verilog_reading.specs.Lexemes.{Spot, token_at, closing}
 use Rattle.verilog_parse.specs.Printed.{Printed, token, line_end, bytes_of, spelled, spelled_number}
 use Rattle.verilog_parse.specs.Written.{IsWritable, is_unsized, begins_unsized, can_be_size, AreWritable, HasKinds, HasTokens}
 use Rattle.verilog_parse.proofs.Spelled.{Is, NoQuote, run_more, no_quote_behind, opens, with_blank, drop_front, both_true, if_true, mark_text, word_text, name_text}
+use Rattle.verilog_parse.proofs.MaskTexts.{mask_text, mask_opens}
 use Rattle.verilog_parse.proofs.NumberTexts.{plain_text, unsized_text, sized_text, plain_opens, sized_opens}
 
 -- white space is skipped byte by byte
@@ -55,7 +56,7 @@ token_opens (kind.Ident n) rest h u = (name_text n rest h.0 h.1).1
 token_opens (kind.Number v w Plain) rest h u = plain_opens v rest (omega (arith, h.1))
 token_opens (kind.Number v w Unsized) rest h u = absurd (search (rules, u))
 token_opens (kind.Number v w Sized) rest h u = sized_opens v w rest (omega (arith, h.1))
-token_opens (kind.Mask v b w) rest h u = absurd h
+token_opens (kind.Mask v o w) rest h u = mask_opens v o w rest (omega (arith, h.1))
 token_opens (kind.Mark s) rest h u = (mark_text s rest).1
 token_opens kind.End rest h u = absurd h
 
@@ -73,7 +74,7 @@ token_piece (kind.Ident n) ps h b a = (name_text n (bytes_of ps) h.0 h.1).0
 token_piece (kind.Number v w Plain) ps h b a = subst (λ z. Is (kind.Number v z Plain) (decimal v) (bytes_of ps)) (sym h.0) (plain_text v (bytes_of ps) h.1 (no_quote ps a (b refl)))
 token_piece (kind.Number v w Unsized) ps h b a = subst (λ z. Is (kind.Number v z Unsized) (spelled_number v z Unsized) (bytes_of ps)) (sym h.0) (unsized_text v (bytes_of ps) h.1)
 token_piece (kind.Number v w Sized) ps h b a = sized_text v w (bytes_of ps) h.0 h.1 h.2
-token_piece (kind.Mask v x w) ps h b a = absurd h
+token_piece (kind.Mask v o w) ps h b a = mask_text v o w (bytes_of ps) h.0 h.1 h.2 h.3 h.4
 token_piece (kind.Mark s) ps h b a = (mark_text s (bytes_of ps)).0
 token_piece kind.End ps h b a = absurd h
 

@@ -9,6 +9,8 @@ pub mod ItemTexts
 pub mod Numerals
 pub mod Spelled
 pub mod NumberTexts
+pub mod MaskTexts
+pub mod Apart
 pub mod Lexes
 pub mod Kept
 pub mod KeptItems

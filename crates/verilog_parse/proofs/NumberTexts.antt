@@ -22,13 +22,13 @@ use Rattle.verilog_parse.specs.Printed.{spelled_number}
 use Rattle.verilog_parse.proofs.Numerals.{glyph, glyph_is_no_line, glyph_is_decimal, glyph_is_figure, Digits, decimal_digits, hex_digits}
 use Rattle.verilog_parse.proofs.Spelled.{Is, NoQuote, no_quote_behind, opens, with_blank, take_front, drop_front, if_true, if_false}
 
-below : (a b : ℕ) → a < b → nat_lt a b ≡ true
+pub below : (a b : ℕ) → a < b → nat_lt a b ≡ true
 below a b h = grind (arith, h)
 
 not_above : (a b : ℕ) → a ≤ b → nat_le a b ≡ true
 not_above a b h = grind (arith, h)
 
-small_value : (n : ℕ) → n < 2 ^ 64 → small (Some n) ≡ Some n
+pub small_value : (n : ℕ) → n < 2 ^ 64 → small (Some n) ≡ Some n
 small_value n h = ap (λ t. if t then Some n else None) (below n (2 ^ 128) (omega (arith, h)))
 
 pub below_word : (v w : ℕ) → v < 2 ^ w → w ≤ 64 → v < 2 ^ 64
@@ -39,7 +39,7 @@ unfolding plain_piece
 plain_value v ds h e = ap (λ o. number_or (plain_of (small o)) (length ds)) e ∙ ap (λ o. number_or (plain_of o) (length ds)) (small_value v (omega (arith, h)))
     ∙ ap (λ t. number_or (if t then Some (Number v 32 Plain) else None) (length ds)) (below v (2 ^ 31) h)
 
-glyph_is_digit : (d : ℕ) → d < 10 → is_ascii_digit (glyph d) ≡ true
+pub glyph_is_digit : (d : ℕ) → d < 10 → is_ascii_digit (glyph d) ≡ true
 glyph_is_digit d h = grind (arith, h)
 
 -- a plain number with a blank behind it, behind which no `'` follows
@@ -54,13 +54,13 @@ plain_text v rest h q = let n = decimal_digits v (omega (arith, h)) in by (decim
 digit_no_start : (b : ℕ) → is_ascii_digit b ≡ true → (is_blank b ≡ false) × (is_word_start b ≡ false)
 digit_no_start b h = (grind (arith, h), grind (arith, h))
 
-number_at : (text : List ℕ) → is_ascii_digit (front text) ≡ true → piece_of text ≡ number_piece text
+pub number_at : (text : List ℕ) → is_ascii_digit (front text) ≡ true → piece_of text ≡ number_piece text
 unfolding piece_of
 number_at text h = let n = digit_no_start (front text) h in
     if_false (is_blank (front text)) _ _ n.0 ∙ if_false (is_word_start (front text)) _ _ n.1 ∙ if_true (is_ascii_digit (front text)) _ _ h
 
 -- behind the digits of the width the base begins
-width_piece : (size xs : List ℕ) → AllOf class.Decimal size → number_piece (size ++ (39 ∷ xs)) ≡ based_piece size (length size + 0) (39 ∷ xs)
+pub width_piece : (size xs : List ℕ) → AllOf class.Decimal size → number_piece (size ++ (39 ∷ xs)) ≡ based_piece size (length size + 0) (39 ∷ xs)
 unfolding number_piece
 width_piece size xs a =
     ap (λ n. whole n (drop n text)) (run_length class.Decimal size (39 ∷ xs) a refl) ∙ ap (whole (length size)) (drop_front size (39 ∷ xs))
@@ -74,22 +74,22 @@ width_piece size xs a =
         if front rest == 39 then based_piece (take n text) (n + blanks) rest else (if in_class class.Word (front behind) then Broken 103 [] else plain_piece (take n text))
 
 -- the digits behind the base end at the blank
-hex_piece : (size : List ℕ) (before d : ℕ) (ds rest : List ℕ) → is_blank d ≡ false → AllOf class.Figure (d ∷ ds)
-    → based_piece size before (39 ∷ (104 ∷ with_blank (d ∷ ds) rest)) ≡ number_or (based_of size 104 (d ∷ ds)) (before + 2 + 0 + length (d ∷ ds))
+pub figures_piece : (size : List ℕ) (before letter d : ℕ) (ds rest : List ℕ) → is_blank d ≡ false → AllOf class.Figure (d ∷ ds)
+    → based_piece size before (39 ∷ (letter ∷ with_blank (d ∷ ds) rest)) ≡ number_or (based_of size letter (d ∷ ds)) (before + 2 + 0 + length (d ∷ ds))
 unfolding based_piece
-hex_piece size before d ds rest p a =
+figures_piece size before letter d ds rest p a =
     ap (λ t. whole (cond t (1 + run class.Blank (with_blank ds rest)) 0)) p
-    ∙ ap (λ n. number_or (based_of size 104 (take n (with_blank (d ∷ ds) rest))) (before + 2 + 0 + n)) (run_length class.Figure (d ∷ ds) (32 ∷ rest) a refl)
-    ∙ ap (λ z. number_or (based_of size 104 z) (before + 2 + 0 + length (d ∷ ds))) (take_front (d ∷ ds) (32 ∷ rest))
+    ∙ ap (λ n. number_or (based_of size letter (take n (with_blank (d ∷ ds) rest))) (before + 2 + 0 + n)) (run_length class.Figure (d ∷ ds) (32 ∷ rest) a refl)
+    ∙ ap (λ z. number_or (based_of size letter z) (before + 2 + 0 + length (d ∷ ds))) (take_front (d ∷ ds) (32 ∷ rest))
   where
     whole : ℕ → Piece
     whole blanks = let figures = drop blanks (with_blank (d ∷ ds) rest) in let count = run class.Figure figures in
-        number_or (based_of size 104 (take count figures)) (before + 2 + blanks + count)
+        number_or (based_of size letter (take count figures)) (before + 2 + blanks + count)
 
-no_zero : (b : ℕ) (bs : List ℕ) → (length (b ∷ bs) == 0) ≡ false
+pub no_zero : (b : ℕ) (bs : List ℕ) → (length (b ∷ bs) == 0) ≡ false
 no_zero b bs = grind arith
 
-some_first : (d : ℕ) (ds : List ℕ) → (d == 95) ≡ false → (length (d ∷ ds) == 0 || d == 95) ≡ false
+pub some_first : (d : ℕ) (ds : List ℕ) → (d == 95) ≡ false → (length (d ∷ ds) == 0 || d == 95) ≡ false
 some_first d ds q = ap (λ t. t || d == 95) (no_zero d ds) ∙ q
 
 -- digits behind a base alone
@@ -110,7 +110,7 @@ sized_value b d w v bs ds q o e f =
     inner : Option TokenKind
     inner = if list_any is_open (d ∷ ds) then mask_of (width_of (b ∷ bs)) (Some 16) (d ∷ ds) else sized_of (width_of (b ∷ bs)) (closed_value 16 (d ∷ ds))
 
-digits_width : (w b : ℕ) (bs : List ℕ) → 1 ≤ w → w ≤ 64 → value_in 10 16 0 (b ∷ bs) ≡ Some w → width_of (b ∷ bs) ≡ Some w
+pub digits_width : (w b : ℕ) (bs : List ℕ) → 1 ≤ w → w ≤ 64 → value_in 10 16 0 (b ∷ bs) ≡ Some w → width_of (b ∷ bs) ≡ Some w
 digits_width w b bs l u e = ap (λ o. allowed_width (small o)) e ∙ ap allowed_width (small_value w (omega (arith, u)))
     ∙ ap (λ t. if t then Some w else None) (ap (λ t. t && nat_le w 64) (not_above 1 w l) ∙ not_above w 64 u)
 
@@ -125,7 +125,7 @@ sized_digits size hex rest bs ds b d w v e f i j m n l u h =
     ∙ number_at (size ++ (39 ∷ (104 ∷ with_blank hex rest))) (subst (λ z. is_ascii_digit (front (z ++ (39 ∷ (104 ∷ with_blank hex rest)))) ≡ true) (sym e) (glyph_is_digit b i))
     ∙ width_piece size (104 ∷ with_blank hex rest) (m.each class.Decimal glyph_is_decimal)
     ∙ subst (λ z. based_piece size (length size + 0) (39 ∷ (104 ∷ with_blank z rest)) ≡ number_or (based_of size 104 z) (length size + 0 + 2 + 0 + length z)) (sym f)
-    (hex_piece size (length size + 0) (glyph d) ds rest (glyph_no_blank d j) (subst (AllOf class.Figure) f (n.each class.Figure glyph_is_figure)))
+    (figures_piece size (length size + 0) 104 (glyph d) ds rest (glyph_no_blank d j) (subst (AllOf class.Figure) f (n.each class.Figure glyph_is_figure)))
     ∙ ap (λ k. number_or k (length size + 0 + 2 + 0 + length hex)) value
     ∙ ap (λ z. Token (Number z w Sized) (length size + 0 + 2 + 0 + length hex)) (mod-eq_of_lt h)
     ∙ ap (Token (Number v w Sized)) (let g : length size + 0 + 2 + 0 + length hex ≡ length (size ++ (39 ∷ (104 ∷ hex))) = omega (arith, length-append size (39 ∷ (104 ∷ hex))) in g)
@@ -151,7 +151,7 @@ unsized_digits : (hex rest ds : List ℕ) (d v : ℕ) → hex ≡ glyph d ∷ ds
 unsized_digits hex rest ds d v f j n h =
     base_at (104 ∷ with_blank hex rest)
     ∙ subst (λ z. based_piece [] 0 (39 ∷ (104 ∷ with_blank z rest)) ≡ number_or (based_of [] 104 z) (0 + 2 + 0 + length z)) (sym f)
-    (hex_piece [] 0 (glyph d) ds rest (glyph_no_blank d j) (subst (AllOf class.Figure) f (n.each class.Figure glyph_is_figure)))
+    (figures_piece [] 0 104 (glyph d) ds rest (glyph_no_blank d j) (subst (AllOf class.Figure) f (n.each class.Figure glyph_is_figure)))
     ∙ ap (λ k. number_or k (0 + 2 + 0 + length hex)) value
     ∙ ap (Token (Number v 32 Unsized)) (let g : 0 + 2 + 0 + length hex ≡ length (39 ∷ (104 ∷ hex)) = omega arith in g)
   where
@@ -165,7 +165,7 @@ unsized_text v rest h = let n = hex_digits v (omega (arith, h)) in unsized_digit
 glyph_opens : (d : ℕ) → d < 10 → opens (glyph d) ≡ true
 glyph_opens d h = grind (arith, h)
 
-first_opens : (digits behind bs : List ℕ) (d : ℕ) → digits ≡ glyph d ∷ bs → d < 10 → opens (front (digits ++ behind)) ≡ true
+pub first_opens : (digits behind bs : List ℕ) (d : ℕ) → digits ≡ glyph d ∷ bs → d < 10 → opens (front (digits ++ behind)) ≡ true
 first_opens digits behind bs d e h = subst (λ z. opens (front (z ++ behind)) ≡ true) (sym e) (glyph_opens d h)
 
 pub plain_opens : (v : ℕ) (rest : List ℕ) → v < 2 ^ 64 → opens (front (with_blank (decimal v) rest)) ≡ true

@@ -2,9 +2,12 @@
 use Rattle.std.proofs.Common.{◌≡◌, Bool, List, ◌++◌, map, Option, Some, None, sym, ap, ◌∙◌, rules}
 use Rattle.std.specs.Prelude.{Box}
 use Rattle.std.specs.declared.alloc.Global.{Global}
+use Rattle.cdc_base.specs.declared.words.Keyword.{Keyword}
 use Rattle.cdc_base.specs.declared.words.Keyword.TheVariants as k
 use Rattle.verilog_ast.specs.declared.CaseItem.{CaseItem}
+use Rattle.verilog_ast.specs.declared.Delay.{Delay}
 use Rattle.verilog_ast.specs.declared.Expr.{Expr}
+use Rattle.verilog_ast.specs.declared.Label.{Label}
 use Rattle.verilog_ast.specs.declared.Stmt.{Stmt}
 use Rattle.verilog_ast.specs.declared.Stmt.TheOpen.{Stmt-F}
 use Rattle.verilog_ast.specs.declared.Stmt.TheFolds.{fold-roll-Stmt, the_lemmas}
@@ -12,12 +15,12 @@ use Rattle.verilog_ast.specs.declared.Stmt.TheVariants.{If, Case, Block, rolls-I
 use Rattle.verilog_lex.specs.declared.marks.MarkKind.{MarkKind}
 use Rattle.verilog_lex.specs.declared.marks.MarkKind.TheVariants.{Colon, Semicolon}
 use Rattle.verilog_reading.specs.ExprTree.{ExprTree, tree_of, TargetTree}
-use Rattle.verilog_reading.specs.StmtReading.{assign_mark}
-use Rattle.verilog_reading.specs.StmtTree.{StmtTree, ArmTree, stmt_tree_of, stmt_tree_step, arm_tree_step}
+use Rattle.verilog_reading.specs.StmtReading.{assign_mark, case_word}
+use Rattle.verilog_reading.specs.StmtTree.{StmtTree, ArmTree, label_tree_of, stmt_tree_of, stmt_tree_step, arm_tree_step}
 use Rattle.verilog_stmts.specs.Forms.{arm_tree_of}
-use Rattle.verilog_parse.specs.Pieces.{expr_pieces, target_pieces, set_pieces, stmt_pieces, opening, default_line, row_line}
+use Rattle.verilog_parse.specs.Pieces.{expr_pieces, target_pieces, delay_pieces, set_pieces, label_pieces, stmt_pieces, opening, default_line, row_line}
 use Rattle.verilog_parse.specs.Printed.{word, mark, new_line, with_commas, in_turn}
-use Rattle.verilog_parse.specs.Texts.{printed_expr, printed_stmt, printed_row, printed_arm, arm_pieces, printed_default}
+use Rattle.verilog_parse.specs.Texts.{printed_stmt, printed_row, printed_label, printed_arm, arm_pieces, printed_default}
 use Rattle.verilog_parse.proofs.TextSteps.{each_row_of, each_arm_of, map_twice}
 
 pub when_printed : (x : Stmt) (c : Expr) (y : Box Stmt Global) (o : Option (Box Stmt Global)) (w : Stmt) → x ≡ If c y o → o ≡ None → w ≡ y.value
@@ -32,17 +35,18 @@ either_printed x c y o z w v p q r s = ap printed_stmt (p ∙ ap (λ i. If c y i
     ∙ ap (λ i. opening k.If (tree_of c) ++ (printed_stmt w ++ (word k.Else ++ printed_stmt i))) (sym s)
 
 -- behind its items a `case` has a `default` or none
-case_items : (c : Expr) (items : List CaseItem) (d : Option (Box Stmt Global))
-    → printed_stmt (Case c items d) ≡ opening k.Case (tree_of c) ++ (new_line ++ (in_turn (map printed_arm items) ++ (printed_default d ++ word k.EndCase)))
-case_items c items None = ap printed_stmt (sym (rolls-Case c items None)) ∙ ap stmt_pieces (fold-roll-Stmt StmtTree ArmTree stmt_tree_step arm_tree_step (Stmt-F.Case c items None))
-    ∙ ap (λ z. opening k.Case (tree_of c) ++ (new_line ++ (in_turn z ++ word k.EndCase))) (each_arm_of (map arm_tree_of items) ∙ map_twice arm_tree_of arm_pieces items)
-case_items c items (Some b) = ap printed_stmt (sym (rolls-Case c items (Some b))) ∙ ap stmt_pieces (fold-roll-Stmt StmtTree ArmTree stmt_tree_step arm_tree_step (Stmt-F.Case c items (Some b)))
-    ∙ ap (λ z. opening k.Case (tree_of c) ++ (new_line ++ (in_turn z ++ (default_line (printed_stmt b.value) ++ word k.EndCase)))) (each_arm_of (map arm_tree_of items) ∙ map_twice arm_tree_of arm_pieces items)
+case_items : (m : Bool) (c : Expr) (items : List CaseItem) (d : Option (Box Stmt Global))
+    → printed_stmt (Case m c items d) ≡ opening (case_word m) (tree_of c) ++ (new_line ++ (in_turn (map printed_arm items) ++ (printed_default d ++ word k.EndCase)))
+case_items m c items None = ap printed_stmt (sym (rolls-Case m c items None)) ∙ ap stmt_pieces (fold-roll-Stmt StmtTree ArmTree stmt_tree_step arm_tree_step (Stmt-F.Case m c items None))
+    ∙ ap (λ z. opening (case_word m) (tree_of c) ++ (new_line ++ (in_turn z ++ word k.EndCase))) (each_arm_of (map arm_tree_of items) ∙ map_twice arm_tree_of arm_pieces items)
+case_items m c items (Some b) = ap printed_stmt (sym (rolls-Case m c items (Some b))) ∙ ap stmt_pieces (fold-roll-Stmt StmtTree ArmTree stmt_tree_step arm_tree_step (Stmt-F.Case m c items (Some b)))
+    ∙ ap (λ z. opening (case_word m) (tree_of c) ++ (new_line ++ (in_turn z ++ (default_line (printed_stmt b.value) ++ word k.EndCase)))) (each_arm_of (map arm_tree_of items) ∙ map_twice arm_tree_of arm_pieces items)
 
-pub case_printed : (x : Stmt) (c : Expr) (items : List CaseItem) (d : Option (Box Stmt Global)) (xs : List CaseItem) → x ≡ Case c items d → xs ≡ items
-    → printed_stmt x ≡ opening k.Case (tree_of c) ++ (new_line ++ (in_turn (map printed_arm xs) ++ (printed_default d ++ word k.EndCase)))
-case_printed x c items d xs p q = ap printed_stmt p ∙ case_items c items d
-    ∙ ap (λ z. opening k.Case (tree_of c) ++ (new_line ++ (in_turn (map printed_arm z) ++ (printed_default d ++ word k.EndCase)))) (sym q)
+pub case_printed : (x : Stmt) (m : Bool) (c : Expr) (items : List CaseItem) (d : Option (Box Stmt Global)) (xs : List CaseItem) (w : Keyword) → x ≡ Case m c items d → xs ≡ items → w ≡ case_word m
+    → printed_stmt x ≡ opening w (tree_of c) ++ (new_line ++ (in_turn (map printed_arm xs) ++ (printed_default d ++ word k.EndCase)))
+case_printed x m c items d xs w p q r = ap printed_stmt p ∙ case_items m c items d
+    ∙ ap (λ z. opening (case_word m) (tree_of c) ++ (new_line ++ (in_turn (map printed_arm z) ++ (printed_default d ++ word k.EndCase)))) (sym q)
+    ∙ ap (λ z. opening z (tree_of c) ++ (new_line ++ (in_turn (map printed_arm xs) ++ (printed_default d ++ word k.EndCase)))) (sym r)
 
 pub block_printed : (x : Stmt) (ss us : List Stmt) → x ≡ Block ss → us ≡ ss → printed_stmt x ≡ word k.Begin ++ (new_line ++ (in_turn (map printed_row us) ++ word k.End))
 block_printed x ss us p q = ap printed_stmt p ∙ ap printed_stmt (sym (rolls-Block ss)) ∙ ap stmt_pieces (fold-roll-Stmt StmtTree ArmTree stmt_tree_step arm_tree_step (Stmt-F.Block ss))
@@ -52,12 +56,13 @@ block_printed x ss us p q = ap printed_stmt p ∙ ap printed_stmt (sym (rolls-Bl
 pub default_printed : (d : Option (Box Stmt Global)) (b : Box Stmt Global) (w : Stmt) → d ≡ Some b → w ≡ b.value → printed_default d ≡ default_line (printed_stmt w)
 default_printed d b w p q = ap printed_default p ∙ ap (λ z. default_line (printed_stmt z)) (sym q)
 
-pub set_printed : (blocking : Bool) (t : TargetTree) (e : ExprTree) (s : MarkKind) → s ≡ assign_mark blocking → set_pieces blocking t e ≡ target_pieces t ++ (mark s ++ (expr_pieces e ++ mark Semicolon))
-set_printed blocking t e s p = ap (λ z. target_pieces t ++ (mark z ++ (expr_pieces e ++ mark Semicolon))) (sym p)
+pub set_printed : (blocking : Bool) (d : Option Delay) (t : TargetTree) (e : ExprTree) (s : MarkKind) → s ≡ assign_mark blocking
+    → set_pieces blocking d t e ≡ target_pieces t ++ (mark s ++ (delay_pieces d ++ (expr_pieces e ++ mark Semicolon)))
+set_printed blocking d t e s p = ap (λ z. target_pieces t ++ (mark z ++ (delay_pieces d ++ (expr_pieces e ++ mark Semicolon)))) (sym p)
 
-arm_is : (i : CaseItem) → arm_tree_of i ≡ record { labels = map tree_of i.labels; body = stmt_tree_of i.body }
+arm_is : (i : CaseItem) → arm_tree_of i ≡ record { labels = map label_tree_of i.labels; body = stmt_tree_of i.body }
 arm_is i = search (rules, the_lemmas)
 
-pub arm_printed : (i : CaseItem) (ls : List Expr) → ls ≡ i.labels → printed_arm i ≡ with_commas (map printed_expr ls) ++ (mark Colon ++ (printed_stmt i.body ++ new_line))
-arm_printed i ls p = ap arm_pieces (arm_is i) ∙ ap (λ z. with_commas z ++ (mark Colon ++ (printed_stmt i.body ++ new_line))) (map_twice tree_of expr_pieces i.labels)
-    ∙ ap (λ z. with_commas (map printed_expr z) ++ (mark Colon ++ (printed_stmt i.body ++ new_line))) (sym p)
+pub arm_printed : (i : CaseItem) (ls : List Label) → ls ≡ i.labels → printed_arm i ≡ with_commas (map printed_label ls) ++ (mark Colon ++ (printed_stmt i.body ++ new_line))
+arm_printed i ls p = ap arm_pieces (arm_is i) ∙ ap (λ z. with_commas z ++ (mark Colon ++ (printed_stmt i.body ++ new_line))) (map_twice label_tree_of label_pieces i.labels)
+    ∙ ap (λ z. with_commas (map printed_label z) ++ (mark Colon ++ (printed_stmt i.body ++ new_line))) (sym p)

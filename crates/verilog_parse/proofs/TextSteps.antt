@@ -1,15 +1,18 @@
 -- What is printed, step by step.
-use Rattle.std.proofs.Common.{arith, codes, ℕ, zero, suc, ◌≡◌, ◌+◌, refl, sym, ap, subst, drop, length, ◌<◌, ◌≤◌, get_or, false, ◌∙◌, List, [], ◌∷◌, ◌++◌, map, append_assoc, append-nil, Result, Ok, Err, IfOk}
+use Rattle.std.proofs.Common.{arith, codes, ℕ, zero, suc, ◌/◌, ◌^◌, ◌≡◌, ◌+◌, refl, sym, ap, subst, drop, length, ◌<◌, ◌≤◌, get_or, false, ◌∙◌, List, [], ◌∷◌, ◌++◌, map, append_assoc, append-nil, Result, Ok, Err, IfOk}
 use Rattle.std.proofs.lemmas.List.{drop_more}
 use Rattle.std.proofs.Math.ListN.{drop_of_length-le}
 use Rattle.verilog_reading.specs.ExprTree.{ExprTree, trees_of, TargetTree, target_trees_of}
 use Rattle.verilog_reading.specs.StmtTree.{StmtTree, stmt_trees_of, ArmTree, arms_of}
 use Rattle.verilog_parse.specs.Pieces.{expr_pieces, each_expr, target_pieces, each_target, stmt_pieces, each_row, row_line, each_arm}
 use Rattle.verilog_parse.specs.Texts.{arm_pieces}
-use Rattle.verilog_parse.specs.Printed.{Printed, bytes_of, bytes_of_one, Adds, before_entry, behind, separated, in_turn, numeral, token}
+use Rattle.verilog_parse.specs.Printed.{Printed, bytes_of, bytes_of_one, Adds, before_entry, behind, separated, in_turn, numeral, mask_digit, mask_digits, mask, token}
 use Rattle.cdc_base.specs.declared.size.NumberSize.TheVariants.{Unsized, Sized}
-use Rattle.verilog_lex.specs.declared.token.TokenKind.TheVariants.{Number}
+use Rattle.verilog_lex.specs.declared.token.TokenKind.TheVariants.{Number, Mask}
 use Rattle.std.specs.Fmt.{decimal, radix_digits}
+use Rattle.std.specs.Prelude.{bit_and}
+use Rattle.std.specs.Int.{bit_at}
+use Rattle.std.proofs.lemmas.Nat.Bits.{bit_at_above, shr_and_one}
 
 pub bytes_of_both : (ps qs : List Printed) → bytes_of (ps ++ qs) ≡ bytes_of ps ++ bytes_of qs
 bytes_of_both [] qs = refl
@@ -45,6 +48,35 @@ ok_sized r a c text value width e h = ok_number r a c text (token (Number value 
 pub ok_unsized : {A E : Type 0} (r : Result A E) (a c text : List ℕ) (value : ℕ) → text ≡ codes "'h" ++ (radix_digits 16 false value ++ codes " ")
     → IfOk r (λ _. c ≡ a ++ text) → IfOk r (λ _. Adds a (numeral value 32 Unsized) c)
 ok_unsized r a c text value e h = ok_number r a c text (token (Number value 32 Unsized)) (append_assoc (codes "'h") (radix_digits 16 false value) (codes " ") ∙ sym e) h
+
+-- a mask: its width and base, its digits, and a blank
+mask_text : (width digits blank : List ℕ) → (width ++ (codes "'b?" ++ digits)) ++ blank ≡ ((width ++ codes "'b?") ++ digits) ++ blank
+mask_text width digits blank = ap (λ z. z ++ blank) (sym (append_assoc width (codes "'b?") digits))
+
+pub ok_mask : {A E : Type 0} (r : Result A E) (a b c d : List ℕ) (value opened width : ℕ) → b ≡ a ++ (decimal width ++ codes "'b?") → c ≡ b ++ mask_digits width value opened
+    → IfOk r (λ _. d ≡ c ++ codes " ") → IfOk r (λ _. Adds a (mask value opened width) d)
+ok_mask (Ok x) a b c d value opened width p q h = let digits = mask_digits width value opened in let base = decimal width ++ codes "'b?" in
+    record {
+      added = h ∙ ap (λ z. z ++ codes " ") (q ∙ ap (λ z. z ++ digits) p ∙ append_assoc a base digits) ∙ append_assoc a (base ++ digits) (codes " ")
+          ∙ ap (λ z. a ++ z) (sym (mask_text (decimal width) digits (codes " ")) ∙ sym (append-nil (bytes_of_one (token (Mask value opened width)))));
+    }
+ok_mask (Err e) a b c d value opened width p q h = tt
+
+pub ruleset mask_steps = (ok_mask, ok_number)
+
+pub no_bit : (word at : ℕ) → word < 2 ^ 64 → 64 ≤ at → 0 ≡ bit_at word at
+no_bit word at h l = sym (bit_at_above word 64 at h l)
+
+pub some_bit : (word at : ℕ) → bit_and (word / 2 ^ at) 1 ≡ bit_at word at
+some_bit word at = shr_and_one word at
+
+pub ruleset bit_steps = (no_bit, some_bit)
+
+-- the digits up to those that are left
+pub digits_next : (a now new : List ℕ) (v o k left : ℕ) (whole : List ℕ) → a ++ whole ≡ now ++ mask_digits k v o → k ≡ suc left → new ≡ now ++ (mask_digit (bit_at v left) (bit_at o left) ∷ [])
+    → a ++ whole ≡ new ++ mask_digits left v o
+digits_next a now new v o k left whole g e q = let d = mask_digit (bit_at v left) (bit_at o left) in
+    g ∙ ap (λ n. now ++ mask_digits n v o) e ∙ sym (append_assoc now (d ∷ []) (mask_digits left v o)) ∙ ap (λ z. z ++ mask_digits left v o) (sym q)
 
 -- what is left of entries of which so many are printed
 abbrev pub left_of : ℕ → List Printed → List (List Printed) → List Printed

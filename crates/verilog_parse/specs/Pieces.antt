@@ -8,6 +8,11 @@ use Rattle.verilog_ast.specs.declared.UnaryOp.{UnaryOp}
 use Rattle.verilog_ast.specs.declared.UnaryOp.TheVariants as u
 use Rattle.verilog_ast.specs.declared.BinaryOp.{BinaryOp}
 use Rattle.verilog_ast.specs.declared.BinaryOp.TheVariants as b
+use Rattle.verilog_ast.specs.declared.PartKind.{PartKind}
+use Rattle.verilog_ast.specs.declared.PartKind.TheVariants.{Range}
+use Rattle.verilog_ast.specs.declared.Delay.{Delay}
+use Rattle.verilog_ast.specs.declared.Delay.TheVariants as delay
+use Rattle.cdc_base.specs.declared.size.NumberSize.TheVariants.{Sized}
 use Rattle.verilog_ast.specs.declared.DeclKind.{DeclKind}
 use Rattle.verilog_ast.specs.declared.DeclKind.TheVariants.{Input, Output, OutputReg, Wire, Reg}
 use Rattle.verilog_ast.specs.declared.GateKind.{GateKind}
@@ -18,14 +23,16 @@ use Rattle.verilog_ast.specs.declared.Edge.{Edge}
 use Rattle.verilog_ast.specs.declared.EdgeKind.{EdgeKind}
 use Rattle.verilog_ast.specs.declared.EdgeKind.TheVariants.{Pos, Neg, Level}
 use Rattle.verilog_reading.specs.ExprTree.{ExprTree, number, name, index, part, unary, binary, choice, join, repeat, paren, ExprTrees, no_trees, and_trees, TargetTree, whole, index_of, part_of, join_of, TargetTrees, no_parts, and_parts}
-use Rattle.verilog_reading.specs.StmtTree.{StmtTree, null, set, when, either, switch, switch_else, block, StmtTrees, no_rows, and_rows, ArmTrees, no_arms, and_arms}
-use Rattle.verilog_reading.specs.StmtReading.{assign_mark}
+use Rattle.verilog_reading.specs.StmtTree.{StmtTree, null, set, when, either, switch, switch_else, block, StmtTrees, no_rows, and_rows, Subject, LabelTree, by_value, by_mask, ArmTrees, no_arms, and_arms}
+use Rattle.verilog_reading.specs.StmtReading.{assign_mark, case_word}
+use Rattle.verilog_reading.specs.Parts.{part_mark}
 use Rattle.verilog_reading.specs.ItemReading.{param_word}
 use Rattle.verilog_reading.specs.SourceTree.{Bounds, ParamTree, DeclTree, PortTree, ConnTree, ConnsTree, ordered, named, BodyTree, param, decl, assign, gate, instance, always, initial, ItemTree, ModuleTree}
-use Rattle.verilog_parse.specs.Printed.{Printed, word, mark, ident, numeral, new_line, separated, with_commas, in_turn}
+use Rattle.verilog_parse.specs.Printed.{Printed, word, mark, ident, numeral, mask, new_line, separated, with_commas, in_turn}
 
 -- the mark of an operator
 abbrev pub unary_mark : UnaryOp → MarkKind
+unary_mark u.Minus = m.Minus
 unary_mark u.Not = m.Tilde
 unary_mark u.LogicNot = m.Bang
 unary_mark u.And = m.Ampersand
@@ -66,9 +73,9 @@ in_braces inner = mark m.BraceOpen ++ (inner ++ mark m.BraceClose)
 abbrev pub in_parens : List Printed → List Printed
 in_parens inner = mark m.ParenOpen ++ (inner ++ mark m.ParenClose)
 
--- a range without its brackets
-abbrev pub from_to : List Printed → List Printed → List Printed
-from_to left right = left ++ (mark m.Colon ++ right)
+-- a part without its brackets
+abbrev pub from_to : PartKind → List Printed → List Printed → List Printed
+from_to kind left right = left ++ (mark (part_mark kind) ++ right)
 
 -- an expression
 abbrev mutual
@@ -76,7 +83,7 @@ abbrev mutual
   expr_pieces (number value width size) = numeral value width size
   expr_pieces (name n) = ident n
   expr_pieces (index n i) = ident n ++ in_brackets (expr_pieces i)
-  expr_pieces (part n left right) = ident n ++ in_brackets (from_to (expr_pieces left) (expr_pieces right))
+  expr_pieces (part n kind left right) = ident n ++ in_brackets (from_to kind (expr_pieces left) (expr_pieces right))
   expr_pieces (unary op a) = mark (unary_mark op) ++ expr_pieces a
   expr_pieces (binary op a c) = expr_pieces a ++ (mark (binary_mark op) ++ expr_pieces c)
   expr_pieces (choice c a z) = expr_pieces c ++ (mark m.Question ++ (expr_pieces a ++ (mark m.Colon ++ expr_pieces z)))
@@ -97,7 +104,7 @@ abbrev mutual
   pub target_pieces : TargetTree → List Printed
   target_pieces (whole n) = ident n
   target_pieces (index_of n i) = ident n ++ in_brackets (expr_pieces i)
-  target_pieces (part_of n left right) = ident n ++ in_brackets (from_to (expr_pieces left) (expr_pieces right))
+  target_pieces (part_of n kind left right) = ident n ++ in_brackets (from_to kind (expr_pieces left) (expr_pieces right))
   target_pieces (join_of parts) = in_braces (with_commas (each_target parts))
 
   pub each_target : TargetTrees → List (List Printed)
@@ -108,15 +115,36 @@ abbrev mutual
 abbrev pub opening : Keyword → ExprTree → List Printed
 opening w c = word w ++ in_parens (expr_pieces c)
 
-abbrev pub set_pieces : Bool → TargetTree → ExprTree → List Printed
-set_pieces blocking t e = target_pieces t ++ (mark (assign_mark blocking) ++ (expr_pieces e ++ mark m.Semicolon))
+-- a delay, whose number has as many bits as a delay may have
+abbrev pub delay_value : Delay → List Printed
+delay_value (delay.Number v) = numeral v 64 Sized
+delay_value (delay.Name n) = ident n
+
+abbrev pub delay_pieces : Option Delay → List Printed
+delay_pieces None = []
+delay_pieces (Some d) = mark m.Hash ++ delay_value d
+
+abbrev pub set_pieces : Bool → Option Delay → TargetTree → ExprTree → List Printed
+set_pieces blocking d t e = target_pieces t ++ (mark (assign_mark blocking) ++ (delay_pieces d ++ (expr_pieces e ++ mark m.Semicolon)))
+
+-- a label, and labels with commas between them
+abbrev pub label_pieces : LabelTree → List Printed
+label_pieces (by_value e) = expr_pieces e
+label_pieces (by_mask value opened width) = mask value opened width
+
+abbrev pub labels_pieces : List LabelTree → List Printed
+labels_pieces ls = with_commas (map label_pieces ls)
+
+-- the word of a `case`, and what it compares in parentheses
+abbrev pub case_opening : Subject → List Printed
+case_opening c = opening (case_word c.masks) c.value
 
 -- a line of a block, and a line of a `case`
 abbrev pub row_line : List Printed → List Printed
 row_line s = s ++ new_line
 
-abbrev pub arm_line : List ExprTree → List Printed → List Printed
-arm_line labels s = exprs_pieces labels ++ (mark m.Colon ++ (s ++ new_line))
+abbrev pub arm_line : List LabelTree → List Printed → List Printed
+arm_line labels s = labels_pieces labels ++ (mark m.Colon ++ (s ++ new_line))
 
 abbrev pub default_line : List Printed → List Printed
 default_line s = word k.Default ++ (mark m.Colon ++ (s ++ new_line))
@@ -125,11 +153,11 @@ default_line s = word k.Default ++ (mark m.Colon ++ (s ++ new_line))
 abbrev mutual
   pub stmt_pieces : StmtTree → List Printed
   stmt_pieces null = mark m.Semicolon
-  stmt_pieces (set blocking t e) = set_pieces blocking t e
+  stmt_pieces (set blocking d t e) = set_pieces blocking d t e
   stmt_pieces (when c s) = opening k.If c ++ stmt_pieces s
   stmt_pieces (either c s z) = opening k.If c ++ (stmt_pieces s ++ (word k.Else ++ stmt_pieces z))
-  stmt_pieces (switch c arms) = opening k.Case c ++ (new_line ++ (in_turn (each_arm arms) ++ word k.EndCase))
-  stmt_pieces (switch_else c arms d) = opening k.Case c ++ (new_line ++ (in_turn (each_arm arms) ++ (default_line (stmt_pieces d) ++ word k.EndCase)))
+  stmt_pieces (switch c arms) = case_opening c ++ (new_line ++ (in_turn (each_arm arms) ++ word k.EndCase))
+  stmt_pieces (switch_else c arms d) = case_opening c ++ (new_line ++ (in_turn (each_arm arms) ++ (default_line (stmt_pieces d) ++ word k.EndCase)))
   stmt_pieces (block rows) = word k.Begin ++ (new_line ++ (in_turn (each_row rows) ++ word k.End))
 
   pub each_row : StmtTrees → List (List Printed)
@@ -146,7 +174,7 @@ if_any f None = []
 if_any f (Some a) = f a
 
 abbrev pub bounds_pieces : Bounds → List Printed
-bounds_pieces r = in_brackets (from_to (expr_pieces r.left) (expr_pieces r.right))
+bounds_pieces r = in_brackets (from_to Range (expr_pieces r.left) (expr_pieces r.right))
 
 abbrev pub init_pieces : Option ExprTree → List Printed
 init_pieces = if_any (λ e. mark m.Equals ++ expr_pieces e)

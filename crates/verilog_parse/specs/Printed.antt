@@ -1,6 +1,7 @@
 -- A printed text: tokens with a blank behind each, and the ends of lines.
-use Rattle.std.specs.Prelude.{ℕ, false, ◌≡◌, zero, suc, List, [], ◌∷◌, ◌++◌, codes, if◌then◌else◌}
+use Rattle.std.specs.Prelude.{ℕ, false, ◌≡◌, zero, suc, ◌+◌, ◌==◌, List, [], ◌∷◌, ◌++◌, codes, if◌then◌else◌}
 use Rattle.std.specs.Fmt.{decimal, radix_digits}
+use Rattle.std.specs.Int.{bit_at}
 use Rattle.cdc_base.specs.Words.{is_simple}
 use Rattle.cdc_base.specs.declared.size.NumberSize.{NumberSize}
 use Rattle.cdc_base.specs.declared.size.NumberSize.TheVariants.{Plain, Unsized, Sized}
@@ -23,6 +24,7 @@ spelled_word k.Assign = codes "assign"
 spelled_word k.Begin = codes "begin"
 spelled_word k.Buf = codes "buf"
 spelled_word k.Case = codes "case"
+spelled_word k.CaseZ = codes "casez"
 spelled_word k.Default = codes "default"
 spelled_word k.Else = codes "else"
 spelled_word k.End = codes "end"
@@ -101,12 +103,25 @@ spelled_number value width Plain = decimal value
 spelled_number value width Unsized = codes "'h" ++ radix_digits 16 false value
 spelled_number value width Sized = decimal width ++ (codes "'h" ++ radix_digits 16 false value)
 
--- a token; a mask is none that is printed
+-- the digit of a bit of a mask
+abbrev pub mask_digit : ℕ → ℕ → ℕ
+mask_digit value opened = if opened == 1 then 63 else 48 + value
+
+-- the lowest bits of a mask, as many as said
+abbrev pub mask_digits : ℕ → ℕ → ℕ → List ℕ
+mask_digits zero value opened = []
+mask_digits (suc n) value opened = mask_digit (bit_at value n) (bit_at opened n) ∷ mask_digits n value opened
+
+-- a mask in binary digits; an open digit before them is one of a mask in any case, and is cut off
+abbrev pub spelled_mask : ℕ → ℕ → ℕ → List ℕ
+spelled_mask value opened width = decimal width ++ (codes "'b?" ++ mask_digits width value opened)
+
+-- a token
 abbrev pub spelled : TokenKind → List ℕ
 spelled (Word w) = spelled_word w
 spelled (Ident n) = spelled_name n
 spelled (Number value width size) = spelled_number value width size
-spelled (Mask value bits width) = []
+spelled (Mask value opened width) = spelled_mask value opened width
 spelled (Mark s) = spelled_mark s
 spelled End = []
 
@@ -135,6 +150,9 @@ ident n = token (Ident n) ∷ []
 
 abbrev pub numeral : ℕ → ℕ → NumberSize → List Printed
 numeral value width size = token (Number value width size) ∷ []
+
+abbrev pub mask : ℕ → ℕ → ℕ → List Printed
+mask value opened width = token (Mask value opened width) ∷ []
 
 abbrev pub new_line : List Printed
 new_line = line_end ∷ []

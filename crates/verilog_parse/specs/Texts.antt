@@ -5,6 +5,7 @@ use Rattle.verilog_ast.specs.declared.Expr.{Expr}
 use Rattle.verilog_ast.specs.declared.Target.{Target}
 use Rattle.verilog_ast.specs.declared.Stmt.{Stmt}
 use Rattle.verilog_ast.specs.declared.CaseItem.{CaseItem}
+use Rattle.verilog_ast.specs.declared.Label.{Label}
 use Rattle.verilog_ast.specs.declared.Range.{Range}
 use Rattle.verilog_ast.specs.declared.ParamDecl.{ParamDecl}
 use Rattle.verilog_ast.specs.declared.Decl.{Decl}
@@ -15,11 +16,11 @@ use Rattle.verilog_ast.specs.declared.Item.{Item}
 use Rattle.verilog_ast.specs.declared.Module.{Module}
 use Rattle.verilog_ast.specs.declared.Source.{Source}
 use Rattle.verilog_reading.specs.ExprTree.{tree_of, target_tree_of}
-use Rattle.verilog_reading.specs.StmtTree.{ArmTree, stmt_tree_of}
+use Rattle.verilog_reading.specs.StmtTree.{ArmTree, label_tree_of, stmt_tree_of}
 use Rattle.verilog_reading.specs.SourceTree.{maybe, bounds_of, param_of, decl_of, port_of, conn_of, ConnsTree, ordered, named, conns_of, item_of, module_of, source_of}
 use Rattle.verilog_stmts.specs.Forms.{arm_tree_of}
 use Rattle.verilog_parse.specs.Printed.{Printed, bytes_of}
-use Rattle.verilog_parse.specs.Pieces.{expr_pieces, target_pieces, stmt_pieces, row_line, arm_line, default_line, if_any, bounds_pieces, init_pieces, param_pieces, decl_pieces, value_pieces, conn_pieces, conns_pieces, item_pieces, header_pieces, is_short, port_pieces, module_pieces, source_pieces}
+use Rattle.verilog_parse.specs.Pieces.{expr_pieces, target_pieces, stmt_pieces, label_pieces, row_line, arm_line, default_line, if_any, bounds_pieces, init_pieces, param_pieces, decl_pieces, value_pieces, conn_pieces, conns_pieces, item_pieces, header_pieces, is_short, port_pieces, module_pieces, source_pieces}
 
 abbrev pub printed_expr : Expr → List Printed
 printed_expr e = expr_pieces (tree_of e)
@@ -40,6 +41,9 @@ arm_pieces a = arm_line a.labels (stmt_pieces a.body)
 
 abbrev pub printed_arm : CaseItem → List Printed
 printed_arm i = arm_pieces (arm_tree_of i)
+
+abbrev pub printed_label : Label → List Printed
+printed_label a = label_pieces (label_tree_of a)
 
 abbrev pub printed_default : Option (Box Stmt Global) → List Printed
 printed_default None = []

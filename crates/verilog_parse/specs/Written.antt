@@ -1,5 +1,6 @@
 -- Tokens that a text can have, and those of a printed text.
 use Rattle.std.specs.Prelude.{ℕ, ◌≡◌, ◌≢◌, ◌≤◌, ◌<◌, ◌^◌, Bool, true, false, List, [], ◌∷◌, ◌++◌, Ok, ⊤}
+use Rattle.std.specs.Int.{bit_at}
 use Rattle.cdc_base.specs.declared.bytes.Class.TheVariants.{Visible}
 use Rattle.cdc_base.specs.declared.size.NumberSize.TheVariants.{Plain, Unsized, Sized}
 use Rattle.verilog_lex.specs.declared.token.Token.{Token}
@@ -10,15 +11,19 @@ use Rattle.verilog_lex.specs.Tokens.{tokens_of}
 use Rattle.verilog_reading.specs.Lexemes.{Spot, token_at, closing}
 use Rattle.verilog_parse.specs.Printed.{Printed, token, line_end}
 
--- a name of visible signs, and a number that its width holds; a number without a size has a width of 32 bits, and a plain one
--- is below 2 ^ 31
+-- the value is 0 at the open bits
+abbrev pub Apart : ℕ → ℕ → Type 0
+Apart value opened = (n : ℕ) → bit_at opened n ≡ 1 → bit_at value n ≡ 0
+
+-- a name of visible signs, and a number or mask that its width holds; a number without a size has a width of 32 bits, and a
+-- plain one is below 2 ^ 31
 abbrev pub IsWritable : TokenKind → Type 0
 IsWritable (Word w) = ⊤
 IsWritable (Ident n) = (n ≢ []) × AllOf Visible n
 IsWritable (Number value width Plain) = (width ≡ 32) × (value < 2 ^ 31)
 IsWritable (Number value width Unsized) = (width ≡ 32) × (value < 2 ^ 32)
 IsWritable (Number value width Sized) = (1 ≤ width) × (width ≤ 64) × (value < 2 ^ width)
-IsWritable (Mask value bits width) = ⊥
+IsWritable (Mask value opened width) = (1 ≤ width) × (width ≤ 64) × (value < 2 ^ width) × (opened < 2 ^ width) × Apart value opened
 IsWritable (Mark s) = ⊤
 IsWritable End = ⊥
 

@@ -8,10 +8,12 @@ use Rattle.verilog_ast.specs.declared.Target.TheOpen.{Target-F}
 use Rattle.verilog_ast.specs.declared.Target.TheFolds.{ind-Target, fold-roll-Target}
 use Rattle.verilog_ast.specs.declared.Stmt.{Stmt, map-Stmt}
 use Rattle.verilog_ast.specs.declared.CaseItem.{CaseItem, map-CaseItem}
+use Rattle.verilog_ast.specs.declared.Label.{Label}
+use Rattle.verilog_ast.specs.declared.Label.TheVariants as label
 use Rattle.verilog_ast.specs.declared.Stmt.TheOpen.{Stmt-F, CaseItem-F}
 use Rattle.verilog_ast.specs.declared.Stmt.TheFolds.{fold-CaseItem, ind-Stmt, fold-roll-Stmt, fold-roll-CaseItem}
-use Rattle.verilog_ast.specs.Depth.{expr_depth, expr_step, greatest, optional, range_depth, param_depth, decl_depth, port_depth, conn_depth, conns_depth, body_depth, item_depth, module_depth, source_depth, target_depth, target_step, stmt_depth, stmt_step, case_item_depth, case_item_step}
-use Rattle.verilog_reading.specs.StmtTree.{StmtTree, ArmTree, stmt_trees_of, arms_of, stmt_tree_of, stmt_tree_step, arm_tree_step, stmt_height, row_heights, arm_heights, label_heights}
+use Rattle.verilog_ast.specs.Depth.{expr_depth, expr_step, label_depth, greatest, optional, range_depth, param_depth, decl_depth, port_depth, conn_depth, conns_depth, body_depth, item_depth, module_depth, source_depth, target_depth, target_step, stmt_depth, stmt_step, case_item_depth, case_item_step}
+use Rattle.verilog_reading.specs.StmtTree.{StmtTree, ArmTree, stmt_trees_of, arms_of, stmt_tree_of, stmt_tree_step, arm_tree_step, stmt_height, row_heights, arm_heights, label_tree_of, label_height, label_heights}
 use Rattle.verilog_ast.specs.declared.Range.{Range}
 use Rattle.verilog_ast.specs.declared.ParamDecl.{ParamDecl}
 use Rattle.verilog_ast.specs.declared.Decl.{Decl}
@@ -39,7 +41,7 @@ layer_same : (y : Expr-F ((e : Expr) × Same e)) → expr_step (map-Expr Expr �
 layer_same (Expr-F.Number value width spelt) = refl
 layer_same (Expr-F.Ident n) = refl
 layer_same (Expr-F.At n i) = let h = i.value.1 in omega (arith, h)
-layer_same (Expr-F.Part n a b) = let h = a.value.1 in let j = b.value.1 in omega (arith, h, j)
+layer_same (Expr-F.Part n kind a b) = let h = a.value.1 in let j = b.value.1 in omega (arith, h, j)
 layer_same (Expr-F.Unary op a) = let h = a.value.1 in omega (arith, h)
 layer_same (Expr-F.Binary op a b) = let h = a.value.1 in let j = b.value.1 in omega (arith, h, j)
 layer_same (Expr-F.Choose c a b) = let h = c.value.1 in let i = a.value.1 in let j = b.value.1 in omega (arith, h, i, j)
@@ -60,7 +62,7 @@ targets_same (e ∷ es) = let h = e.1 in let i = targets_same es in omega (arith
 target_layer : (y : Target-F ((e : Target) × SameTarget e)) → target_step (map-Target Target ℕ target_depth (map-Target ((e : Target) × SameTarget e) Target (λ e. e.0) y)) ≡ suc (target_height (target_tree_step (map-Target Target TargetTree target_tree_of (map-Target ((e : Target) × SameTarget e) Target (λ e. e.0) y))))
 target_layer (Target-F.Whole n) = refl
 target_layer (Target-F.At n i) = let h = expr_same i in omega (arith, h)
-target_layer (Target-F.Part n a b) = let h = expr_same a in let j = expr_same b in omega (arith, h, j)
+target_layer (Target-F.Part n kind a b) = let h = expr_same a in let j = expr_same b in omega (arith, h, j)
 target_layer (Target-F.Join parts) = let h = targets_same parts in omega (arith, h)
 
 pub target_same : (t : Target) → target_depth t ≡ suc (target_height (target_tree_of t))
@@ -102,17 +104,21 @@ items_same : (es : List I) → max 1 (greatest (map case_item_depth (map (λ e. 
 items_same [] = refl
 items_same (e ∷ es) = let h = e.1 in let i = items_same es in omega (arith, h, i)
 
-labels_same : (es : List Expr) → max 1 (greatest (map expr_depth es)) ≡ suc (label_heights (map tree_of es))
+label_same : (a : Label) → label_depth a ≡ suc (label_height (label_tree_of a))
+label_same (label.Value e) = expr_same e
+label_same (label.Mask value opened width) = refl
+
+labels_same : (es : List Label) → max 1 (greatest (map label_depth es)) ≡ suc (label_heights (map label_tree_of es))
 labels_same [] = refl
-labels_same (e ∷ es) = let h = expr_same e in let i = labels_same es in omega (arith, h, i)
+labels_same (e ∷ es) = let h = label_same e in let i = labels_same es in omega (arith, h, i)
 
 stmt_layer : (y : Stmt-F S I) → depth_layer (stmt_at y) ≡ suc (stmt_height (tree_layer (stmt_at y)))
 stmt_layer Stmt-F.Null = refl
-stmt_layer (Stmt-F.Set b t e) = let h = target_same t in let i = expr_same e in omega (arith, h, i)
+stmt_layer (Stmt-F.Set b d t e) = let h = target_same t in let i = expr_same e in omega (arith, h, i)
 stmt_layer (Stmt-F.If c a None) = let h = expr_same c in let i = a.value.1 in omega (arith, h, i)
 stmt_layer (Stmt-F.If c a (Some z)) = let h = expr_same c in let i = a.value.1 in let j = z.value.1 in omega (arith, h, i, j)
-stmt_layer (Stmt-F.Case c items None) = let h = expr_same c in let i = items_same items in omega (arith, h, i)
-stmt_layer (Stmt-F.Case c items (Some z)) = let h = expr_same c in let i = items_same items in let j = z.value.1 in omega (arith, h, i, j)
+stmt_layer (Stmt-F.Case masks c items None) = let h = expr_same c in let i = items_same items in omega (arith, h, i)
+stmt_layer (Stmt-F.Case masks c items (Some z)) = let h = expr_same c in let i = items_same items in let j = z.value.1 in omega (arith, h, i, j)
 stmt_layer (Stmt-F.Block parts) = let h = stmts_same parts in omega (arith, h)
 
 item_layer : (y : CaseItem-F S I) → case_item_step (map-CaseItem Stmt CaseItem ℕ ℕ stmt_depth case_item_depth (item_at y)) ≡ suc (arm_height (arm_tree_step (map-CaseItem Stmt CaseItem StmtTree ArmTree stmt_tree_of arm_of (item_at y))))

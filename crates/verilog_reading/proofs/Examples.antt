@@ -4,16 +4,18 @@ use Rattle.cdc_base.specs.declared.size.NumberSize.TheVariants.{Plain}
 use Rattle.cdc_base.specs.declared.words.Keyword.TheVariants as k
 use Rattle.verilog_ast.specs.declared.BinaryOp.TheVariants as b
 use Rattle.verilog_ast.specs.declared.UnaryOp.TheVariants as u
+use Rattle.verilog_ast.specs.declared.PartKind.TheVariants.{Up, Down}
+use Rattle.verilog_ast.specs.declared.Delay.TheVariants as delay
 use Rattle.verilog_lex.specs.declared.token.Token.{Token}
 use Rattle.verilog_lex.specs.declared.token.TokenKind.{TokenKind}
 use Rattle.verilog_lex.specs.declared.token.TokenKind.TheVariants.{Word, Ident, Number, Mask, Mark, End}
 use Rattle.verilog_lex.specs.declared.marks.MarkKind.TheVariants as m
 use Rattle.verilog_reading.specs.Lexemes.{token_at}
-use Rattle.verilog_reading.specs.ExprTree.{name, number, unary, binary, choice, join, repeat, and_trees, no_trees, whole}
+use Rattle.verilog_reading.specs.ExprTree.{name, number, part, unary, binary, choice, join, repeat, and_trees, no_trees, whole}
 use Rattle.verilog_reading.specs.Outcome.{done, stop}
 use Rattle.verilog_reading.specs.Reader.{read_expr, readers}
 use Rattle.verilog_reading.specs.TargetReader.{read_target}
-use Rattle.verilog_reading.specs.StmtTree.{null, when, either}
+use Rattle.verilog_reading.specs.StmtTree.{null, set, when, either, by_value, by_mask, subject_of, switch, arms_of}
 use Rattle.verilog_reading.specs.StmtReader.{read_stmt}
 use Rattle.verilog_reading.specs.ItemReader.{read_source, source}
 use Rattle.verilog_reading.specs.StmtReader.{lower}
@@ -65,6 +67,19 @@ mask_is_none : read_expr 5 (t (Mask 0 1 4) ∷ (t End ∷ [])) ≡ stop false (t
 unfolding readers read_target read_stmt read_source
 mask_is_none = refl
 
+-- -a - - b: the mark is an operator before its operand, too
+minus_before : read_expr 5 (t (Mark m.Minus) ∷ (i 97 ∷ (t (Mark m.Minus) ∷ (t (Mark m.Minus) ∷ (i 98 ∷ (t End ∷ []))))))
+    ≡ done (binary b.Sub (unary u.Minus (name (n 97))) (unary u.Minus (name (n 98)))) (t End ∷ [])
+unfolding readers read_target read_stmt read_source
+minus_before = refl
+
+-- a[b +: 2] - c[d -: 3]
+parts_by_width : read_expr 5 (i 97 ∷ (t (Mark m.BracketOpen) ∷ (i 98 ∷ (t (Mark m.PlusColon) ∷ (d 2 ∷ (t (Mark m.BracketClose) ∷ (t (Mark m.Minus) ∷
+    (i 99 ∷ (t (Mark m.BracketOpen) ∷ (i 100 ∷ (t (Mark m.MinusColon) ∷ (d 3 ∷ (t (Mark m.BracketClose) ∷ (t End ∷ []))))))))))))))
+    ≡ done (binary b.Sub (part (n 97) Up (name (n 98)) (number 2 32 Plain)) (part (n 99) Down (name (n 100)) (number 3 32 Plain))) (t End ∷ [])
+unfolding readers read_target read_stmt read_source
+parts_by_width = refl
+
 -- ~&a | b ? {c, d} : {2{e}}
 choice_of_braces : read_expr 9 (t (Mark m.TildeAmpersand) ∷ (i 97 ∷ (t (Mark m.Bar) ∷ (i 98 ∷ (t (Mark m.Question) ∷ (t (Mark m.BraceOpen) ∷ (i 99 ∷ (t (Mark m.Comma) ∷ (i 100 ∷ (t (Mark m.BraceClose) ∷ (t (Mark m.Colon) ∷
     (t (Mark m.BraceOpen) ∷ (t (Number 2 32 Plain) ∷ (t (Mark m.BraceOpen) ∷ (i 101 ∷ (t (Mark m.BraceClose) ∷ (t (Mark m.BraceClose) ∷ (t End ∷ []))))))))))))))))))
@@ -97,6 +112,45 @@ second_default = refl
 no_item : read_stmt 5 (t (Word k.Case) ∷ (t (Mark m.ParenOpen) ∷ (i 97 ∷ (t (Mark m.ParenClose) ∷ (t (Word k.EndCase) ∷ []))))) ≡ stop false (t (Word k.EndCase) ∷ [])
 unfolding readers read_target read_stmt read_source
 no_item = refl
+
+-- casez (a) 4'b1?0, b: ; endcase
+mask_label : read_stmt 5 (t (Word k.CaseZ) ∷ (t (Mark m.ParenOpen) ∷ (i 97 ∷ (t (Mark m.ParenClose) ∷ (t (Mask 4 2 4) ∷ (t (Mark m.Comma) ∷ (i 98 ∷
+    (t (Mark m.Colon) ∷ (t (Mark m.Semicolon) ∷ (t (Word k.EndCase) ∷ []))))))))))
+    ≡ done (switch (subject_of true (name (n 97))) (arms_of (record { labels = by_mask 4 2 4 ∷ by_value (name (n 98)) ∷ []; body = null } ∷ []))) []
+unfolding readers read_target read_stmt read_source
+mask_label = refl
+
+-- case (a) 4'b1?0: a mask is a label of casez alone
+mask_of_case : read_stmt 5 (t (Word k.Case) ∷ (t (Mark m.ParenOpen) ∷ (i 97 ∷ (t (Mark m.ParenClose) ∷ (t (Mask 4 2 4) ∷ (t End ∷ [])))))) ≡ stop false (t (Mask 4 2 4) ∷ (t End ∷ []))
+unfolding readers read_target read_stmt read_source
+mask_of_case = refl
+
+-- casez (a) (4'b1?0): and no expression
+mask_in_parens : read_stmt 5 (t (Word k.CaseZ) ∷ (t (Mark m.ParenOpen) ∷ (i 97 ∷ (t (Mark m.ParenClose) ∷ (t (Mark m.ParenOpen) ∷ (t (Mask 4 2 4) ∷ (t End ∷ [])))))))
+    ≡ stop false (t (Mask 4 2 4) ∷ (t End ∷ []))
+unfolding readers read_target read_stmt read_source
+mask_in_parens = refl
+
+-- a <= #1 b; and a <= #(z) b; keep their delays
+delay_is_kept : read_stmt 5 (i 97 ∷ (t (Mark m.LessEqual) ∷ (t (Mark m.Hash) ∷ (d 1 ∷ (i 98 ∷ (t (Mark m.Semicolon) ∷ []))))))
+    ≡ done (set false (Some (delay.Number 1)) (whole (n 97)) (name (n 98))) []
+unfolding readers read_target read_stmt read_source
+delay_is_kept = refl
+
+named_delay_is_kept : read_stmt 5 (i 97 ∷ (t (Mark m.LessEqual) ∷ (t (Mark m.Hash) ∷ (t (Mark m.ParenOpen) ∷ (i 122 ∷ (t (Mark m.ParenClose) ∷ (i 98 ∷ (t (Mark m.Semicolon) ∷ []))))))))
+    ≡ done (set false (Some (delay.Name (n 122))) (whole (n 97)) (name (n 98))) []
+unfolding readers read_target read_stmt read_source
+named_delay_is_kept = refl
+
+-- a = #1 b: a blocking assignment has none, and a <= #(1, 2) b: one value stands there
+blocking_delay : read_stmt 5 (i 97 ∷ (t (Mark m.Equals) ∷ (t (Mark m.Hash) ∷ (d 1 ∷ (i 98 ∷ (t (Mark m.Semicolon) ∷ [])))))) ≡ stop false (t (Mark m.Hash) ∷ (d 1 ∷ (i 98 ∷ (t (Mark m.Semicolon) ∷ []))))
+unfolding readers read_target read_stmt read_source
+blocking_delay = refl
+
+two_values : read_stmt 5 (i 97 ∷ (t (Mark m.LessEqual) ∷ (t (Mark m.Hash) ∷ (t (Mark m.ParenOpen) ∷ (d 1 ∷ (t (Mark m.Comma) ∷ (d 2 ∷ [])))))))
+    ≡ stop false (t (Mark m.Comma) ∷ (d 2 ∷ []))
+unfolding readers read_target read_stmt read_source
+two_values = refl
 
 -- module m(input ca
 cut_header : source (lower 255) (t (Word k.Module) ∷ (i 109 ∷ (t (Mark m.ParenOpen) ∷ (t (Word k.Input) ∷ (i 99 ∷ (t End ∷ [])))))) ≡ stop false (t End ∷ [])

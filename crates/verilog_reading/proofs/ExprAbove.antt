@@ -4,10 +4,11 @@ use Rattle.verilog_lex.specs.declared.token.Token.{Token}
 use Rattle.verilog_lex.specs.declared.marks.MarkKind.TheVariants.{ParenOpen, ParenClose, BracketOpen, BracketClose, BraceOpen, BraceClose, Comma, Colon, Question}
 use Rattle.verilog_reading.specs.Lexemes.{Spot, mark_in, Named, ident_in, numeral_in}
 use Rattle.verilog_reading.specs.Operators.{Prefix, prefix_in, Joint, joint_in, levels}
+use Rattle.verilog_reading.specs.Parts.{divider_in}
 use Rattle.verilog_reading.specs.ExprTree.{ExprTree, number, name, unary, binary, choice, join, repeat, paren, and_trees, trees_of, height}
 use Rattle.verilog_reading.specs.Outcome.{Outcome, done, then_read, refuse, deep, enter}
 use Rattle.verilog_reading.specs.Lists.{more}
-use Rattle.verilog_reading.specs.Reader.{Readers, readers, readers_at, at_index, between, at_bound, in_bound, at_range, behind_index, select, selected, with_select, in_select, in_name, in_unary, at_paren, in_paren, at_join, in_join, at_repeat, behind_part, in_repeat, behind_first, in_braces, unary_at, beside, onward, binary_at, in_other, at_colon, in_choice, choice_at, expr_at, closed}
+use Rattle.verilog_reading.specs.Reader.{Readers, readers, readers_at, at_index, between, at_bound, in_bound, at_part, behind_index, select, selected, with_select, in_select, in_name, in_unary, at_paren, in_paren, at_join, in_join, at_repeat, behind_part, in_repeat, behind_first, in_braces, unary_at, beside, onward, binary_at, in_other, at_colon, in_choice, choice_at, expr_at, closed}
 use Rattle.verilog_reading.specs.Laws.{Above, Local}
 use Rattle.verilog_reading.proofs.Says.{said}
 use Rattle.verilog_reading.proofs.Local.{local_done, local_then, local_closed}
@@ -32,9 +33,10 @@ local_some r l s e = subst LocalAll (search rules) l
 -- selects
 pub above_select : (r r2 : Readers) → AboveAll r r2 → LocalAll r2 → (ts : List Token) → Above (select r ts) (select r2 ts)
 above_select r r2 h l ts = above_then (r.expr ts) (r2.expr ts) (h.expr ts) (behind_index r) (behind_index r2)
-    (λ a rest _. above_next (mark_in BracketClose) (λ _. done (at_index a)) (λ _. done (at_index a)) (at_range r a) (at_range r2 a) (λ _. above_done (at_index a))
-    (above_expect (mark_in Colon) (in_bound r a) (in_bound r2 a)
-    (λ p xs. above_then (r.expr xs) (r2.expr xs) (h.expr xs) (at_bound a) (at_bound a) (λ b ys _. above_closed BracketClose (between a b) ys) (λ b. local_closed BracketClose (between a b))))
+    (λ a rest _. above_next (mark_in BracketClose) (λ _. done (at_index a)) (λ _. done (at_index a)) (at_part r a) (at_part r2 a) (λ _. above_done (at_index a))
+    (above_expect divider_in (in_bound r a) (in_bound r2 a)
+    (λ d xs. above_then (r.expr xs) (r2.expr xs) (h.expr xs) (at_bound d.kind a) (at_bound d.kind a) (λ b ys _. above_closed BracketClose (between d.kind a b) ys)
+    (λ b. local_closed BracketClose (between d.kind a b))))
     rest)
     (local_index r2 l)
 

@@ -6,14 +6,17 @@ use Rattle.verilog_lex.specs.declared.marks.MarkKind.{MarkKind}
 use Rattle.verilog_lex.specs.declared.marks.MarkKind.TheVariants.{ParenOpen, ParenClose, BracketOpen, BracketClose, BraceOpen, BraceClose, Comma, Colon, Question}
 use Rattle.verilog_reading.specs.Lexemes.{Spot, mark, mark_in, Named, ident, Numeral, numeral}
 use Rattle.verilog_reading.specs.Operators.{Prefix, prefix, prefix_in, unary_of, Joint, joint, joint_in, as_joint, binary_of, level_of, at_level, joins, levels}
+use Rattle.verilog_ast.specs.declared.PartKind.{PartKind}
+use Rattle.verilog_ast.specs.declared.PartKind.TheVariants.{Range, Up, Down}
+use Rattle.verilog_reading.specs.Parts.{part_mark, divider_in}
 use Rattle.verilog_reading.specs.ExprTree.{ExprTree, number, name, index, part, unary, binary, choice, join, repeat, paren, ExprTrees, and_trees, trees_of, height, heights}
 use Rattle.verilog_reading.specs.Outcome.{Outcome, done, then_read, refuse, enter}
 use Rattle.verilog_reading.specs.Lists.{more, AreMore, no_more, one_more}
-use Rattle.verilog_reading.specs.Reading.{IsUnary, IsBinary, IsExpr, AreMoreExprs, IsRange, is_number, is_name, is_index, is_part, is_paren, is_join, is_repeat, is_unary, is_single, is_tighter, is_binary, is_plain, is_choice, no_exprs, more_exprs, is_range}
-use Rattle.verilog_reading.specs.Reader.{Readers, readers, readers_at, Select, at_index, between, at_bound, behind_index, select, selected, with_select, in_select, in_unary, at_paren, in_paren, at_join, in_join, at_repeat, behind_part, in_repeat, behind_first, in_braces, unary_at, beside, onward, at_colon, in_choice, choice_at}
+use Rattle.verilog_reading.specs.Reading.{IsUnary, IsBinary, IsExpr, AreMoreExprs, IsPart, is_number, is_name, is_index, is_part, is_paren, is_join, is_repeat, is_unary, is_single, is_tighter, is_binary, is_plain, is_choice, no_exprs, more_exprs, are_bounds}
+use Rattle.verilog_reading.specs.Reader.{Readers, readers, readers_at, Select, at_index, between, at_bound, in_bound, at_part, behind_index, select, selected, with_select, in_select, in_unary, at_paren, in_paren, at_join, in_join, at_repeat, behind_part, in_repeat, behind_first, in_braces, unary_at, beside, onward, at_colon, in_choice, choice_at}
 use Rattle.verilog_reading.specs.Laws.{Free}
 use Rattle.verilog_reading.specs.Stands.{Stands}
-use Rattle.verilog_reading.proofs.Tests.{prefix_found, joint_found}
+use Rattle.verilog_reading.proofs.Tests.{prefix_found, joint_found, divider_found}
 use Rattle.verilog_reading.proofs.Complete.{deep_free, next_free, enter_free, next_found, c_more}
 
 abbrev pub downs : ℕ → Option Readers
@@ -128,6 +131,16 @@ before_comma p ts = stands_mark Comma p ts refl refl refl
 pub before_colon : (p : Spot) (ts : List Token) → Stands (mark Colon p ∷ ts)
 before_colon p ts = stands_mark Colon p ts refl refl refl
 
+before_divider : (kind : PartKind) (p : Spot) (ts : List Token) → Stands (mark (part_mark kind) p ∷ ts)
+before_divider Range p ts = before_colon p ts
+before_divider Up p ts = stands_mark (part_mark Up) p ts refl refl refl
+before_divider Down p ts = stands_mark (part_mark Down) p ts refl refl refl
+
+no_close : (kind : PartKind) (p : Spot) (ts : List Token) → Free (mark_in BracketClose) (mark (part_mark kind) p ∷ ts)
+no_close Range p ts = refl
+no_close Up p ts = refl
+no_close Down p ts = refl
+
 -- an expression that is read at each depth which suits it
 abbrev pub ReadsExpr : List Token → ExprTree → Type 0
 ReadsExpr u a = (k : ℕ) → height a ≤ k → (rest : List Token) → Stands rest → (readers k).expr (u ++ rest) ≡ done a rest
@@ -138,10 +151,13 @@ GoodExpr u a = IsExpr u a × ReadsExpr u a
 pub index_reads : (j : ℕ) (u : List Token) (i : ExprTree) (q : Spot) (rest : List Token) → height i ≤ j → ReadsExpr u i → select (readers j) (u ++ mark BracketClose q ∷ rest) ≡ done (at_index i) rest
 index_reads j u i q rest h g = ap (λ o. then_read o (behind_index (readers j))) (g j h (mark BracketClose q ∷ rest) (behind_bracket q rest))
 
-pub bounds_read : (j : ℕ) (u v : List Token) (a b : ExprTree) (o q : Spot) (rest : List Token) → height a ≤ j → height b ≤ j → ReadsExpr u a → ReadsExpr v b
-    → select (readers j) (u ++ mark Colon o ∷ (v ++ mark BracketClose q ∷ rest)) ≡ done (between a b) rest
-bounds_read j u v a b o q rest h i g f = ap (λ x. then_read x (behind_index (readers j))) (g j h (mark Colon o ∷ (v ++ mark BracketClose q ∷ rest)) (before_colon o (v ++ mark BracketClose q ∷ rest)))
-    ∙ ap (λ x. then_read x (at_bound a)) (f j i (mark BracketClose q ∷ rest) (behind_bracket q rest))
+pub bounds_read : (j : ℕ) (kind : PartKind) (u v : List Token) (a b : ExprTree) (o q : Spot) (rest : List Token) → height a ≤ j → height b ≤ j → ReadsExpr u a → ReadsExpr v b
+    → select (readers j) (u ++ mark (part_mark kind) o ∷ (v ++ mark BracketClose q ∷ rest)) ≡ done (between kind a b) rest
+bounds_read j kind u v a b o q rest h i g f = let last = v ++ mark BracketClose q ∷ rest in
+    ap (λ x. then_read x (behind_index (readers j))) (g j h (mark (part_mark kind) o ∷ last) (before_divider kind o last))
+    ∙ next_free (mark_in BracketClose) (λ _. done (at_index a)) (at_part (readers j) a) (mark (part_mark kind) o ∷ last) (no_close kind o last)
+    ∙ next_found divider_in (in_bound (readers j) a) refuse (mark (part_mark kind) o) (record { kind = kind; spot = o }) last (divider_found kind o)
+    ∙ ap (λ x. then_read x (at_bound kind a)) (f j i (mark BracketClose q ∷ rest) (behind_bracket q rest))
 
 low_exprs : (j : ℕ) {u : List Token} {bs : List ExprTree} → AreMore (mark Comma) GoodExpr u bs → heights (trees_of bs) ≤ suc j → AreMore (mark Comma) (λ v a. GoodExpr v a × (height a ≤ j)) u bs
 low_exprs j no_more h = no_more
@@ -226,7 +242,7 @@ mutual
   c_unary (is_name n) k h rest f = name_reads k n rest f
   c_unary (is_index n p q {u} {i} x) k h rest f = subst (λ w. (readers k).binary zero (ident n ∷ (mark BracketOpen p ∷ w)) ≡ done (index n.name i) rest) (sym (append_assoc u (mark BracketClose q ∷ []) rest))
       (select_reads k n p (at_index i) (u ++ mark BracketClose q ∷ rest) rest (omega (arith, h)) (λ j e. index_reads j u i q rest (omega (arith, h, e)) (c_expr x)))
-  c_unary (is_part n {u} {a} {b} x) k h rest f = c_range n x k h rest
+  c_unary (is_part n x) k h rest f = c_part n x k h rest
   c_unary (is_paren p q {u} {a} x) k h rest f = subst (λ w. (readers k).binary zero (mark ParenOpen p ∷ w) ≡ done (paren a) rest) (sym (append_assoc u (mark ParenClose q ∷ []) rest))
       (paren_reads k p q u a h rest (c_expr x))
   c_unary (is_join p q {u} {v} {a} {bs} x y) k h rest f = let z = c_exprs y in
@@ -241,13 +257,13 @@ mutual
       (repeat_reads k p o q t u v w c a z.0 (subst (λ (s : ExprTrees). max (suc (height c)) (max (suc (height a)) (heights s)) ≤ k) (sym z.1) (omega (arith, h))) rest (c_expr x) (c_expr y) z.2))
   c_unary (is_unary p {u} {a} e x) k h rest f = unary_reads k p u a e h rest (λ j i. c_unary x j i rest f)
 
-  c_range : (n : Named) {u : List Token} {a b : ExprTree} → IsRange u a b → (k : ℕ) → suc (max (height a) (height b)) ≤ k → (rest : List Token)
-      → (readers k).binary zero (ident n ∷ (u ++ rest)) ≡ done (part n.name a b) rest
-  c_range n (is_range p o q {u} {v} {a} {b} x y) k h rest =
-      subst (λ w. (readers k).binary zero (ident n ∷ (mark BracketOpen p ∷ w)) ≡ done (part n.name a b) rest)
-      (sym (append_assoc u (mark Colon o ∷ (v ++ mark BracketClose q ∷ [])) rest ∙ ap (λ w. u ++ mark Colon o ∷ w) (append_assoc v (mark BracketClose q ∷ []) rest)))
-      (select_reads k n p (between a b) (u ++ mark Colon o ∷ (v ++ mark BracketClose q ∷ rest)) rest (omega (arith, h))
-      (λ j e. bounds_read j u v a b o q rest (omega (arith, h, e)) (omega (arith, h, e)) (c_expr x) (c_expr y)))
+  c_part : (n : Named) {kind : PartKind} {u : List Token} {a b : ExprTree} → IsPart kind u a b → (k : ℕ) → suc (max (height a) (height b)) ≤ k → (rest : List Token)
+      → (readers k).binary zero (ident n ∷ (u ++ rest)) ≡ done (part n.name kind a b) rest
+  c_part n (are_bounds {kind} p o q {u} {v} {a} {b} x y) k h rest = let divided = mark (part_mark kind) o in
+      subst (λ w. (readers k).binary zero (ident n ∷ (mark BracketOpen p ∷ w)) ≡ done (part n.name kind a b) rest)
+      (sym (append_assoc u (divided ∷ (v ++ mark BracketClose q ∷ [])) rest ∙ ap (λ w. u ++ divided ∷ w) (append_assoc v (mark BracketClose q ∷ []) rest)))
+      (select_reads k n p (between kind a b) (u ++ divided ∷ (v ++ mark BracketClose q ∷ rest)) rest (omega (arith, h))
+      (λ j e. bounds_read j kind u v a b o q rest (omega (arith, h, e)) (omega (arith, h, e)) (c_expr x) (c_expr y)))
 
   c_binary : {l : ℕ} {u : List Token} {a : ExprTree} → IsBinary l u a → (k : ℕ) → height a ≤ k → (rest : List Token) → Free (mark_in BracketOpen) rest → TighterFree l rest → BinaryOn l k (u ++ rest) a rest
   c_binary (is_single x) k h rest f t = c_unary x k h rest f

@@ -3,10 +3,11 @@ use Rattle.std.proofs.Common.{◌≡◌, ℕ, zero, suc, false, List, Option, So
 use Rattle.verilog_lex.specs.declared.marks.MarkKind.TheVariants.{ParenOpen, ParenClose, BracketOpen, BracketClose, BraceOpen, BraceClose, Comma, Colon, Question}
 use Rattle.verilog_reading.specs.Lexemes.{Spot, mark_in, Named, ident_in, numeral_in}
 use Rattle.verilog_reading.specs.Operators.{Prefix, prefix_in, joint_in, levels}
+use Rattle.verilog_reading.specs.Parts.{Divider, divider_in}
 use Rattle.verilog_reading.specs.ExprTree.{ExprTree, number, name, unary, binary, choice, join, repeat, paren, and_trees, trees_of}
 use Rattle.verilog_reading.specs.Outcome.{done, then_read, refuse}
 use Rattle.verilog_reading.specs.Lists.{more}
-use Rattle.verilog_reading.specs.Reader.{Readers, readers, readers_at, at_index, between, at_bound, in_bound, at_range, behind_index, select, selected, with_select, in_select, in_name, in_unary, at_paren, in_paren, at_join, in_join, at_repeat, behind_part, in_repeat, behind_first, in_braces, unary_at, beside, onward, binary_at, in_other, at_colon, in_choice, choice_at, expr_at, closed}
+use Rattle.verilog_reading.specs.Reader.{Readers, readers, readers_at, at_index, between, at_bound, in_bound, at_part, behind_index, select, selected, with_select, in_select, in_name, in_unary, at_paren, in_paren, at_join, in_join, at_repeat, behind_part, in_repeat, behind_first, in_braces, unary_at, beside, onward, binary_at, in_other, at_colon, in_choice, choice_at, expr_at, closed}
 use Rattle.verilog_reading.specs.Laws.{Local}
 use Rattle.verilog_reading.proofs.Local.{local_done, local_stop, local_then, local_next, local_expect, local_closed, local_deep, local_enter, local_more}
 use Rattle.verilog_reading.proofs.ExprSays.{beside_is}
@@ -18,14 +19,14 @@ pub record LocalAll (r : Readers) : Type 0 where
 abbrev pub LocalDown : Option Readers → Type 0
 LocalDown down = (r : Readers) → down ≡ Some r → LocalAll r
 
-pub local_bound : (r : Readers) → LocalAll r → (a : ExprTree) (p : Spot) → Local (in_bound r a p)
-local_bound r l a p = local_then r.expr (at_bound a) l.expr (λ b. local_closed BracketClose (between a b))
+pub local_bound : (r : Readers) → LocalAll r → (a : ExprTree) (d : Divider) → Local (in_bound r a d)
+local_bound r l a d = local_then r.expr (at_bound d.kind a) l.expr (λ b. local_closed BracketClose (between d.kind a b))
 
-pub local_range : (r : Readers) → LocalAll r → (a : ExprTree) → Local (at_range r a)
-local_range r l a = local_expect (mark_in Colon) (in_bound r a) (local_bound r l a)
+pub local_part : (r : Readers) → LocalAll r → (a : ExprTree) → Local (at_part r a)
+local_part r l a = local_expect divider_in (in_bound r a) (local_bound r l a)
 
 pub local_index : (r : Readers) → LocalAll r → (a : ExprTree) → Local (behind_index r a)
-local_index r l a = local_next (mark_in BracketClose) (λ _. done (at_index a)) (at_range r a) (λ _. local_done (at_index a)) (local_range r l a)
+local_index r l a = local_next (mark_in BracketClose) (λ _. done (at_index a)) (at_part r a) (λ _. local_done (at_index a)) (local_part r l a)
 
 pub local_select : (r : Readers) → LocalAll r → Local (select r)
 local_select r l = local_then r.expr (behind_index r) l.expr (local_index r l)

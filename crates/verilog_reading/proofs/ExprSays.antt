@@ -5,14 +5,17 @@ use Rattle.verilog_lex.specs.declared.token.Token.{Token}
 use Rattle.verilog_lex.specs.declared.marks.MarkKind.TheVariants.{ParenOpen, ParenClose, BracketOpen, BracketClose, BraceOpen, BraceClose, Comma, Colon, Question}
 use Rattle.verilog_reading.specs.Lexemes.{Spot, mark, mark_in, Named, ident, ident_in, Numeral, numeral, numeral_in}
 use Rattle.verilog_reading.specs.Operators.{prefix, prefix_in, joint, joint_in, levels}
+use Rattle.verilog_ast.specs.declared.PartKind.{PartKind}
+use Rattle.verilog_ast.specs.declared.PartKind.TheVariants.{Range}
+use Rattle.verilog_reading.specs.Parts.{divider, divider_in}
 use Rattle.verilog_reading.specs.ExprTree.{ExprTree, number, name, unary, binary, choice, join, repeat, paren, and_trees, trees_of, height, heights}
 use Rattle.verilog_reading.specs.Outcome.{done, then_read, refuse}
 use Rattle.verilog_reading.specs.Lists.{more, AreMore, no_more, one_more}
-use Rattle.verilog_reading.specs.Reading.{IsUnary, IsBinary, IsExpr, AreMoreExprs, IsRange, is_number, is_name, is_index, is_part, is_paren, is_join, is_repeat, is_unary, is_single, is_tighter, is_binary, is_plain, is_choice, no_exprs, more_exprs, is_range}
-use Rattle.verilog_reading.specs.Reader.{Readers, readers, readers_at, Select, at_index, between, select_height, at_bound, in_bound, at_range, behind_index, select, selected, with_select, in_select, in_name, in_unary, at_paren, in_paren, at_join, in_join, at_repeat, behind_part, in_repeat, behind_first, in_braces, unary_at, beside, onward, binary_at, in_other, at_colon, in_choice, choice_at, expr_at, closed}
+use Rattle.verilog_reading.specs.Reading.{IsUnary, IsBinary, IsExpr, AreMoreExprs, IsPart, is_number, is_name, is_index, is_part, is_paren, is_join, is_repeat, is_unary, is_single, is_tighter, is_binary, is_plain, is_choice, no_exprs, more_exprs, are_bounds}
+use Rattle.verilog_reading.specs.Reader.{Readers, readers, readers_at, Select, at_index, between, select_height, at_bound, in_bound, at_part, behind_index, select, selected, with_select, in_select, in_name, in_unary, at_paren, in_paren, at_join, in_join, at_repeat, behind_part, in_repeat, behind_first, in_braces, unary_at, beside, onward, binary_at, in_other, at_colon, in_choice, choice_at, expr_at, closed}
 use Rattle.verilog_reading.specs.Laws.{Says, Within}
-use Rattle.verilog_reading.proofs.Tests.{nowhere, mark_is, ident_is, numeral_is, prefix_is, prefix_op, joint_is, joint_op}
-use Rattle.verilog_reading.proofs.Says.{says_done, says_stop, says_then, says_next, says_mark, says_expect, says_closed, says_deep, says_enter, says_map}
+use Rattle.verilog_reading.proofs.Tests.{nowhere, mark_is, divider_is, ident_is, numeral_is, prefix_is, prefix_op, joint_is, joint_op}
+use Rattle.verilog_reading.proofs.Says.{says_done, says_stop, says_then, says_next, says_mark, says_must, says_expect, says_closed, says_deep, says_enter, says_map}
 use Rattle.verilog_reading.proofs.Lists.{says_more}
 
 abbrev pub UnaryIn : ℕ → List Token → ExprTree → Type 0
@@ -57,7 +60,7 @@ beside_is k a down r e = search rules
 -- what brackets hold
 pub data IsSelect : List Token → Select → Type 0 where
   is_at : (p q : Spot) {u : List Token} {i : ExprTree} → IsExpr u i → IsSelect (mark BracketOpen p ∷ (u ++ mark BracketClose q ∷ [])) (at_index i)
-  is_between : {u : List Token} {a b : ExprTree} → IsRange u a b → IsSelect u (between a b)
+  is_between : {kind : PartKind} {u : List Token} {a b : ExprTree} → IsPart kind u a b → IsSelect u (between kind a b)
 
 abbrev pub SelectIn : ℕ → List Token → Select → Type 0
 SelectIn = Within IsSelect select_height
@@ -66,12 +69,12 @@ pub says_select : (j : ℕ) (r : Readers) → SaysAll j r → (p : Spot) (ts : L
 says_select j r s p ts =
     let P = λ (v : List Token). SelectIn j (mark BracketOpen p ∷ v) in
     says_then (ExprIn j) P ts (r.expr ts) (s.expr ts) (behind_index r)
-    (λ u a h. says_mark (λ v. P (u ++ v)) BracketClose (λ _. done (at_index a)) (at_range r a)
+    (λ u a h. says_mark (λ v. P (u ++ v)) BracketClose (λ _. done (at_index a)) (at_part r a)
     (λ q. says_done (λ v. P (u ++ mark BracketClose q ∷ v)) (at_index a) (is_at p q h.0, h.1))
-    (says_expect (λ v. P (u ++ v)) Colon (in_bound r a)
-    (λ o xs. says_then (ExprIn j) (λ v. P (u ++ mark Colon o ∷ v)) xs (r.expr xs) (s.expr xs) (at_bound a)
-    (λ w b i. says_closed (λ v. P (u ++ mark Colon o ∷ (w ++ v))) BracketClose (between a b)
-    (λ q. (is_between (is_range p o q h.0 i.0), omega (arith, h.1, i.1)))))))
+    (says_must (λ v. P (u ++ v)) divider_in divider divider_is (record { kind = Range; spot = nowhere }) (in_bound r a)
+    (λ d xs. says_then (ExprIn j) (λ v. P (u ++ divider d ∷ v)) xs (r.expr xs) (s.expr xs) (at_bound d.kind a)
+    (λ w b i. says_closed (λ v. P (u ++ divider d ∷ (w ++ v))) BracketClose (between d.kind a b)
+    (λ q. (is_between (are_bounds p d.spot q h.0 i.0), omega (arith, h.1, i.1)))))))
 
 unary_select : (n : Named) (j k : ℕ) → k ≡ suc j → (u : List Token) (s : Select) → SelectIn j u s → UnaryIn k (ident n ∷ u) (selected n.name s)
 unary_select n j k e u s h = go h.0 h.1

@@ -11,7 +11,7 @@ use Rattle.verilog_ast.specs.declared.GateKind.{GateKind}
 use Rattle.verilog_ast.specs.declared.Event.TheVariants as events
 use Rattle.verilog_ast.specs.declared.EdgeKind.{EdgeKind}
 use Rattle.verilog_ast.specs.declared.EdgeKind.TheVariants.{Pos, Neg, Level}
-use Rattle.verilog_reading.specs.Lexemes.{Spot, mark_in, word_in, ident_in, end_in}
+use Rattle.verilog_reading.specs.Lexemes.{Spot, mark_in, word_in, ident_in, dval_in, end_in}
 use Rattle.verilog_reading.specs.Outcome.{Outcome, done, next, expect}
 use Rattle.verilog_reading.specs.Lists.{more, many}
 use Rattle.verilog_reading.specs.Reader.{closed}
@@ -19,7 +19,7 @@ use Rattle.verilog_reading.specs.StmtReader.{Lower, lower}
 use Rattle.verilog_reading.specs.SourceTree.{ordered, named, joined}
 use Rattle.verilog_reading.specs.ItemReading.{edge_of, params_from, first_form, has_start, has_delay}
 use Rattle.verilog_reading.specs.ItemReader as reader
-use Rattle.verilog_reading.specs.ItemReader.{GateWord, gate_in, separator_in, dval_in}
+use Rattle.verilog_reading.specs.ItemReader.{GateWord, gate_in, separator_in}
 use Rattle.verilog_reading.specs.Laws.{Above, Local}
 use Rattle.verilog_reading.proofs.Local.{local_done, local_closed, Eats}
 use Rattle.verilog_reading.proofs.Above.{above_then, above_next, above_done, above_expect, above_closed, above_peek, above_if, above_more, above_many}

@@ -15,16 +15,16 @@ use Rattle.verilog_ast.specs.declared.Event.TheVariants as events
 use Rattle.verilog_ast.specs.declared.Edge.{Edge}
 use Rattle.verilog_ast.specs.declared.UnaryOp.{UnaryOp}
 use Rattle.cdc_base.specs.contracts.words.KeywordPartialEq.TheImpl as words
-use Rattle.verilog_reading.specs.Lexemes.{Spot, mark, mark_in, word, word_in, Named, ident, ident_in, closing, end_in}
+use Rattle.verilog_reading.specs.Lexemes.{Spot, mark, mark_in, word, word_in, Named, ident, ident_in, by_number, by_name, closing, end_in}
 use Rattle.verilog_reading.specs.ExprTree.{ExprTree, height}
 use Rattle.verilog_reading.specs.Outcome.{Outcome, done, then_read, refuse, peek}
 use Rattle.verilog_reading.specs.Reader.{closed}
 use Rattle.verilog_reading.specs.Operators.{unary_of}
 use Rattle.verilog_reading.specs.Lists.{many, AreMore, no_more, one_more, AreMany, none_of, one_of}
-use Rattle.verilog_reading.specs.Reading.{IsExpr, IsRange, is_range}
+use Rattle.verilog_reading.specs.Reading.{IsExpr, IsRange, are_bounds}
 use Rattle.verilog_reading.specs.StmtReader.{Lower, lower}
 use Rattle.verilog_reading.specs.SourceTree.{Bounds, ParamTree, ConnTree, ConnsTree, ordered, named, ItemTree, ModuleTree, most, param_height, port_height, conn_height, conns_height, item_height, module_height, source_height}
-use Rattle.verilog_reading.specs.ItemReading.{IsList, is_list, IsListed, IsMaybeRange, no_range, a_range, IsInit, no_init, an_init, Setting, IsSetting, is_setting, MayBeWord, no_word, the_word, IsDirection, is_input, is_output, is_output_reg, IsKind, is_direction, is_wire, is_reg, Var, IsVar, is_var, Dval, by_number, by_name, IsDelay, no_delay, bare_delay, one_delay, two_delays, has_delay, IsDelayOf, not_delayed, may_delay, IsVars, are_vars, Driven, IsDriven, is_driven, gate_of, IsGate, plain_gate, named_gate, IsValue, no_value, a_value, IsConn, is_conn, IsConns, is_ordered, is_named, IsOverrides, no_overrides, overrides, Placed, IsPlaced, is_placed, IsEdge, is_positive, is_negative, is_level, Separator, separator, IsEvent, is_star, is_star_in, is_edges, decl_item, param_item, assign_item, gate_item, instance_item, param_word, IsItem, is_decls, is_params, is_assigns, is_gates, is_instances, is_always, is_initial, Pdecl, IsLongPdecl, is_long, IsPdecl, long_pdecl, short_pdecl, params_from, first_form, IsHeader, no_header, a_header, has_start, IsStart, no_start, a_start, Entry, IsAdecl, is_adecl, IsEntry, long_entry, short_entry, first_shape, IsName, a_name, Ports, IsPorts, no_ports, empty_ports, old_ports, ansi_ports, IsModule, is_module, IsSource, is_source}
+use Rattle.verilog_reading.specs.ItemReading.{IsList, is_list, IsListed, IsMaybeRange, no_range, a_range, IsInit, no_init, an_init, Setting, IsSetting, is_setting, MayBeWord, no_word, the_word, IsDirection, is_input, is_output, is_output_reg, IsKind, is_direction, is_wire, is_reg, Var, IsVar, is_var, IsDelay, no_delay, bare_delay, one_delay, two_delays, has_delay, IsDelayOf, not_delayed, may_delay, IsVars, are_vars, Driven, IsDriven, is_driven, gate_of, IsGate, plain_gate, named_gate, IsValue, no_value, a_value, IsConn, is_conn, IsConns, is_ordered, is_named, IsOverrides, no_overrides, overrides, Placed, IsPlaced, is_placed, IsEdge, is_positive, is_negative, is_level, Separator, separator, IsEvent, is_star, is_star_in, is_edges, decl_item, param_item, assign_item, gate_item, instance_item, param_word, IsItem, is_decls, is_params, is_assigns, is_gates, is_instances, is_always, is_initial, Pdecl, IsLongPdecl, is_long, IsPdecl, long_pdecl, short_pdecl, params_from, first_form, IsHeader, no_header, a_header, has_start, IsStart, no_start, a_start, Entry, IsAdecl, is_adecl, IsEntry, long_entry, short_entry, first_shape, IsName, a_name, Ports, IsPorts, no_ports, empty_ports, old_ports, ansi_ports, IsModule, is_module, IsSource, is_source}
 use Rattle.verilog_reading.specs.ItemReader as reader
 use Rattle.verilog_reading.specs.ItemReader.{separator_in}
 use Rattle.verilog_reading.specs.Laws.{Within, Free}
@@ -201,7 +201,7 @@ module _ (n : ℕ) where
   range_reads u b x j rest f = go x j
     where
       in_brackets : {u : List Token} {a b : ExprTree} → IsRange u a b → height a ≤ n → height b ≤ n → reader.maybe_range l (u ++ rest) ≡ done (Some (record { left = a; right = b })) rest
-      in_brackets (is_range p o q {u} {v} {a} {b} x y) i j =
+      in_brackets (are_bounds p o q {u} {v} {a} {b} x y) i j =
           ap (λ w. reader.maybe_range l (mark BracketOpen p ∷ w)) (append_assoc u (mark Colon o ∷ (v ++ mark BracketClose q ∷ [])) rest ∙ ap (λ w. u ++ mark Colon o ∷ w) (append_assoc v (mark BracketClose q ∷ []) rest))
           ∙ ap (λ w. then_read w (reader.at_right l)) (c_expr x n i (mark Colon o ∷ (v ++ mark BracketClose q ∷ rest)) (before_colon o (v ++ mark BracketClose q ∷ rest)))
           ∙ ap (λ w. then_read w (reader.right_end a)) (c_expr y n j (mark BracketClose q ∷ rest) (behind_bracket q rest))
@@ -352,7 +352,7 @@ module _ (n : ℕ) where
   range_start w (a_range x) ts f = go x
     where
       go : {v : List Token} {a b : ExprTree} → IsRange v a b → Free (word_in w) (v ++ ts)
-      go (is_range p o q x y) = refl
+      go (are_bounds p o q x y) = refl
 
   vars_low : {C : Type 0} {kind : DeclKind} {u : List Token} {xs : List Var} → IsVars kind u xs → (g : C → ℕ) (f : Var → C) (c : ℕ) → ((a : Var) → g (f a) ≤ n → c ≤ n) → most g (map f xs) ≤ n → c ≤ n
   vars_low (are_vars d x) g f c e j = first_low (mark Comma) Semicolon IsVar IsVar x g f c n e j

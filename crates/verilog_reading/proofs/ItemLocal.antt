@@ -11,7 +11,7 @@ use Rattle.verilog_ast.specs.declared.GateKind.{GateKind}
 use Rattle.verilog_ast.specs.declared.Event.TheVariants as events
 use Rattle.verilog_ast.specs.declared.EdgeKind.{EdgeKind}
 use Rattle.verilog_ast.specs.declared.EdgeKind.TheVariants.{Pos, Neg, Level}
-use Rattle.verilog_reading.specs.Lexemes.{Spot, mark_in, word_in, Named, ident_in, end_in}
+use Rattle.verilog_reading.specs.Lexemes.{Spot, mark_in, word_in, Named, ident_in, dval_in, end_in}
 use Rattle.verilog_reading.specs.ExprTree.{ExprTree, TargetTree}
 use Rattle.verilog_reading.specs.Outcome.{Outcome, done, next, expect}
 use Rattle.verilog_reading.specs.Lists.{more, many}
@@ -20,7 +20,7 @@ use Rattle.verilog_reading.specs.StmtReader.{Lower, lower}
 use Rattle.verilog_reading.specs.SourceTree.{Bounds, ParamTree, ordered, named, ItemTree, ModuleTree, joined}
 use Rattle.verilog_reading.specs.ItemReading.{IsItem, is_decls, is_params, is_assigns, is_gates, is_instances, is_always, is_initial, IsKind, is_direction, is_wire, is_reg, IsDirection, is_input, is_output, is_output_reg, IsModule, is_module, edge_of, params_from, first_form, has_start, has_delay, Ports}
 use Rattle.verilog_reading.specs.ItemReader as reader
-use Rattle.verilog_reading.specs.ItemReader.{GateWord, gate_in, separator_in, dval_in}
+use Rattle.verilog_reading.specs.ItemReader.{GateWord, gate_in, separator_in}
 use Rattle.verilog_reading.specs.Laws.{Local}
 use Rattle.verilog_reading.proofs.Local.{local_done, local_then, local_next, local_expect, local_closed, local_peek, local_if, local_more, local_many, Eats}
 use Rattle.verilog_reading.proofs.StmtLocal.{LocalLower, local_lower, says_lower, eats_by}

@@ -4,7 +4,7 @@ use Rattle.cdc_base.specs.declared.words.Keyword.{Keyword}
 use Rattle.cdc_base.specs.declared.words.Keyword.TheVariants as k
 use Rattle.verilog_lex.specs.declared.token.Token.{Token}
 use Rattle.verilog_lex.specs.declared.token.TokenKind.{TokenKind}
-use Rattle.verilog_lex.specs.declared.token.TokenKind.TheVariants.{Word, Ident, Number, Mark}
+use Rattle.verilog_lex.specs.declared.token.TokenKind.TheVariants.{Word, Mark}
 use Rattle.verilog_lex.specs.declared.marks.MarkKind.{MarkKind}
 use Rattle.verilog_lex.specs.declared.marks.MarkKind.TheVariants.{ParenOpen, ParenClose, BracketOpen, BracketClose, Comma, Colon, Semicolon, Dot, Hash, At, Equals, Star}
 use Rattle.verilog_ast.specs.declared.DeclKind.{DeclKind}
@@ -14,19 +14,19 @@ use Rattle.verilog_ast.specs.declared.Event.TheVariants as events
 use Rattle.verilog_ast.specs.declared.Edge.{Edge}
 use Rattle.verilog_ast.specs.declared.EdgeKind.{EdgeKind}
 use Rattle.verilog_ast.specs.declared.EdgeKind.TheVariants.{Pos, Neg, Level}
-use Rattle.verilog_reading.specs.Lexemes.{Spot, spot_of, token_at, mark, mark_in, word, word_in, Named, ident, ident_in, closing, end_in}
+use Rattle.verilog_reading.specs.Lexemes.{Spot, spot_of, token_at, mark, mark_in, word, word_in, Named, ident, ident_in, Dval, by_name, dval, dval_in, closing, end_in}
 use Rattle.verilog_reading.specs.ExprTree.{ExprTree, height}
 use Rattle.verilog_reading.specs.Outcome.{Outcome, done, next, expect}
 use Rattle.verilog_reading.specs.Lists.{more, many, AreMore, AreMany}
-use Rattle.verilog_reading.specs.Reading.{IsExpr, is_range}
+use Rattle.verilog_reading.specs.Reading.{IsExpr, are_bounds}
 use Rattle.verilog_reading.specs.Reader.{closed}
 use Rattle.verilog_reading.specs.StmtReader.{Lower, lower}
 use Rattle.verilog_reading.specs.SourceTree.{Bounds, ordered, named, ItemTree, ModuleTree, most, param_height, port_height, conn_height, conns_height, item_height, module_height, source_height, joined}
-use Rattle.verilog_reading.specs.ItemReading.{IsList, is_list, IsListed, IsMaybeRange, no_range, a_range, IsInit, no_init, an_init, Setting, IsSetting, is_setting, MayBeWord, no_word, the_word, IsDirection, is_input, is_output, is_output_reg, IsKind, is_direction, is_wire, is_reg, IsVar, is_var, Dval, by_number, by_name, dval, IsDelay, no_delay, bare_delay, one_delay, two_delays, has_delay, IsDelayOf, not_delayed, may_delay, IsVars, are_vars, IsDriven, is_driven, gate_of, IsGate, plain_gate, named_gate, IsValue, no_value, a_value, IsConn, is_conn, IsConns, is_ordered, is_named, IsOverrides, no_overrides, overrides, Placed, IsPlaced, is_placed, edge_of, IsEdge, is_positive, is_negative, is_level, Separator, separator, IsEvent, is_star, is_star_in, is_edges, decl_item, param_item, assign_item, gate_item, instance_item, param_word, IsItem, is_decls, is_params, is_assigns, is_gates, is_instances, is_always, is_initial, Pdecl, IsLongPdecl, is_long, IsPdecl, long_pdecl, short_pdecl, params_from, first_form, IsHeader, no_header, a_header, has_start, IsStart, no_start, a_start, IsAdecl, is_adecl, IsEntry, long_entry, short_entry, first_shape, IsName, a_name, bare, Ports, IsPorts, no_ports, empty_ports, old_ports, ansi_ports, IsModule, is_module, IsSource, is_source}
+use Rattle.verilog_reading.specs.ItemReading.{IsList, is_list, IsListed, IsMaybeRange, no_range, a_range, IsInit, no_init, an_init, Setting, IsSetting, is_setting, MayBeWord, no_word, the_word, IsDirection, is_input, is_output, is_output_reg, IsKind, is_direction, is_wire, is_reg, IsVar, is_var, IsDelay, no_delay, bare_delay, one_delay, two_delays, has_delay, IsDelayOf, not_delayed, may_delay, IsVars, are_vars, IsDriven, is_driven, gate_of, IsGate, plain_gate, named_gate, IsValue, no_value, a_value, IsConn, is_conn, IsConns, is_ordered, is_named, IsOverrides, no_overrides, overrides, Placed, IsPlaced, is_placed, edge_of, IsEdge, is_positive, is_negative, is_level, Separator, separator, IsEvent, is_star, is_star_in, is_edges, decl_item, param_item, assign_item, gate_item, instance_item, param_word, IsItem, is_decls, is_params, is_assigns, is_gates, is_instances, is_always, is_initial, Pdecl, IsLongPdecl, is_long, IsPdecl, long_pdecl, short_pdecl, params_from, first_form, IsHeader, no_header, a_header, has_start, IsStart, no_start, a_start, IsAdecl, is_adecl, IsEntry, long_entry, short_entry, first_shape, IsName, a_name, bare, Ports, IsPorts, no_ports, empty_ports, old_ports, ansi_ports, IsModule, is_module, IsSource, is_source}
 use Rattle.verilog_reading.specs.ItemReader as reader
-use Rattle.verilog_reading.specs.ItemReader.{GateWord, gate_word, gate_word_of, gate_in, as_gate, separator_in, separator_of, dval_in, dval_of}
+use Rattle.verilog_reading.specs.ItemReader.{GateWord, gate_word, gate_word_of, gate_in, as_gate, separator_in, separator_of}
 use Rattle.verilog_reading.specs.Laws.{Says, Within}
-use Rattle.verilog_reading.proofs.Tests.{nowhere, mark_is, word_is, ident_is, end_is, token_is}
+use Rattle.verilog_reading.proofs.Tests.{nowhere, mark_is, word_is, ident_is, dval_is, end_is, token_is}
 use Rattle.verilog_reading.proofs.Says.{says_done, says_then, says_next, says_found, says_mark, says_word, says_must, says_expect, says_closed, says_peek, says_map}
 use Rattle.verilog_reading.proofs.Lists.{says_more, says_many}
 use Rattle.verilog_reading.proofs.ExprSays.{ExprIn}
@@ -57,14 +57,6 @@ separator_kind x s g e = absurd (search (rules, e))
 
 pub separator_is : (t : Token) (g : Separator) → separator_in t ≡ Some g → t ≡ separator g
 separator_is t g e = separator_kind t.kind (spot_of t) g e
-
-dval_kind : (x : TokenKind) (s : Spot) (d : Dval) → dval_of x s ≡ Some d → token_at x s ≡ dval d
-dval_kind (Number v w z) s d e = let h : by_number (record { value = v; width = w; size = z; spot = s }) ≡ d = search (rules, e) in ap dval h
-dval_kind (Ident n) s d e = let h : by_name (record { name = n; spot = s }) ≡ d = search (rules, e) in ap dval h
-dval_kind x s d e = absurd (search (rules, e))
-
-pub dval_is : (t : Token) (d : Dval) → dval_in t ≡ Some d → t ≡ dval d
-dval_is t d e = dval_kind t.kind (spot_of t) d e
 
 -- sequences and lists
 pub says_then_done : {A B : Type 0} (P : List Token → A → Type 0) (Q : List Token → B → Type 0) (f : A → B) (r : List Token → Outcome A) (ts : List Token) → Says P ts (r ts)
@@ -175,7 +167,7 @@ module _ (n : ℕ) (l : Lower) (s : SaysLower n l) where
       (λ u a h. says_expect (λ v. P (mark BracketOpen p ∷ (u ++ v))) Colon (reader.in_right l a)
       (λ o xs. says_then (ExprIn n) (λ v. P (mark BracketOpen p ∷ (u ++ mark Colon o ∷ v))) xs (l.exprs.expr xs) (E xs) (reader.right_end a)
       (λ w b i. says_closed (λ v. P (mark BracketOpen p ∷ (u ++ mark Colon o ∷ (w ++ v)))) BracketClose (Some (record { left = a; right = b }))
-      (λ q. (a_range (is_range p o q h.0 i.0), omega (arith, h.1, i.1)))))))
+      (λ q. (a_range (are_bounds p o q h.0 i.0), omega (arith, h.1, i.1)))))))
       (says_done P None (no_range, omega arith))
 
   pub says_init : (ts : List Token) → Says (Within IsInit init_height n) ts (reader.init l ts)

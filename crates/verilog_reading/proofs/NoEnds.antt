@@ -7,14 +7,17 @@ use Rattle.verilog_lex.specs.declared.token.Token.{Token}
 use Rattle.verilog_lex.specs.declared.marks.MarkKind.{MarkKind}
 use Rattle.verilog_lex.specs.declared.marks.MarkKind.TheVariants.{BracketClose, BraceClose, BraceOpen, ParenClose, Comma, Colon, Question, Semicolon, Equals}
 use Rattle.cdc_base.specs.declared.words.Keyword.TheVariants as k
-use Rattle.verilog_reading.specs.Lexemes.{Spot, mark, word, ident, end_in}
+use Rattle.verilog_ast.specs.declared.Delay.{Delay}
+use Rattle.verilog_ast.specs.declared.PartKind.{PartKind}
+use Rattle.verilog_reading.specs.Lexemes.{Spot, mark, word, ident, Dval, by_number, by_name, dval, end_in}
+use Rattle.verilog_reading.specs.Parts.{part_mark}
 use Rattle.verilog_reading.specs.ExprTree.{ExprTree, ExprTrees, TargetTree, TargetTrees}
-use Rattle.verilog_reading.specs.StmtTree.{StmtTree, StmtTrees, ArmTrees}
+use Rattle.verilog_reading.specs.StmtTree.{StmtTree, StmtTrees, LabelTree, ArmTrees}
 use Rattle.verilog_reading.specs.Lists.{AreMore, no_more, one_more, AreMany, none_of, one_of}
-use Rattle.verilog_reading.specs.Reading.{IsUnary, IsBinary, IsExpr, AreMoreExprs, IsRange, is_number, is_name, is_index, is_part, is_paren, is_join, is_repeat, is_unary, is_single, is_tighter, is_binary, is_plain, is_choice, no_exprs, more_exprs, is_range, IsTarget, is_whole, is_index_of, is_part_of, is_join_of, AreMoreTargets, no_targets, more_targets}
-use Rattle.verilog_reading.specs.StmtReading.{IsStmt, AreStmts, AreItems, MayBe, is_absent, is_present, IsLabel, no_label, a_label, assign_mark, is_null, is_set, is_when, is_either, is_case, is_block, no_stmts, more_stmts, no_items, is_arm, is_default}
+use Rattle.verilog_reading.specs.Reading.{IsUnary, IsBinary, IsExpr, AreMoreExprs, IsPart, is_number, is_name, is_index, is_part, is_paren, is_join, is_repeat, is_unary, is_single, is_tighter, is_binary, is_plain, is_choice, no_exprs, more_exprs, are_bounds, IsTarget, is_whole, is_index_of, is_part_of, is_join_of, AreMoreTargets, no_targets, more_targets}
+use Rattle.verilog_reading.specs.StmtReading.{IsStmt, AreStmts, AreItems, MayBe, is_absent, is_present, IsLabel, no_label, a_label, is_dval, IsLater, at_once, after_value, after_parens, IsChoice, is_value, is_mask, assign_mark, is_null, is_set, is_when, is_either, is_case, is_block, no_stmts, more_stmts, no_items, is_arm, is_default}
 use Rattle.verilog_reading.specs.SourceTree.{Bounds, ParamTree, ConnTree, ConnsTree, ItemTree, ModuleTree}
-use Rattle.verilog_reading.specs.ItemReading.{IsList, is_list, IsListed, IsMaybeRange, no_range, a_range, IsInit, no_init, an_init, Setting, IsSetting, is_setting, MayBeWord, no_word, the_word, IsDirection, is_input, is_output, is_output_reg, IsKind, is_direction, is_wire, is_reg, Var, IsVar, is_var, Dval, by_number, by_name, dval, IsDelay, no_delay, bare_delay, one_delay, two_delays, IsDelayOf, not_delayed, may_delay, IsVars, are_vars, Driven, IsDriven, is_driven, IsGate, plain_gate, named_gate, IsValue, no_value, a_value, IsConn, is_conn, IsConns, is_ordered, is_named, IsOverrides, no_overrides, overrides, Placed, IsPlaced, is_placed, IsEdge, is_positive, is_negative, is_level, separator, separator_at, IsEvent, is_star, is_star_in, is_edges, IsItem, is_decls, is_params, is_assigns, is_gates, is_instances, is_always, is_initial, Pdecl, IsLongPdecl, is_long, IsPdecl, long_pdecl, short_pdecl, IsHeader, no_header, a_header, IsStart, no_start, a_start, Entry, IsAdecl, is_adecl, IsEntry, long_entry, short_entry, IsName, a_name, Ports, IsPorts, no_ports, empty_ports, old_ports, ansi_ports, IsModule, is_module}
+use Rattle.verilog_reading.specs.ItemReading.{IsList, is_list, IsListed, IsMaybeRange, no_range, a_range, IsInit, no_init, an_init, Setting, IsSetting, is_setting, MayBeWord, no_word, the_word, IsDirection, is_input, is_output, is_output_reg, IsKind, is_direction, is_wire, is_reg, Var, IsVar, is_var, IsDelay, no_delay, bare_delay, one_delay, two_delays, IsDelayOf, not_delayed, may_delay, IsVars, are_vars, Driven, IsDriven, is_driven, IsGate, plain_gate, named_gate, IsValue, no_value, a_value, IsConn, is_conn, IsConns, is_ordered, is_named, IsOverrides, no_overrides, overrides, Placed, IsPlaced, is_placed, IsEdge, is_positive, is_negative, is_level, separator, separator_at, IsEvent, is_star, is_star_in, is_edges, IsItem, is_decls, is_params, is_assigns, is_gates, is_instances, is_always, is_initial, Pdecl, IsLongPdecl, is_long, IsPdecl, long_pdecl, short_pdecl, IsHeader, no_header, a_header, IsStart, no_start, a_start, Entry, IsAdecl, is_adecl, IsEntry, long_entry, short_entry, IsName, a_name, Ports, IsPorts, no_ports, empty_ports, old_ports, ansi_ports, IsModule, is_module}
 use Rattle.verilog_reading.specs.Refusals.{NoEnd}
 
 pub both : (u v : List Token) → NoEnd u → NoEnd v → NoEnd (u ++ v)
@@ -34,7 +37,7 @@ mutual
   unary_end (is_number n) = (refl, tt)
   unary_end (is_name n) = (refl, tt)
   unary_end (is_index n p q {u} x) = (refl, (refl, closed u BracketClose q (expr_end x)))
-  unary_end (is_part n x) = (refl, range_end x)
+  unary_end (is_part n x) = (refl, part_end x)
   unary_end (is_paren p q {u} x) = (refl, closed u ParenClose q (expr_end x))
   unary_end (is_join p q {u} {v} x y) = (refl, both u (v ++ mark BraceClose q ∷ []) (expr_end x) (closed v BraceClose q (exprs_end y)))
   unary_end (is_repeat p o q r {u} {v} {w} x y z) = (
@@ -57,14 +60,14 @@ mutual
   exprs_end no_exprs = tt
   exprs_end (more_exprs p {u} {v} x y) = (refl, both u v (expr_end x) (exprs_end y))
 
-  range_end : {u : List Token} {a b : ExprTree} → IsRange u a b → NoEnd u
-  range_end (is_range p o q {u} {v} x y) = (refl, around u Colon o (v ++ mark BracketClose q ∷ []) (expr_end x) (closed v BracketClose q (expr_end y)))
+  part_end : {kind : PartKind} {u : List Token} {a b : ExprTree} → IsPart kind u a b → NoEnd u
+  part_end (are_bounds {kind} p o q {u} {v} x y) = (refl, around u (part_mark kind) o (v ++ mark BracketClose q ∷ []) (expr_end x) (closed v BracketClose q (expr_end y)))
 
 mutual
   target_end : {u : List Token} {a : TargetTree} → IsTarget u a → NoEnd u
   target_end (is_whole n) = (refl, tt)
   target_end (is_index_of n p q {u} x) = (refl, (refl, closed u BracketClose q (expr_end x)))
-  target_end (is_part_of n x) = (refl, range_end x)
+  target_end (is_part_of n x) = (refl, part_end x)
   target_end (is_join_of p q {u} {v} x y) = (refl, both u (v ++ mark BraceClose q ∷ []) (target_end x) (closed v BraceClose q (targets_end y)))
 
   targets_end : {u : List Token} {bs : TargetTrees} → AreMoreTargets u bs → NoEnd u
@@ -96,29 +99,45 @@ label_end : {u : List Token} → IsLabel u → NoEnd u
 label_end no_label = tt
 label_end (a_label p n) = (refl, (refl, tt))
 
+dval_end : (d : Dval) → end_in (dval d) ≡ None
+dval_end (by_number n) = refl
+dval_end (by_name n) = refl
+
+later_end : {b : Bool} {u : List Token} {d : Option Delay} → IsLater b u d → NoEnd u
+later_end at_once = tt
+later_end (after_value p (is_dval d)) = (refl, (dval_end d, tt))
+later_end (after_parens p q r (is_dval d)) = (refl, (refl, (dval_end d, (refl, tt))))
+
+choice_end : {masks : Bool} (u : List Token) (a : LabelTree) → IsChoice masks u a → NoEnd u
+choice_end u a h = go h
+  where
+    go : {masks : Bool} {u : List Token} {a : LabelTree} → IsChoice masks u a → NoEnd u
+    go (is_value x) = expr_end x
+    go (is_mask n) = (refl, tt)
+
 mutual
   stmt_end : {u : List Token} {s : StmtTree} → IsStmt u s → NoEnd u
   stmt_end (is_null p) = (refl, tt)
-  stmt_end (is_set b p q {u} {v} x y) = around u (assign_mark b) p (v ++ mark Semicolon q ∷ []) (target_end x) (closed v Semicolon q (expr_end y))
+  stmt_end (is_set b p q {u} {v} {w} x d y) = around u (assign_mark b) p (v ++ (w ++ mark Semicolon q ∷ [])) (target_end x) (both v (w ++ mark Semicolon q ∷ []) (later_end d) (closed w Semicolon q (expr_end y)))
   stmt_end (is_when i p q {u} {v} x y) = (refl, (refl, around u ParenClose q v (expr_end x) (stmt_end y)))
   stmt_end (is_either i p q e {u} {v} {w} x y f z) = (refl, (refl, around u ParenClose q (v ++ word k.Else e ∷ w) (expr_end x) (both v (word k.Else e ∷ w) (stmt_end y) (refl, stmt_end z))))
-  stmt_end (is_case i p q e {u} {v} x y f) = (refl, (refl, around u ParenClose q (v ++ word k.EndCase e ∷ []) (expr_end x) (both v (word k.EndCase e ∷ []) (items_end y) (refl, tt))))
+  stmt_end (is_case masks i p q e {u} {v} x y f) = (refl, (refl, around u ParenClose q (v ++ word k.EndCase e ∷ []) (expr_end x) (both v (word k.EndCase e ∷ []) (items_end y) (refl, tt))))
   stmt_end (is_block p q {l} {u} x y) = (refl, both l (u ++ word k.End q ∷ []) (label_end x) (both u (word k.End q ∷ []) (stmts_end y) (refl, tt)))
 
   stmts_end : {u : List Token} {rows : StmtTrees} → AreStmts u rows → NoEnd u
   stmts_end no_stmts = tt
   stmts_end (more_stmts {u} {v} x y) = both u v (stmt_end x) (stmts_end y)
 
-  items_end : {u : List Token} {arms : ArmTrees} {d : Option StmtTree} → AreItems u arms d → NoEnd u
+  items_end : {masks : Bool} {u : List Token} {arms : ArmTrees} {d : Option StmtTree} → AreItems masks u arms d → NoEnd u
   items_end no_items = tt
-  items_end (is_arm p {u} {v} {w} {x} e m t r) = both (u ++ (v ++ mark Colon p ∷ w)) x
-      (both u (v ++ mark Colon p ∷ w) (expr_end e) (around v Colon p w (more_end (mark Comma) IsExpr (λ q. refl) (λ u a x. expr_end x) m) (stmt_end t))) (items_end r)
+  items_end (is_arm {masks} p {u} {v} {w} {x} {a} e m t r) = both (u ++ (v ++ mark Colon p ∷ w)) x
+      (both u (v ++ mark Colon p ∷ w) (choice_end u a e) (around v Colon p w (more_end (mark Comma) (IsChoice masks) (λ q. refl) choice_end m) (stmt_end t))) (items_end r)
   items_end (is_default p {u} {v} {w} m t r) = (refl, both u (v ++ w) (maybe_end m) (both v w (stmt_end t) (items_end r)))
 
 -- items
 maybe_range_end : {u : List Token} {r : Option Bounds} → IsMaybeRange u r → NoEnd u
 maybe_range_end no_range = tt
-maybe_range_end (a_range x) = range_end x
+maybe_range_end (a_range x) = part_end x
 
 init_end : {u : List Token} {e : Option ExprTree} → IsInit u e → NoEnd u
 init_end no_init = tt
@@ -149,10 +168,6 @@ var_end u x h = go h
   where
     go : {u : List Token} {x : Var} → IsVar u x → NoEnd u
     go (is_var n {u} {v} x y) = (refl, both u v (maybe_range_end x) (init_end y))
-
-dval_end : (d : Dval) → end_in (dval d) ≡ None
-dval_end (by_number n) = refl
-dval_end (by_name n) = refl
 
 delay_end : {u : List Token} → IsDelay u → NoEnd u
 delay_end no_delay = tt

@@ -1,12 +1,14 @@
 -- The laws of the reader of targets.
 use Rattle.std.proofs.Common.{◌≡◌, ℕ, zero, suc, ◌≤◌, max, false, List, [], ◌∷◌, ◌++◌, Option, Some, None, refl, sym, ap, subst, ◌∙◌, append_assoc, append-nil, arith, rules}
 use Rattle.verilog_lex.specs.declared.token.Token.{Token}
-use Rattle.verilog_lex.specs.declared.marks.MarkKind.TheVariants.{BracketOpen, BracketClose, BraceOpen, BraceClose, Comma, Colon}
+use Rattle.verilog_lex.specs.declared.marks.MarkKind.TheVariants.{BracketOpen, BracketClose, BraceOpen, BraceClose, Comma}
 use Rattle.verilog_reading.specs.Lexemes.{Spot, mark, mark_in, Named, ident, ident_in}
 use Rattle.verilog_reading.specs.ExprTree.{ExprTree, height, TargetTree, whole, index_of, part_of, join_of, TargetTrees, and_parts, target_trees_of, target_height, target_heights}
 use Rattle.verilog_reading.specs.Outcome.{done, then_read, refuse}
 use Rattle.verilog_reading.specs.Lists.{more, AreMore, no_more, one_more}
-use Rattle.verilog_reading.specs.Reading.{IsRange, is_range, IsTarget, is_whole, is_index_of, is_part_of, is_join_of, AreMoreTargets, no_targets, more_targets}
+use Rattle.verilog_ast.specs.declared.PartKind.{PartKind}
+use Rattle.verilog_reading.specs.Parts.{part_mark}
+use Rattle.verilog_reading.specs.Reading.{IsPart, are_bounds, IsTarget, is_whole, is_index_of, is_part_of, is_join_of, AreMoreTargets, no_targets, more_targets}
 use Rattle.verilog_reading.specs.Reader.{readers, Select, at_index, between, select, select_height}
 use Rattle.verilog_reading.specs.TargetReader.{Below, below, aimed, with_aim, in_aim, in_target, at_targets, behind_target, in_targets, target_at, read_target}
 use Rattle.verilog_reading.specs.Laws.{Says, Within, Local, Above, Free}
@@ -144,19 +146,20 @@ braced_read (suc j) p q u v a bs h rest g m = targets_below j (mark BraceOpen p 
     behind no_more = refl
     behind (one_more s x y) = refl
 
-c_range_of : (n : Named) {u : List Token} {a b : ExprTree} → IsRange u a b → (k : ℕ) → suc (max (height a) (height b)) ≤ k → (rest : List Token) → read_target k (ident n ∷ (u ++ rest)) ≡ done (part_of n.name a b) rest
-c_range_of n (is_range p o q {u} {v} {a} {b} x y) k h rest =
-    subst (λ w. read_target k (ident n ∷ (mark BracketOpen p ∷ w)) ≡ done (part_of n.name a b) rest)
-    (sym (append_assoc u (mark Colon o ∷ (v ++ mark BracketClose q ∷ [])) rest ∙ ap (λ w. u ++ mark Colon o ∷ w) (append_assoc v (mark BracketClose q ∷ []) rest)))
-    (aim_reads k n p (between a b) (u ++ mark Colon o ∷ (v ++ mark BracketClose q ∷ rest)) rest (omega (arith, h))
-    (λ j e. bounds_read j u v a b o q rest (omega (arith, h, e)) (omega (arith, h, e)) (c_expr x) (c_expr y)))
+c_part_of : (n : Named) {kind : PartKind} {u : List Token} {a b : ExprTree} → IsPart kind u a b → (k : ℕ) → suc (max (height a) (height b)) ≤ k → (rest : List Token)
+    → read_target k (ident n ∷ (u ++ rest)) ≡ done (part_of n.name kind a b) rest
+c_part_of n (are_bounds {kind} p o q {u} {v} {a} {b} x y) k h rest = let divided = mark (part_mark kind) o in
+    subst (λ w. read_target k (ident n ∷ (mark BracketOpen p ∷ w)) ≡ done (part_of n.name kind a b) rest)
+    (sym (append_assoc u (divided ∷ (v ++ mark BracketClose q ∷ [])) rest ∙ ap (λ w. u ++ divided ∷ w) (append_assoc v (mark BracketClose q ∷ []) rest)))
+    (aim_reads k n p (between kind a b) (u ++ divided ∷ (v ++ mark BracketClose q ∷ rest)) rest (omega (arith, h))
+    (λ j e. bounds_read j kind u v a b o q rest (omega (arith, h, e)) (omega (arith, h, e)) (c_expr x) (c_expr y)))
 
 mutual
   pub c_target : {u : List Token} {a : TargetTree} → IsTarget u a → ReadsTarget u a
   c_target (is_whole n) k h rest f = whole_reads k n rest f
   c_target (is_index_of n p q {u} {i} x) k h rest f = subst (λ w. read_target k (ident n ∷ (mark BracketOpen p ∷ w)) ≡ done (index_of n.name i) rest) (sym (append_assoc u (mark BracketClose q ∷ []) rest))
       (aim_reads k n p (at_index i) (u ++ mark BracketClose q ∷ rest) rest (omega (arith, h)) (λ j e. index_reads j u i q rest (omega (arith, h, e)) (c_expr x)))
-  c_target (is_part_of n {u} {a} {b} x) k h rest f = c_range_of n x k h rest
+  c_target (is_part_of n x) k h rest f = c_part_of n x k h rest
   c_target (is_join_of p q {u} {v} {a} {bs} x y) k h rest f = let z = c_targets y in
       subst (λ w. read_target k (mark BraceOpen p ∷ w) ≡ done (join_of (and_parts a bs)) rest)
       (sym (append_assoc u (v ++ mark BraceClose q ∷ []) rest ∙ ap (λ w. u ++ w) (append_assoc v (mark BraceClose q ∷ []) rest)))

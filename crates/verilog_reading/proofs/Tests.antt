@@ -6,12 +6,16 @@ use Rattle.cdc_base.specs.contracts.words.Keyword.{the_type as keyword_type}
 use Rattle.verilog_ast.specs.declared.UnaryOp.{UnaryOp}
 use Rattle.verilog_ast.specs.declared.BinaryOp.{BinaryOp}
 use Rattle.verilog_lex.specs.declared.marks.MarkKind.{MarkKind}
+use Rattle.verilog_lex.specs.declared.marks.MarkKind.TheVariants.{Colon, PlusColon, MinusColon}
+use Rattle.verilog_ast.specs.declared.PartKind.{PartKind}
+use Rattle.verilog_ast.specs.declared.PartKind.TheVariants.{Range, Up, Down}
 use Rattle.verilog_lex.specs.contracts.marks.MarkKindPartialEq.TheImpl as marks
 use Rattle.verilog_lex.specs.contracts.marks.MarkKind.{the_type as mark_type}
 use Rattle.verilog_lex.specs.declared.token.Token.{Token}
 use Rattle.verilog_lex.specs.declared.token.TokenKind.{TokenKind}
-use Rattle.verilog_lex.specs.declared.token.TokenKind.TheVariants.{Word, Ident, Number, Mark, End}
-use Rattle.verilog_reading.specs.Lexemes.{Spot, spot_of, token_at, mark, word, Named, ident, Numeral, numeral, closing, mark_of, mark_in, word_of, word_in, ident_of, ident_in, numeral_of, numeral_in, end_of, end_in}
+use Rattle.verilog_lex.specs.declared.token.TokenKind.TheVariants.{Word, Ident, Number, Mask, Mark, End}
+use Rattle.verilog_reading.specs.Lexemes.{Spot, spot_of, token_at, mark, word, Named, ident, Numeral, numeral, Masked, masked, Dval, by_number, by_name, dval, closing, mark_of, mark_in, word_of, word_in, ident_of, ident_in, numeral_of, numeral_in, mask_of, mask_in, dval_of, dval_in, end_of, end_in}
+use Rattle.verilog_reading.specs.Parts.{part_mark, part_kind_of, Divider, divider, as_divider, divider_of, divider_in}
 use Rattle.verilog_reading.specs.Operators.{Prefix, prefix, prefix_in, prefix_of, as_prefix, unary_of, Joint, joint, joint_in, joint_of, as_joint, joins}
 use denote.Enum.Bare.{same_true}
 
@@ -60,6 +64,48 @@ numeral_kind k s n e = absurd (search (rules, e))
 
 pub numeral_is : (t : Token) (n : Numeral) → numeral_in t ≡ Some n → t ≡ numeral n
 numeral_is t n e = let h = numeral_kind t.kind (spot_of t) n e in token_is t (Number n.value n.width n.size) n.spot h.0 h.1
+
+mask_kind : (k : TokenKind) (s : Spot) (n : Masked) → mask_of k s ≡ Some n → (k ≡ Mask n.value n.opened n.width) × (s ≡ n.spot)
+mask_kind (Mask v o w) s n e = let h : record { value = v; opened = o; width = w; spot = s } ≡ n = search (rules, e) in
+    (ap (λ x. Mask x.value x.opened x.width) h, ap (λ x. x.spot) h)
+mask_kind k s n e = absurd (search (rules, e))
+
+pub mask_is : (t : Token) (n : Masked) → mask_in t ≡ Some n → t ≡ masked n
+mask_is t n e = let h = mask_kind t.kind (spot_of t) n e in token_is t (Mask n.value n.opened n.width) n.spot h.0 h.1
+
+dval_kind : (k : TokenKind) (s : Spot) (d : Dval) → dval_of k s ≡ Some d → token_at k s ≡ dval d
+dval_kind (Number v w z) s d e = let h : by_number (record { value = v; width = w; size = z; spot = s }) ≡ d = search (rules, e) in ap dval h
+dval_kind (Ident n) s d e = let h : by_name (record { name = n; spot = s }) ≡ d = search (rules, e) in ap dval h
+dval_kind k s d e = absurd (search (rules, e))
+
+pub dval_is : (t : Token) (d : Dval) → dval_in t ≡ Some d → t ≡ dval d
+dval_is t d e = dval_kind t.kind (spot_of t) d e
+
+pub dval_found : (d : Dval) → dval_in (dval d) ≡ Some d
+dval_found (by_number n) = refl
+dval_found (by_name n) = refl
+
+kind_mark : (m : MarkKind) (kind : PartKind) → part_kind_of m ≡ Some kind → m ≡ part_mark kind
+kind_mark Colon kind e = let h : Range ≡ kind = search (rules, e) in ap part_mark h
+kind_mark PlusColon kind e = let h : Up ≡ kind = search (rules, e) in ap part_mark h
+kind_mark MinusColon kind e = let h : Down ≡ kind = search (rules, e) in ap part_mark h
+kind_mark m kind e = absurd (search (rules, e))
+
+as_divider_is : (o : Option PartKind) (s : Spot) (d : Divider) → as_divider o s ≡ Some d → (o ≡ Some d.kind) × (s ≡ d.spot)
+as_divider_is None s d e = absurd (search (rules, e))
+as_divider_is (Some kind) s d e = let h : record { kind = kind; spot = s } ≡ d = search (rules, e) in (ap (λ x. Some x.kind) h, ap (λ x. x.spot) h)
+
+divider_kind : (k : TokenKind) (s : Spot) (d : Divider) → divider_of k s ≡ Some d → (k ≡ Mark (part_mark d.kind)) × (s ≡ d.spot)
+divider_kind (Mark m) s d e = let h = as_divider_is (part_kind_of m) s d e in (ap Mark (kind_mark m d.kind h.0), h.1)
+divider_kind k s d e = absurd (search (rules, e))
+
+pub divider_is : (t : Token) (d : Divider) → divider_in t ≡ Some d → t ≡ divider d
+divider_is t d e = let h = divider_kind t.kind (spot_of t) d e in token_is t (Mark (part_mark d.kind)) d.spot h.0 h.1
+
+pub divider_found : (kind : PartKind) (p : Spot) → divider_in (mark (part_mark kind) p) ≡ Some (record { kind = kind; spot = p })
+divider_found Range p = refl
+divider_found Up p = refl
+divider_found Down p = refl
 
 end_kind : (k : TokenKind) (s p : Spot) → end_of k s ≡ Some p → (k ≡ End) × (s ≡ p)
 end_kind End s p e = (refl, search (rules, e))

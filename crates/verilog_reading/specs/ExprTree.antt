@@ -3,6 +3,7 @@ use Rattle.std.specs.Prelude.{ℕ, suc, max, List, [], ◌∷◌}
 use Rattle.cdc_base.specs.declared.size.NumberSize.{NumberSize}
 use Rattle.verilog_ast.specs.declared.UnaryOp.{UnaryOp}
 use Rattle.verilog_ast.specs.declared.BinaryOp.{BinaryOp}
+use Rattle.verilog_ast.specs.declared.PartKind.{PartKind}
 use Rattle.verilog_ast.specs.declared.Expr.{Expr}
 use Rattle.verilog_ast.specs.declared.Expr.TheOpen.{Expr-F}
 use Rattle.verilog_ast.specs.declared.Expr.TheFolds.{fold-Expr}
@@ -15,7 +16,7 @@ mutual
     number : ℕ → ℕ → NumberSize → ExprTree
     name : List ℕ → ExprTree
     index : List ℕ → ExprTree → ExprTree
-    part : List ℕ → ExprTree → ExprTree → ExprTree
+    part : List ℕ → PartKind → ExprTree → ExprTree → ExprTree
     unary : UnaryOp → ExprTree → ExprTree
     binary : BinaryOp → ExprTree → ExprTree → ExprTree
     choice : ExprTree → ExprTree → ExprTree → ExprTree
@@ -35,7 +36,7 @@ abbrev pub expr_tree_step : Expr-F ExprTree → ExprTree
 expr_tree_step (Expr-F.Number value width spelt) = number value width spelt
 expr_tree_step (Expr-F.Ident n) = name n
 expr_tree_step (Expr-F.At n i) = index n i.value
-expr_tree_step (Expr-F.Part n left right) = part n left.value right.value
+expr_tree_step (Expr-F.Part n kind left right) = part n kind left.value right.value
 expr_tree_step (Expr-F.Unary op a) = unary op a.value
 expr_tree_step (Expr-F.Binary op a b) = binary op a.value b.value
 expr_tree_step (Expr-F.Choose c a b) = choice c.value a.value b.value
@@ -53,7 +54,7 @@ abbrev mutual
   height (number value width spelt) = 0
   height (name n) = 0
   height (index n i) = suc (height i)
-  height (part n left right) = suc (max (height left) (height right))
+  height (part n kind left right) = suc (max (height left) (height right))
   height (unary op a) = suc (height a)
   height (binary op a b) = suc (max (height a) (height b))
   height (choice c a b) = suc (max (height c) (max (height a) (height b)))
@@ -73,7 +74,7 @@ mutual
   pub data TargetTree : Type 0 where
     whole : List ℕ → TargetTree
     index_of : List ℕ → ExprTree → TargetTree
-    part_of : List ℕ → ExprTree → ExprTree → TargetTree
+    part_of : List ℕ → PartKind → ExprTree → ExprTree → TargetTree
     join_of : TargetTrees → TargetTree
 
   pub data TargetTrees : Type 0 where
@@ -87,7 +88,7 @@ target_trees_of (a ∷ bs) = and_parts a (target_trees_of bs)
 abbrev pub target_tree_step : Target-F TargetTree → TargetTree
 target_tree_step (Target-F.Whole n) = whole n
 target_tree_step (Target-F.At n i) = index_of n (tree_of i)
-target_tree_step (Target-F.Part n left right) = part_of n (tree_of left) (tree_of right)
+target_tree_step (Target-F.Part n kind left right) = part_of n kind (tree_of left) (tree_of right)
 target_tree_step (Target-F.Join parts) = join_of (target_trees_of parts)
 
 -- the tree of a target
@@ -99,7 +100,7 @@ abbrev mutual
   pub target_height : TargetTree → ℕ
   target_height (whole n) = 0
   target_height (index_of n i) = suc (height i)
-  target_height (part_of n left right) = suc (max (height left) (height right))
+  target_height (part_of n kind left right) = suc (max (height left) (height right))
   target_height (join_of parts) = target_heights parts
 
   pub target_heights : TargetTrees → ℕ

@@ -5,7 +5,7 @@ use Rattle.cdc_base.specs.declared.words.Keyword.{Keyword}
 use Rattle.cdc_base.specs.declared.words.Keyword.TheVariants as k
 use Rattle.verilog_lex.specs.declared.token.Token.{Token}
 use Rattle.verilog_lex.specs.declared.token.TokenKind.{TokenKind}
-use Rattle.verilog_lex.specs.declared.token.TokenKind.TheVariants.{Word, Ident, Number, Mark}
+use Rattle.verilog_lex.specs.declared.token.TokenKind.TheVariants.{Word, Mark}
 use Rattle.verilog_lex.specs.declared.marks.MarkKind.{MarkKind}
 use Rattle.verilog_lex.specs.declared.marks.MarkKind.TheVariants.{ParenOpen, ParenClose, BracketOpen, BracketClose, Comma, Colon, Semicolon, Dot, Hash, At, Equals, Star}
 use Rattle.verilog_ast.specs.declared.DeclKind.{DeclKind}
@@ -16,7 +16,7 @@ use Rattle.verilog_ast.specs.declared.Event.TheVariants as events
 use Rattle.verilog_ast.specs.declared.Edge.{Edge}
 use Rattle.verilog_ast.specs.declared.EdgeKind.{EdgeKind}
 use Rattle.verilog_ast.specs.declared.EdgeKind.TheVariants.{Pos, Neg, Level}
-use Rattle.verilog_reading.specs.Lexemes.{Spot, spot_of, word, mark_in, word_in, Named, ident_in, end_in}
+use Rattle.verilog_reading.specs.Lexemes.{Spot, spot_of, word, mark_in, word_in, Named, ident_in, dval_in, end_in}
 use Rattle.verilog_reading.specs.ExprTree.{ExprTree, TargetTree}
 use Rattle.verilog_reading.specs.StmtTree.{StmtTree}
 use Rattle.verilog_reading.specs.Outcome.{Outcome, done, then_read, next, expect, peek}
@@ -24,7 +24,7 @@ use Rattle.verilog_reading.specs.Lists.{more, many}
 use Rattle.verilog_reading.specs.Reader.{closed}
 use Rattle.verilog_reading.specs.StmtReader.{Lower, lower}
 use Rattle.verilog_reading.specs.SourceTree.{Bounds, ParamTree, ConnTree, ConnsTree, ordered, named, always, initial, ItemTree, ModuleTree, joined}
-use Rattle.verilog_reading.specs.ItemReading.{Setting, Var, Dval, by_number, by_name, has_delay, Driven, gate_of, entries, Placed, edge_of, Separator, item_at, decl_item, param_item, assign_item, gate_item, instance_item, Pdecl, params_from, first_form, has_start, Entry, ports_from, first_shape, bare, Ports}
+use Rattle.verilog_reading.specs.ItemReading.{Setting, Var, has_delay, Driven, gate_of, entries, Placed, edge_of, Separator, item_at, decl_item, param_item, assign_item, gate_item, instance_item, Pdecl, params_from, first_form, has_start, Entry, ports_from, first_shape, bare, Ports}
 
 -- `x { , x }` and the mark that closes it
 abbrev pub list_end : {A : Type 0} → MarkKind → A → List A → List Token → Outcome (List A)
@@ -102,14 +102,6 @@ abbrev pub past : {A B : Type 0} → (List Token → Outcome A) → (List Token 
 past r s ts = then_read (r ts) (λ _. s)
 
 -- `[delay]`
-abbrev pub dval_of : TokenKind → Spot → Option Dval
-dval_of (Number v w z) s = Some (by_number (record { value = v; width = w; size = z; spot = s }))
-dval_of (Ident n) s = Some (by_name (record { name = n; spot = s }))
-dval_of x s = None
-
-abbrev pub dval_in : Token → Option Dval
-dval_in t = dval_of t.kind (spot_of t)
-
 abbrev pub delay_end : List Token → Outcome (Unit {0})
 delay_end = closed ParenClose tt
 

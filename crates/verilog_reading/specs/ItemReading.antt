@@ -1,5 +1,5 @@
 -- What a list of tokens reads as: a case for each line of the grammar of items, modules and sources.
-use Rattle.std.specs.Prelude.{ℕ, ◌≡◌, Bool, true, false, List, [], ◌∷◌, ◌++◌, map, Option, Some, None, if◌then◌else◌}
+use Rattle.std.specs.Prelude.{ℕ, ◌≡◌, Bool, true, false, List, [], ◌∷◌, ◌++◌, map, Option, Some, None}
 use Rattle.cdc_base.specs.declared.fault.Place.{Place}
 use Rattle.cdc_base.specs.declared.words.Keyword.{Keyword}
 use Rattle.cdc_base.specs.declared.words.Keyword.TheVariants as k
@@ -15,7 +15,7 @@ use Rattle.verilog_ast.specs.declared.Event.TheVariants as event
 use Rattle.verilog_ast.specs.declared.Edge.{Edge}
 use Rattle.verilog_ast.specs.declared.EdgeKind.{EdgeKind}
 use Rattle.verilog_ast.specs.declared.EdgeKind.TheVariants.{Pos, Neg, Level}
-use Rattle.verilog_reading.specs.Lexemes.{Spot, mark, word, Named, ident, Numeral, numeral, closing}
+use Rattle.verilog_reading.specs.Lexemes.{Spot, mark, word, Named, ident, Dval, dval, closing}
 use Rattle.verilog_reading.specs.ExprTree.{ExprTree, TargetTree}
 use Rattle.verilog_reading.specs.StmtTree.{StmtTree}
 use Rattle.verilog_reading.specs.Lists.{AreMore, AreMany}
@@ -74,15 +74,6 @@ pub record Var : Type 0 where
 
 pub data IsVar : List Token → Var → Type 0 where
   is_var : (n : Named) {u v : List Token} {r : Option Bounds} {e : Option ExprTree} → IsMaybeRange u r → IsInit v e → IsVar (ident n ∷ (u ++ v)) (record { name = n.name; array = r; init = e })
-
--- `dval = number | id`
-pub data Dval : Type 0 where
-  by_number : Numeral → Dval
-  by_name : Named → Dval
-
-abbrev pub dval : Dval → Token
-dval (by_number n) = numeral n
-dval (by_name n) = ident n
 
 -- `[ # dval | # "(" dval [ , dval ] ")" ]`, which has no meaning
 pub data IsDelay : List Token → Type 0 where

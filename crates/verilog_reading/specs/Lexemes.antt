@@ -8,7 +8,7 @@ use Rattle.verilog_lex.specs.declared.marks.MarkKind.{MarkKind}
 use Rattle.verilog_lex.specs.contracts.marks.MarkKindPartialEq.TheImpl as marks
 use Rattle.verilog_lex.specs.declared.token.Token.{Token}
 use Rattle.verilog_lex.specs.declared.token.TokenKind.{TokenKind}
-use Rattle.verilog_lex.specs.declared.token.TokenKind.TheVariants.{Word, Ident, Number, Mark, End}
+use Rattle.verilog_lex.specs.declared.token.TokenKind.TheVariants.{Word, Ident, Number, Mask, Mark, End}
 
 -- where a token stands
 pub record Spot : Type 0 where
@@ -47,6 +47,25 @@ pub record Numeral : Type 0 where
 abbrev pub numeral : Numeral → Token
 numeral n = token_at (Number n.value n.width n.size) n.spot
 
+-- a mask
+pub record Masked : Type 0 where
+  pub value : ℕ
+  pub opened : ℕ
+  pub width : ℕ
+  pub spot : Spot
+
+abbrev pub masked : Masked → Token
+masked n = token_at (Mask n.value n.opened n.width) n.spot
+
+-- `dval = number | id`
+pub data Dval : Type 0 where
+  by_number : Numeral → Dval
+  by_name : Named → Dval
+
+abbrev pub dval : Dval → Token
+dval (by_number n) = numeral n
+dval (by_name n) = ident n
+
 -- the closing end
 abbrev pub closing : Spot → Token
 closing s = token_at End s
@@ -78,6 +97,21 @@ numeral_of k s = None
 
 abbrev pub numeral_in : Token → Option Numeral
 numeral_in t = numeral_of t.kind (spot_of t)
+
+abbrev pub mask_of : TokenKind → Spot → Option Masked
+mask_of (Mask v o w) s = Some (record { value = v; opened = o; width = w; spot = s })
+mask_of k s = None
+
+abbrev pub mask_in : Token → Option Masked
+mask_in t = mask_of t.kind (spot_of t)
+
+abbrev pub dval_of : TokenKind → Spot → Option Dval
+dval_of (Number v w z) s = Some (by_number (record { value = v; width = w; size = z; spot = s }))
+dval_of (Ident n) s = Some (by_name (record { name = n; spot = s }))
+dval_of k s = None
+
+abbrev pub dval_in : Token → Option Dval
+dval_in t = dval_of t.kind (spot_of t)
 
 abbrev pub end_of : TokenKind → Spot → Option Spot
 end_of End s = Some s

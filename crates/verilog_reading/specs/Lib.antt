@@ -7,6 +7,7 @@ pub mod Lexemes
 pub mod Lists
 pub mod Operators
 pub mod Outcome
+pub mod Parts
 pub mod Reader
 pub mod Reading
 pub mod Refusals

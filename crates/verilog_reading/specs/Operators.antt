@@ -13,6 +13,7 @@ use Rattle.verilog_reading.specs.Lexemes.{Spot, spot_of, mark}
 
 -- the operator that a mark is before its operand
 abbrev pub unary_of : MarkKind → Option UnaryOp
+unary_of Minus = Some u.Minus
 unary_of Tilde = Some u.Not
 unary_of Bang = Some u.LogicNot
 unary_of Ampersand = Some u.And

@@ -3,8 +3,10 @@ use Rattle.std.specs.Prelude.{ℕ, zero, suc, max, List, Option, Some, None, nat
 use Rattle.verilog_lex.specs.declared.token.Token.{Token}
 use Rattle.verilog_lex.specs.declared.marks.MarkKind.{MarkKind}
 use Rattle.verilog_lex.specs.declared.marks.MarkKind.TheVariants.{ParenOpen, ParenClose, BracketOpen, BracketClose, BraceOpen, BraceClose, Comma, Colon, Question}
+use Rattle.verilog_ast.specs.declared.PartKind.{PartKind}
 use Rattle.verilog_reading.specs.Lexemes.{Spot, mark_in, Named, ident_in, numeral_in}
 use Rattle.verilog_reading.specs.Operators.{Prefix, prefix_in, joint_in, levels}
+use Rattle.verilog_reading.specs.Parts.{Divider, divider_in}
 use Rattle.verilog_reading.specs.ExprTree.{ExprTree, number, name, index, part, unary, binary, choice, join, repeat, paren, and_trees, trees_of, height}
 use Rattle.verilog_reading.specs.Outcome.{Outcome, done, then_read, next, expect, refuse, deep, enter}
 use Rattle.verilog_reading.specs.Lists.{more}
@@ -21,30 +23,30 @@ closed m a = expect (mark_in m) (λ _. done a)
 -- what brackets behind a name hold
 pub data Select : Type 0 where
   at_index : ExprTree → Select
-  between : ExprTree → ExprTree → Select
+  between : PartKind → ExprTree → ExprTree → Select
 
 abbrev pub select_height : Select → ℕ
 select_height (at_index i) = height i
-select_height (between a b) = max (height a) (height b)
+select_height (between kind a b) = max (height a) (height b)
 
-abbrev pub at_bound : ExprTree → ExprTree → List Token → Outcome Select
-at_bound a b = closed BracketClose (between a b)
+abbrev pub at_bound : PartKind → ExprTree → ExprTree → List Token → Outcome Select
+at_bound kind a b = closed BracketClose (between kind a b)
 
-abbrev pub in_bound : Readers → ExprTree → Spot → List Token → Outcome Select
-in_bound r a _ ts = then_read (r.expr ts) (at_bound a)
+abbrev pub in_bound : Readers → ExprTree → Divider → List Token → Outcome Select
+in_bound r a d ts = then_read (r.expr ts) (at_bound d.kind a)
 
-abbrev pub at_range : Readers → ExprTree → List Token → Outcome Select
-at_range r a = expect (mark_in Colon) (in_bound r a)
+abbrev pub at_part : Readers → ExprTree → List Token → Outcome Select
+at_part r a = expect divider_in (in_bound r a)
 
 abbrev pub behind_index : Readers → ExprTree → List Token → Outcome Select
-behind_index r a = next (mark_in BracketClose) (λ _. done (at_index a)) (at_range r a)
+behind_index r a = next (mark_in BracketClose) (λ _. done (at_index a)) (at_part r a)
 
 abbrev pub select : Readers → List Token → Outcome Select
 select r ts = then_read (r.expr ts) (behind_index r)
 
 abbrev pub selected : List ℕ → Select → ExprTree
 selected n (at_index i) = index n i
-selected n (between a b) = part n a b
+selected n (between kind a b) = part n kind a b
 
 abbrev pub with_select : Named → Select → List Token → Outcome ExprTree
 with_select n s = done (selected n.name s)

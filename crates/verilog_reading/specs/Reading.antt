@@ -2,19 +2,22 @@
 use Rattle.std.specs.Prelude.{ℕ, zero, suc, ◌≡◌, Some, List, [], ◌∷◌, ◌++◌}
 use Rattle.verilog_lex.specs.declared.token.Token.{Token}
 use Rattle.verilog_lex.specs.declared.marks.MarkKind.TheVariants.{ParenOpen, ParenClose, BracketOpen, BracketClose, BraceOpen, BraceClose, Comma, Colon, Question}
+use Rattle.verilog_ast.specs.declared.PartKind.{PartKind}
+use Rattle.verilog_ast.specs.declared.PartKind.TheVariants as kind
 use Rattle.verilog_reading.specs.Lexemes.{Spot, mark, Named, ident, Numeral, numeral}
+use Rattle.verilog_reading.specs.Parts.{part_mark}
 use Rattle.verilog_reading.specs.Operators.{Prefix, prefix, unary_of, Joint, joint, joins, levels}
 use Rattle.verilog_reading.specs.ExprTree.{ExprTree, number, name, index, part, unary, binary, choice, join, repeat, paren, ExprTrees, no_trees, and_trees, TargetTree, whole, index_of, part_of, join_of, TargetTrees, no_parts, and_parts}
 
 mutual
-  -- `primary = number | id | id "[" expr "]" | id range | "(" expr ")" | "{" expr { , expr } "}" | "{" expr "{" expr { , expr } "}" "}"`,
+  -- `primary = number | id | id "[" expr "]" | id part | "(" expr ")" | "{" expr { , expr } "}" | "{" expr "{" expr { , expr } "}" "}"`,
   -- or a unary operator before a unary expression
   pub data IsUnary : List Token → ExprTree → Type 0 where
     is_number : (n : Numeral) → IsUnary (numeral n ∷ []) (number n.value n.width n.size)
     is_name : (n : Named) → IsUnary (ident n ∷ []) (name n.name)
     is_index : (n : Named) (p q : Spot) {u : List Token} {i : ExprTree} → IsExpr u i
         → IsUnary (ident n ∷ (mark BracketOpen p ∷ (u ++ mark BracketClose q ∷ []))) (index n.name i)
-    is_part : (n : Named) {u : List Token} {a b : ExprTree} → IsRange u a b → IsUnary (ident n ∷ u) (part n.name a b)
+    is_part : (n : Named) {kind : PartKind} {u : List Token} {a b : ExprTree} → IsPart kind u a b → IsUnary (ident n ∷ u) (part n.name kind a b)
     is_paren : (p q : Spot) {u : List Token} {a : ExprTree} → IsExpr u a → IsUnary (mark ParenOpen p ∷ (u ++ mark ParenClose q ∷ [])) (paren a)
     is_join : (p q : Spot) {u v : List Token} {a : ExprTree} {bs : ExprTrees} → IsExpr u a → AreMoreExprs v bs
         → IsUnary (mark BraceOpen p ∷ (u ++ (v ++ mark BraceClose q ∷ []))) (join (and_trees a bs))
@@ -40,18 +43,22 @@ mutual
     no_exprs : AreMoreExprs [] no_trees
     more_exprs : (p : Spot) {u v : List Token} {a : ExprTree} {bs : ExprTrees} → IsExpr u a → AreMoreExprs v bs → AreMoreExprs (mark Comma p ∷ (u ++ v)) (and_trees a bs)
 
-  -- `range = "[" expr : expr "]"`
-  pub data IsRange : List Token → ExprTree → ExprTree → Type 0 where
-    is_range : (p o q : Spot) {u v : List Token} {a b : ExprTree} → IsExpr u a → IsExpr v b
-        → IsRange (mark BracketOpen p ∷ (u ++ mark Colon o ∷ (v ++ mark BracketClose q ∷ []))) a b
+  -- `part = "[" expr ( : | +: | -: ) expr "]"`
+  pub data IsPart : PartKind → List Token → ExprTree → ExprTree → Type 0 where
+    are_bounds : {kind : PartKind} (p o q : Spot) {u v : List Token} {a b : ExprTree} → IsExpr u a → IsExpr v b
+        → IsPart kind (mark BracketOpen p ∷ (u ++ mark (part_mark kind) o ∷ (v ++ mark BracketClose q ∷ []))) a b
+
+-- `range = "[" expr : expr "]"`
+abbrev pub IsRange : List Token → ExprTree → ExprTree → Type 0
+IsRange u a b = IsPart kind.Range u a b
 
 mutual
-  -- `target = id | id "[" expr "]" | id range | "{" target { , target } "}"`
+  -- `target = id | id "[" expr "]" | id part | "{" target { , target } "}"`
   pub data IsTarget : List Token → TargetTree → Type 0 where
     is_whole : (n : Named) → IsTarget (ident n ∷ []) (whole n.name)
     is_index_of : (n : Named) (p q : Spot) {u : List Token} {i : ExprTree} → IsExpr u i
         → IsTarget (ident n ∷ (mark BracketOpen p ∷ (u ++ mark BracketClose q ∷ []))) (index_of n.name i)
-    is_part_of : (n : Named) {u : List Token} {a b : ExprTree} → IsRange u a b → IsTarget (ident n ∷ u) (part_of n.name a b)
+    is_part_of : (n : Named) {kind : PartKind} {u : List Token} {a b : ExprTree} → IsPart kind u a b → IsTarget (ident n ∷ u) (part_of n.name kind a b)
     is_join_of : (p q : Spot) {u v : List Token} {a : TargetTree} {bs : TargetTrees} → IsTarget u a → AreMoreTargets v bs
         → IsTarget (mark BraceOpen p ∷ (u ++ (v ++ mark BraceClose q ∷ []))) (join_of (and_parts a bs))
 

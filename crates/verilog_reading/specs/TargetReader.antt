@@ -15,7 +15,7 @@ pub record Below : Type 0 where
 
 abbrev pub aimed : List ℕ → Select → TargetTree
 aimed n (at_index i) = index_of n i
-aimed n (between a b) = part_of n a b
+aimed n (between kind a b) = part_of n kind a b
 
 abbrev pub with_aim : Named → Select → List Token → Outcome TargetTree
 with_aim n s = done (aimed n.name s)

@@ -2,33 +2,34 @@
 use Rattle.std.proofs.Common.{◌≡◌, ℕ, zero, suc, ◌+◌, ◌≤◌, Bool, true, false, List, [], ◌∷◌, ◌++◌, map, length, Option, Some, None, refl, sym, ap, subst, ◌∙◌, arith, rules, if◌then◌else◌}
 use Rattle.std.proofs.lemmas.Bool.{false≢true}
 use Rattle.cdc_base.specs.declared.words.Keyword.{Keyword}
-use Rattle.cdc_base.specs.declared.words.Keyword.TheVariants.{If, Else, Case, EndCase, Default, Begin, End}
+use Rattle.cdc_base.specs.declared.words.Keyword.TheVariants.{If, Else, Case, CaseZ, EndCase, Default, Begin, End}
 use Rattle.verilog_ast.specs.declared.CaseItem.{CaseItem}
-use Rattle.verilog_ast.specs.declared.Expr.{Expr}
+use Rattle.verilog_ast.specs.declared.Delay.{Delay}
 use Rattle.verilog_ast.specs.declared.Stmt.{Stmt}
 use Rattle.verilog_exprs.specs.declared.halt.Halt.{Halt}
 use Rattle.verilog_exprs.specs.declared.halt.Halt.TheVariants.{Refused}
-use Rattle.verilog_exprs.specs.Forms.{exprs_at}
 use Rattle.verilog_exprs.specs.Halts.{HaltsAs}
 use Rattle.verilog_exprs.specs.Next.{Takes, Lacks}
 use Rattle.verilog_exprs.proofs.Steps.{halts_then, halts_by, halts_at, halts_for_memory, then_done, next_takes, next_lacks, deep_takes, enter_some, enter_none, enter_lacks, descend_some, descend_none, descend_lacks, expect_halts}
 use Rattle.verilog_lex.specs.declared.token.Token.{Token}
 use Rattle.verilog_lex.specs.declared.token.TokenKind.{TokenKind}
 use Rattle.verilog_lex.specs.declared.token.TokenKind.TheVariants.{Word, Ident, Mark}
-use Rattle.verilog_lex.specs.declared.token.TokenKind.TheVariants as kinds
-use Rattle.verilog_lex.specs.declared.marks.MarkKind.TheVariants.{ParenOpen, ParenClose, BraceOpen, Comma, Colon, Semicolon, Equals, LessEqual}
+use Rattle.verilog_lex.specs.declared.marks.MarkKind.TheVariants.{ParenOpen, ParenClose, BraceOpen, Comma, Colon, Semicolon}
 use Rattle.verilog_reading.specs.Lexemes.{Spot, spot_of, mark_in, word_in, mark_of, word_of, ident_in}
-use Rattle.verilog_reading.specs.ExprTree.{ExprTree, tree_of, TargetTree}
+use Rattle.verilog_reading.specs.ExprTree.{ExprTree, TargetTree}
 use Rattle.verilog_reading.specs.Outcome.{Outcome, done, stop, then_read, on_option, next, expect, refuse, deep, enter, descend}
 use Rattle.verilog_reading.specs.Lists.{more, many}
 use Rattle.verilog_reading.specs.Reader.{readers, closed}
 use Rattle.verilog_reading.specs.TargetReader.{read_target}
-use Rattle.verilog_reading.specs.StmtReader.{target_of, target_in, start_of, start_in, Ending, ending_of, ending_in, Lower, lower, at_semicolon, in_value, at_assignment, in_set, in_else, at_else, in_if, in_case, arm_end, in_arm, more_labels, arm, case_end, behind_default, default_body, in_default, at_ending, more_items, first_item, block_end, block_rows, at_label_name, in_block, stmt_at, read_stmt}
-use Rattle.verilog_reading.specs.StmtTree.{StmtTree, null, set, when, either, switch, switch_else, block, no_rows, stmt_tree_of, stmt_trees_of, ArmTree, arms_before, arms_of, takes_else}
+use Rattle.verilog_reading.specs.StmtReader.{target_of, target_in, start_of, start_in, Ending, ending_of, ending_in, CaseHead, case_head, masks_of, as_case, case_of, case_in, Lower, lower, at_semicolon, at_assignment, in_set, in_else, at_else, in_if, in_case, label, arm_end, in_arm, more_labels, arm, case_end, behind_default, default_body, in_default, at_ending, more_items, first_item, block_end, block_rows, at_label_name, in_block, stmt_at, read_stmt}
+use Rattle.verilog_reading.specs.StmtTree.{StmtTree, null, set, when, either, switch, switch_else, block, no_rows, stmt_tree_of, stmt_trees_of, Subject as SubjectTree, subject_of, LabelTree, ArmTree, arms_before, arms_of, takes_else}
 use Rattle.verilog_reading.proofs.StmtLocal.{eats_stmts, eats_arms}
 use Rattle.verilog_reading.proofs.Tests.{mark_is, word_is}
-use Rattle.verilog_stmts.specs.Forms.{condition_at, if_at, case_at, compound_at, arm_tree_of, ArmsBehind}
+use Rattle.verilog_reading.proofs.StmtSays.{case_is}
+use Rattle.verilog_stmts.specs.Forms.{condition_at, if_at, case_at, compound_at, labels_at, subject_tree, arm_tree_of, ArmsBehind}
+use Rattle.verilog_stmts.specs.declared.make.Subject.{Subject}
 use Rattle.verilog_stmts.specs.Levels.{lower_in}
+use Rattle.verilog_stmts.proofs.AssignmentSteps.{GoesToValue}
 use Rattle.verilog_stmts.proofs.ListSteps.{Rows, rows_behind, rows_none, rows_more, rows_halts, rows_end}
 
 -- what begins a statement
@@ -46,16 +47,27 @@ semicolon_starts s ts rest w = record { token = w.token; is = w.is; finds = ap s
 pub word_starts : (x : Keyword) (s : Spot) (ts rest : List Token) → start_of (Word x) ≡ Some tt → Takes (word_in x) s ts rest → Takes start_in tt ts rest
 word_starts x s ts rest e w = record { token = w.token; is = w.is; finds = ap start_in (word_is x w.token s w.finds) ∙ e }
 
-no_start : (k : TokenKind) (s : Spot) → mark_of Semicolon k s ≡ None → word_of If k s ≡ None → word_of Case k s ≡ None → word_of Begin k s ≡ None → target_of k ≡ None → start_of k ≡ None
+pub case_found : (w : Keyword) (masks : Bool) (t : Token) → t.kind ≡ Word w → masks_of w ≡ Some masks → case_in t ≡ Some (record { masks = masks; spot = spot_of t })
+case_found w masks t e q = ap (λ k. case_of k (spot_of t)) e ∙ ap (λ o. as_case o (spot_of t)) q
+
+pub case_starts : (i : CaseHead) (ts rest : List Token) → Takes case_in i ts rest → Takes start_in tt ts rest
+case_starts i ts rest w = record { token = w.token; is = w.is; finds = ap start_in (case_is w.token i w.finds) ∙ go i.masks }
+  where
+    go : (masks : Bool) → start_in (case_head (record { masks = masks; spot = i.spot })) ≡ Some tt
+    go true = refl
+    go false = refl
+
+no_start : (k : TokenKind) (s : Spot) → mark_of Semicolon k s ≡ None → word_of If k s ≡ None → case_of k s ≡ None → word_of Begin k s ≡ None → target_of k ≡ None → start_of k ≡ None
 no_start (Ident n) s a b c d e = absurd (search (rules, e))
 no_start (Mark BraceOpen) s a b c d e = absurd (search (rules, e))
 no_start (Mark Semicolon) s a b c d e = absurd (search (rules, a))
 no_start (Word If) s a b c d e = absurd (search (rules, b))
 no_start (Word Case) s a b c d e = absurd (search (rules, c))
+no_start (Word CaseZ) s a b c d e = absurd (search (rules, c))
 no_start (Word Begin) s a b c d e = absurd (search (rules, d))
 no_start k s a b c d e = refl
 
-pub none_starts : (ts : List Token) → Lacks (mark_in Semicolon) ts → Lacks (word_in If) ts → Lacks (word_in Case) ts → Lacks (word_in Begin) ts → Lacks target_in ts → Lacks start_in ts
+pub none_starts : (ts : List Token) → Lacks (mark_in Semicolon) ts → Lacks (word_in If) ts → Lacks case_in ts → Lacks (word_in Begin) ts → Lacks target_in ts → Lacks start_in ts
 none_starts [] a b c d e = record { free = tt }
 none_starts (t ∷ ts) a b c d e = record { free = no_start t.kind (spot_of t) a.free b.free c.free d.free e.free }
 
@@ -99,7 +111,7 @@ abbrev at_begin : Option Lower → List Token → Outcome StmtTree
 at_begin down = next (word_in Begin) (λ _. in_block down) refuse
 
 abbrev at_case : Option Lower → List Token → Outcome StmtTree
-at_case down = enter down (word_in Case) in_case (at_begin down)
+at_case down = enter down case_in in_case (at_begin down)
 
 pub compound_if_deep : (k : ℕ) (ts : List Token) (s : Spot) (inner : List Token) (h : Halt) → Takes (word_in If) s ts inner → k ≤ 0 → h ≡ Refused true (length ts) → HaltsAs (compound_at (lower_in k) ts) h
 compound_if_deep k ts s inner h w i q = halts_at (compound_at (lower_in k) ts) true ts h (enter_none (lower_in k) (word_in If) in_if (at_case (lower_in k)) s ts inner (lower_none k i) w) q
@@ -110,20 +122,21 @@ compound_if k j ts s inner w i = enter_some (lower_in k) (word_in If) in_if (at_
 compound_case_at : (k : ℕ) (ts : List Token) → Lacks (word_in If) ts → compound_at (lower_in k) ts ≡ at_case (lower_in k) ts
 compound_case_at k ts w = enter_lacks (lower_in k) (word_in If) in_if (at_case (lower_in k)) ts w
 
-pub compound_case_deep : (k : ℕ) (ts : List Token) (s : Spot) (inner : List Token) (h : Halt) → Lacks (word_in If) ts → Takes (word_in Case) s ts inner → k ≤ 0 → h ≡ Refused true (length ts)
+pub compound_case_deep : (k : ℕ) (ts : List Token) (i : CaseHead) (inner : List Token) (h : Halt) → Lacks (word_in If) ts → Takes case_in i ts inner → k ≤ 0 → h ≡ Refused true (length ts)
     → HaltsAs (compound_at (lower_in k) ts) h
-compound_case_deep k ts s inner h v w i q = halts_at (compound_at (lower_in k) ts) true ts h (compound_case_at k ts v ∙ enter_none (lower_in k) (word_in Case) in_case (at_begin (lower_in k)) s ts inner (lower_none k i) w) q
+compound_case_deep k ts i inner h v w z q = halts_at (compound_at (lower_in k) ts) true ts h (compound_case_at k ts v ∙ enter_none (lower_in k) case_in in_case (at_begin (lower_in k)) i ts inner (lower_none k z) w) q
 
-pub compound_case : (k j : ℕ) (ts : List Token) (s : Spot) (inner : List Token) → Lacks (word_in If) ts → Takes (word_in Case) s ts inner → j + 1 ≡ k → compound_at (lower_in k) ts ≡ case_at (lower j) inner
-compound_case k j ts s inner v w i = compound_case_at k ts v ∙ enter_some (lower_in k) (word_in Case) in_case (at_begin (lower_in k)) (lower j) s ts inner (lower_some k j i) w
+pub compound_case : (k j : ℕ) (ts : List Token) (masks : Bool) (s : Spot) (inner : List Token) → Lacks (word_in If) ts → Takes case_in (record { masks = masks; spot = s }) ts inner → j + 1 ≡ k
+    → compound_at (lower_in k) ts ≡ case_at (lower j) masks inner
+compound_case k j ts masks s inner v w i = compound_case_at k ts v ∙ enter_some (lower_in k) case_in in_case (at_begin (lower_in k)) (lower j) (record { masks = masks; spot = s }) ts inner (lower_some k j i) w
 
-compound_begin_at : (k : ℕ) (ts : List Token) → Lacks (word_in If) ts → Lacks (word_in Case) ts → compound_at (lower_in k) ts ≡ at_begin (lower_in k) ts
-compound_begin_at k ts v w = compound_case_at k ts v ∙ enter_lacks (lower_in k) (word_in Case) in_case (at_begin (lower_in k)) ts w
+compound_begin_at : (k : ℕ) (ts : List Token) → Lacks (word_in If) ts → Lacks case_in ts → compound_at (lower_in k) ts ≡ at_begin (lower_in k) ts
+compound_begin_at k ts v w = compound_case_at k ts v ∙ enter_lacks (lower_in k) case_in in_case (at_begin (lower_in k)) ts w
 
-pub compound_refused : (k : ℕ) (ts : List Token) (h : Halt) → Lacks (word_in If) ts → Lacks (word_in Case) ts → Lacks (word_in Begin) ts → h ≡ Refused false (length ts) → HaltsAs (compound_at (lower_in k) ts) h
+pub compound_refused : (k : ℕ) (ts : List Token) (h : Halt) → Lacks (word_in If) ts → Lacks case_in ts → Lacks (word_in Begin) ts → h ≡ Refused false (length ts) → HaltsAs (compound_at (lower_in k) ts) h
 compound_refused k ts h u v w q = halts_at (compound_at (lower_in k) ts) false ts h (compound_begin_at k ts u v ∙ next_lacks (word_in Begin) (λ _. in_block (lower_in k)) refuse ts w) q
 
-pub compound_begin : (k : ℕ) (ts : List Token) (s : Spot) (inner : List Token) → Lacks (word_in If) ts → Lacks (word_in Case) ts → Takes (word_in Begin) s ts inner → compound_at (lower_in k) ts ≡ in_block (lower_in k) inner
+pub compound_begin : (k : ℕ) (ts : List Token) (s : Spot) (inner : List Token) → Lacks (word_in If) ts → Lacks case_in ts → Takes (word_in Begin) s ts inner → compound_at (lower_in k) ts ≡ in_block (lower_in k) inner
 compound_begin k ts s inner u v w = compound_begin_at k ts u v ∙ next_takes (word_in Begin) (λ _. in_block (lower_in k)) refuse s ts inner w
 
 pub ruleset compound_steps = (compound_if_deep, compound_case_deep, compound_refused)
@@ -138,42 +151,27 @@ set_begins k ts t mid e = then_done (read_target k ts) (at_assignment (lower k))
 pub set_mark_halts : (k : ℕ) (ts : List Token) (t : TargetTree) (mid : List Token) (h : Halt) → read_target k ts ≡ done t mid → ((l : Lower) (t : TargetTree) → HaltsAs (at_assignment l t mid) h) → HaltsAs (in_set (lower k) ts) h
 set_mark_halts k ts t mid h e x = halts_by (in_set (lower k) ts) (at_assignment (lower k) t mid) h (set_begins k ts t mid e) (x (lower k) t)
 
-abbrev pub GoesToValue : Bool → List Token → List Token → Type 0
-GoesToValue b mid inner = (l : Lower) (t : TargetTree) → at_assignment l t mid ≡ then_read (l.exprs.expr inner) (at_semicolon b t)
+set_value : (k : ℕ) (ts : List Token) (t : TargetTree) (mid : List Token) (b : Bool) (d : Option Delay) (inner : List Token) → read_target k ts ≡ done t mid → GoesToValue b d mid inner
+    → in_set (lower k) ts ≡ then_read ((readers k).expr inner) (at_semicolon b t d)
+set_value k ts t mid b d inner e x = set_begins k ts t mid e ∙ x (lower k) t
 
-set_value : (k : ℕ) (ts : List Token) (t : TargetTree) (mid : List Token) (b : Bool) (inner : List Token) → read_target k ts ≡ done t mid → GoesToValue b mid inner
-    → in_set (lower k) ts ≡ then_read ((readers k).expr inner) (at_semicolon b t)
-set_value k ts t mid b inner e x = set_begins k ts t mid e ∙ x (lower k) t
-
-pub set_value_halts : (k : ℕ) (ts : List Token) (t : TargetTree) (mid : List Token) (b : Bool) (inner : List Token) (h : Halt) → read_target k ts ≡ done t mid → GoesToValue b mid inner
+pub set_value_halts : (k : ℕ) (ts : List Token) (t : TargetTree) (mid : List Token) (b : Bool) (d : Option Delay) (inner : List Token) (h : Halt) → read_target k ts ≡ done t mid → GoesToValue b d mid inner
     → HaltsAs ((readers k).expr inner) h → HaltsAs (in_set (lower k) ts) h
-set_value_halts k ts t mid b inner h e x y = halts_by (in_set (lower k) ts) (then_read ((readers k).expr inner) (at_semicolon b t)) h (set_value k ts t mid b inner e x) (halts_then ((readers k).expr inner) (at_semicolon b t) h y)
+set_value_halts k ts t mid b d inner h e x y = halts_by (in_set (lower k) ts) (then_read ((readers k).expr inner) (at_semicolon b t d)) h (set_value k ts t mid b d inner e x) (halts_then ((readers k).expr inner) (at_semicolon b t d) h y)
 
-set_ends : (k : ℕ) (ts : List Token) (t : TargetTree) (mid : List Token) (b : Bool) (inner : List Token) (v : ExprTree) (last : List Token) → read_target k ts ≡ done t mid → GoesToValue b mid inner
-    → (readers k).expr inner ≡ done v last → in_set (lower k) ts ≡ at_semicolon b t v last
-set_ends k ts t mid b inner v last e x y = set_value k ts t mid b inner e x ∙ then_done ((readers k).expr inner) (at_semicolon b t) v last y
+set_ends : (k : ℕ) (ts : List Token) (t : TargetTree) (mid : List Token) (b : Bool) (d : Option Delay) (inner : List Token) (v : ExprTree) (last : List Token) → read_target k ts ≡ done t mid → GoesToValue b d mid inner
+    → (readers k).expr inner ≡ done v last → in_set (lower k) ts ≡ at_semicolon b t d v last
+set_ends k ts t mid b d inner v last e x y = set_value k ts t mid b d inner e x ∙ then_done ((readers k).expr inner) (at_semicolon b t d) v last y
 
-pub set_open : (k : ℕ) (ts : List Token) (t : TargetTree) (mid : List Token) (b : Bool) (inner : List Token) (v : ExprTree) (last : List Token) (h : Halt) → read_target k ts ≡ done t mid → GoesToValue b mid inner
+pub set_open : (k : ℕ) (ts : List Token) (t : TargetTree) (mid : List Token) (b : Bool) (d : Option Delay) (inner : List Token) (v : ExprTree) (last : List Token) (h : Halt) → read_target k ts ≡ done t mid → GoesToValue b d mid inner
     → (readers k).expr inner ≡ done v last → Lacks (mark_in Semicolon) last → h ≡ Refused false (length last) → HaltsAs (in_set (lower k) ts) h
-set_open k ts t mid b inner v last h e x y w q = halts_by (in_set (lower k) ts) (at_semicolon b t v last) h (set_ends k ts t mid b inner v last e x y) (expect_halts (mark_in Semicolon) (λ _. done (set b t v)) last h w q)
+set_open k ts t mid b d inner v last h e x y w q = halts_by (in_set (lower k) ts) (at_semicolon b t d v last) h (set_ends k ts t mid b d inner v last e x y) (expect_halts (mark_in Semicolon) (λ _. done (set b d t v)) last h w q)
 
-pub set_done : (k : ℕ) (ts : List Token) (t : TargetTree) (mid : List Token) (b : Bool) (inner : List Token) (v : ExprTree) (last : List Token) (s : Spot) (rest : List Token) (d : StmtTree) → read_target k ts ≡ done t mid
-    → GoesToValue b mid inner → (readers k).expr inner ≡ done v last → Takes (mark_in Semicolon) s last rest → d ≡ set b t v → in_set (lower k) ts ≡ done d rest
-set_done k ts t mid b inner v last s rest d e x y w q = set_ends k ts t mid b inner v last e x y ∙ next_takes (mark_in Semicolon) (λ _. done (set b t v)) refuse s last rest w ∙ ap (λ z. done z rest) (sym q)
+pub set_done : (k : ℕ) (ts : List Token) (t : TargetTree) (mid : List Token) (b : Bool) (d : Option Delay) (inner : List Token) (v : ExprTree) (last : List Token) (s : Spot) (rest : List Token) (z : StmtTree) → read_target k ts ≡ done t mid
+    → GoesToValue b d mid inner → (readers k).expr inner ≡ done v last → Takes (mark_in Semicolon) s last rest → z ≡ set b d t v → in_set (lower k) ts ≡ done z rest
+set_done k ts t mid b d inner v last s rest z e x y w q = set_ends k ts t mid b d inner v last e x y ∙ next_takes (mark_in Semicolon) (λ _. done (set b d t v)) refuse s last rest w ∙ ap (λ z. done z rest) (sym q)
 
 pub ruleset set_steps = (set_target_halts, set_mark_halts, set_value_halts, set_open, set_done, takes_none)
-
-pub blocking_goes : (ts : List Token) (s : Spot) (rest : List Token) → Takes (mark_in Equals) s ts rest → GoesToValue true ts rest
-blocking_goes ts s rest w l t = next_takes (mark_in Equals) (in_value l t true) (expect (mark_in LessEqual) (in_value l t false)) s ts rest w
-
-pub nonblocking_goes : (ts : List Token) (s : Spot) (rest : List Token) → Lacks (mark_in Equals) ts → Takes (mark_in LessEqual) s ts rest → GoesToValue false ts rest
-nonblocking_goes ts s rest v w l t = next_lacks (mark_in Equals) (in_value l t true) (expect (mark_in LessEqual) (in_value l t false)) ts v ∙ next_takes (mark_in LessEqual) (in_value l t false) refuse s ts rest w
-
-pub assignment_refused : (ts : List Token) (h : Halt) → Lacks (mark_in Equals) ts → Lacks (mark_in LessEqual) ts → h ≡ Refused false (length ts) → (l : Lower) (t : TargetTree) → HaltsAs (at_assignment l t ts) h
-assignment_refused ts h v w q l t = halts_by (at_assignment l t ts) (expect (mark_in LessEqual) (in_value l t false) ts) h
-    (next_lacks (mark_in Equals) (in_value l t true) (expect (mark_in LessEqual) (in_value l t false)) ts v) (expect_halts (mark_in LessEqual) (in_value l t false) ts h w q)
-
-pub ruleset assignment_steps = (blocking_goes, nonblocking_goes, assignment_refused)
 
 -- conditions
 abbrev close_at : ExprTree → List Token → Outcome ExprTree
@@ -290,40 +288,40 @@ lacks_either s c y z rest e n f = n (sym (ap takes_else e) ∙ f)
 pub ruleset if_steps = (if_condition_halts, if_branch_halts, if_when, if_other_halts, if_either, lacks_either, halts_for_memory)
 
 -- items of a `case`
-abbrev labels_at : ℕ → List ExprTree → List Token → Outcome ArmTree
-labels_at k ls = expect (mark_in Colon) (in_arm (lower k) ls)
+abbrev behind_labels : ℕ → List LabelTree → List Token → Outcome ArmTree
+behind_labels k ls = expect (mark_in Colon) (in_arm (lower k) ls)
 
-arm_groups : (k : ℕ) (o : Outcome ExprTree) → then_read o (more_labels (lower k)) ≡ then_read (then_read o (λ a rest. then_read (more (mark_in Comma) (readers k).expr rest) (λ bs. done (a ∷ bs)))) (labels_at k)
-arm_groups k (stop d rest) = refl
-arm_groups k (done a rest) = go (more (mark_in Comma) (readers k).expr rest)
+arm_groups : (k : ℕ) (m : Bool) (o : Outcome LabelTree) → then_read o (more_labels (lower k) m) ≡ then_read (then_read o (λ a rest. then_read (more (mark_in Comma) (label (lower k) m) rest) (λ bs. done (a ∷ bs)))) (behind_labels k)
+arm_groups k m (stop d rest) = refl
+arm_groups k m (done a rest) = go (more (mark_in Comma) (label (lower k) m) rest)
   where
-    go : (m : Outcome (List ExprTree)) → then_read m (λ bs. expect (mark_in Colon) (in_arm (lower k) (a ∷ bs))) ≡ then_read (then_read m (λ bs. done (a ∷ bs))) (labels_at k)
+    go : (m : Outcome (List LabelTree)) → then_read m (λ bs. expect (mark_in Colon) (in_arm (lower k) (a ∷ bs))) ≡ then_read (then_read m (λ bs. done (a ∷ bs))) (behind_labels k)
     go (stop d last) = refl
     go (done bs last) = refl
 
-arm_is : (k : ℕ) (ts : List Token) → arm (lower k) ts ≡ then_read (exprs_at (readers k) ts) (labels_at k)
-arm_is k ts = arm_groups k ((readers k).expr ts)
+arm_is : (k : ℕ) (m : Bool) (ts : List Token) → arm (lower k) m ts ≡ then_read (labels_at (lower k) m ts) (behind_labels k)
+arm_is k m ts = arm_groups k m (label (lower k) m ts)
 
-pub arm_labels_halt : (k : ℕ) (ts : List Token) (h : Halt) → HaltsAs (exprs_at (readers k) ts) h → HaltsAs (arm (lower k) ts) h
-arm_labels_halt k ts h x = halts_by (arm (lower k) ts) (then_read (exprs_at (readers k) ts) (labels_at k)) h (arm_is k ts) (halts_then (exprs_at (readers k) ts) (labels_at k) h x)
+pub arm_labels_halt : (k : ℕ) (m : Bool) (ts : List Token) (h : Halt) → HaltsAs (labels_at (lower k) m ts) h → HaltsAs (arm (lower k) m ts) h
+arm_labels_halt k m ts h x = halts_by (arm (lower k) m ts) (then_read (labels_at (lower k) m ts) (behind_labels k)) h (arm_is k m ts) (halts_then (labels_at (lower k) m ts) (behind_labels k) h x)
 
-arm_colon : (k : ℕ) (ts : List Token) (ls : List ExprTree) (mid : List Token) → exprs_at (readers k) ts ≡ done ls mid → arm (lower k) ts ≡ labels_at k ls mid
-arm_colon k ts ls mid e = arm_is k ts ∙ then_done (exprs_at (readers k) ts) (labels_at k) ls mid e
+arm_colon : (k : ℕ) (m : Bool) (ts : List Token) (ls : List LabelTree) (mid : List Token) → labels_at (lower k) m ts ≡ done ls mid → arm (lower k) m ts ≡ behind_labels k ls mid
+arm_colon k m ts ls mid e = arm_is k m ts ∙ then_done (labels_at (lower k) m ts) (behind_labels k) ls mid e
 
-pub arm_colon_halts : (k : ℕ) (ts : List Token) (ls : List ExprTree) (mid : List Token) (h : Halt) → exprs_at (readers k) ts ≡ done ls mid → Lacks (mark_in Colon) mid → h ≡ Refused false (length mid) → HaltsAs (arm (lower k) ts) h
-arm_colon_halts k ts ls mid h e w q = halts_by (arm (lower k) ts) (labels_at k ls mid) h (arm_colon k ts ls mid e) (expect_halts (mark_in Colon) (in_arm (lower k) ls) mid h w q)
+pub arm_colon_halts : (k : ℕ) (m : Bool) (ts : List Token) (ls : List LabelTree) (mid : List Token) (h : Halt) → labels_at (lower k) m ts ≡ done ls mid → Lacks (mark_in Colon) mid → h ≡ Refused false (length mid) → HaltsAs (arm (lower k) m ts) h
+arm_colon_halts k m ts ls mid h e w q = halts_by (arm (lower k) m ts) (behind_labels k ls mid) h (arm_colon k m ts ls mid e) (expect_halts (mark_in Colon) (in_arm (lower k) ls) mid h w q)
 
-arm_body : (k : ℕ) (ts : List Token) (ls : List ExprTree) (mid : List Token) (s : Spot) (inner : List Token) → exprs_at (readers k) ts ≡ done ls mid → Takes (mark_in Colon) s mid inner
-    → arm (lower k) ts ≡ then_read (read_stmt k inner) (arm_end ls)
-arm_body k ts ls mid s inner e w = arm_colon k ts ls mid e ∙ next_takes (mark_in Colon) (in_arm (lower k) ls) refuse s mid inner w
+arm_body : (k : ℕ) (m : Bool) (ts : List Token) (ls : List LabelTree) (mid : List Token) (s : Spot) (inner : List Token) → labels_at (lower k) m ts ≡ done ls mid → Takes (mark_in Colon) s mid inner
+    → arm (lower k) m ts ≡ then_read (read_stmt k inner) (arm_end ls)
+arm_body k m ts ls mid s inner e w = arm_colon k m ts ls mid e ∙ next_takes (mark_in Colon) (in_arm (lower k) ls) refuse s mid inner w
 
-pub arm_body_halts : (k : ℕ) (ts : List Token) (ls : List ExprTree) (mid : List Token) (s : Spot) (inner : List Token) (h : Halt) → exprs_at (readers k) ts ≡ done ls mid → Takes (mark_in Colon) s mid inner
-    → HaltsAs (read_stmt k inner) h → HaltsAs (arm (lower k) ts) h
-arm_body_halts k ts ls mid s inner h e w x = halts_by (arm (lower k) ts) (then_read (read_stmt k inner) (arm_end ls)) h (arm_body k ts ls mid s inner e w) (halts_then (read_stmt k inner) (arm_end ls) h x)
+pub arm_body_halts : (k : ℕ) (m : Bool) (ts : List Token) (ls : List LabelTree) (mid : List Token) (s : Spot) (inner : List Token) (h : Halt) → labels_at (lower k) m ts ≡ done ls mid → Takes (mark_in Colon) s mid inner
+    → HaltsAs (read_stmt k inner) h → HaltsAs (arm (lower k) m ts) h
+arm_body_halts k m ts ls mid s inner h e w x = halts_by (arm (lower k) m ts) (then_read (read_stmt k inner) (arm_end ls)) h (arm_body k m ts ls mid s inner e w) (halts_then (read_stmt k inner) (arm_end ls) h x)
 
-pub arm_done : (k : ℕ) (ts : List Token) (ls : List ExprTree) (mid : List Token) (s : Spot) (inner : List Token) (b : StmtTree) (rest : List Token) (d : ArmTree) → exprs_at (readers k) ts ≡ done ls mid → Takes (mark_in Colon) s mid inner
-    → read_stmt k inner ≡ done b rest → d ≡ record { labels = ls; body = b } → arm (lower k) ts ≡ done d rest
-arm_done k ts ls mid s inner b rest d e w x q = arm_body k ts ls mid s inner e w ∙ then_done (read_stmt k inner) (arm_end ls) b rest x ∙ ap (λ z. done z rest) (sym q)
+pub arm_done : (k : ℕ) (m : Bool) (ts : List Token) (ls : List LabelTree) (mid : List Token) (s : Spot) (inner : List Token) (b : StmtTree) (rest : List Token) (d : ArmTree) → labels_at (lower k) m ts ≡ done ls mid → Takes (mark_in Colon) s mid inner
+    → read_stmt k inner ≡ done b rest → d ≡ record { labels = ls; body = b } → arm (lower k) m ts ≡ done d rest
+arm_done k m ts ls mid s inner b rest d e w x q = arm_body k m ts ls mid s inner e w ∙ then_done (read_stmt k inner) (arm_end ls) b rest x ∙ ap (λ z. done z rest) (sym q)
 
 pub ruleset arm_steps = (arm_labels_halt, arm_colon_halts, arm_body_halts, arm_done)
 
@@ -344,133 +342,136 @@ none_ends [] v w = record { free = tt }
 none_ends (t ∷ ts) v w = record { free = no_ending t.kind (spot_of t) v.free w.free }
 
 -- how far the items before `default` are read
-pub record Items (k : ℕ) (c : ExprTree) (whole : Outcome StmtTree) (xs : List CaseItem) (rest : List Token) : Type 0 where
+pub record Items (k : ℕ) (c : SubjectTree) (whole : Outcome StmtTree) (xs : List CaseItem) (rest : List Token) : Type 0 where
   pub first : ArmTree
   pub start : List Token
-  pub whole_is : whole ≡ then_read (many ending_in (arm (lower k)) start) (at_ending (lower k) c first)
-  pub lists : Rows arm_tree_of ending_in (arm (lower k)) (many ending_in (arm (lower k)) start) (first ∷ []) xs rest
+  pub whole_is : whole ≡ then_read (many ending_in (arm (lower k) c.masks) start) (at_ending (lower k) c first)
+  pub lists : Rows arm_tree_of ending_in (arm (lower k) c.masks) (many ending_in (arm (lower k) c.masks) start) (first ∷ []) xs rest
 
-pub items_first_halts : (k : ℕ) (c : ExprTree) (ts : List Token) (h : Halt) → HaltsAs (arm (lower k) ts) h → HaltsAs (first_item (lower k) c ts) h
-items_first_halts k c ts h x = halts_then (arm (lower k) ts) (more_items (lower k) c) h x
+pub items_first_halts : (k : ℕ) (c : SubjectTree) (ts : List Token) (h : Halt) → HaltsAs (arm (lower k) c.masks ts) h → HaltsAs (first_item (lower k) c ts) h
+items_first_halts k c ts h x = halts_then (arm (lower k) c.masks ts) (more_items (lower k) c) h x
 
-pub items_first : (k : ℕ) (c : ExprTree) (ts : List Token) (x : CaseItem) (xs : List CaseItem) (rest : List Token) → arm (lower k) ts ≡ done (arm_tree_of x) rest → xs ≡ x ∷ [] → Items k c (first_item (lower k) c ts) xs rest
+pub items_first : (k : ℕ) (c : SubjectTree) (ts : List Token) (x : CaseItem) (xs : List CaseItem) (rest : List Token) → arm (lower k) c.masks ts ≡ done (arm_tree_of x) rest → xs ≡ x ∷ [] → Items k c (first_item (lower k) c ts) xs rest
 items_first k c ts x xs rest e q = record {
   first = arm_tree_of x;
   start = rest;
-  whole_is = then_done (arm (lower k) ts) (more_items (lower k) c) (arm_tree_of x) rest e;
-  lists = subst (λ b. Rows arm_tree_of ending_in (arm (lower k)) (many ending_in (arm (lower k)) rest) b xs rest) (ap (map arm_tree_of) q) (rows_behind arm_tree_of ending_in (arm (lower k)) xs rest);
+  whole_is = then_done (arm (lower k) c.masks ts) (more_items (lower k) c) (arm_tree_of x) rest e;
+  lists = subst (λ b. Rows arm_tree_of ending_in (arm (lower k) c.masks) (many ending_in (arm (lower k) c.masks) rest) b xs rest) (ap (map arm_tree_of) q) (rows_behind arm_tree_of ending_in (arm (lower k) c.masks) xs rest);
 }
 
-pub items_more : (k : ℕ) (c : ExprTree) (whole : Outcome StmtTree) (xs ys : List CaseItem) (ts : List Token) (x : CaseItem) (rest : List Token) → Items k c whole xs ts → Lacks (word_in EndCase) ts → Lacks (word_in Default) ts
-    → arm (lower k) ts ≡ done (arm_tree_of x) rest → ys ≡ xs ++ x ∷ [] → Items k c whole ys rest
+pub items_more : (k : ℕ) (c : SubjectTree) (whole : Outcome StmtTree) (xs ys : List CaseItem) (ts : List Token) (x : CaseItem) (rest : List Token) → Items k c whole xs ts → Lacks (word_in EndCase) ts → Lacks (word_in Default) ts
+    → arm (lower k) c.masks ts ≡ done (arm_tree_of x) rest → ys ≡ xs ++ x ∷ [] → Items k c whole ys rest
 items_more k c whole xs ys ts x rest g v w e q = record {
   first = g.first;
   start = g.start;
   whole_is = g.whole_is;
-  lists = rows_more arm_tree_of ending_in (arm (lower k)) (eats_arms k) (many ending_in (arm (lower k)) g.start) (g.first ∷ []) xs ys ts x rest g.lists (none_ends ts v w) e q;
+  lists = rows_more arm_tree_of ending_in (arm (lower k) c.masks) (eats_arms k c.masks) (many ending_in (arm (lower k) c.masks) g.start) (g.first ∷ []) xs ys ts x rest g.lists (none_ends ts v w) e q;
 }
 
-pub items_halt : (k : ℕ) (c : ExprTree) (whole : Outcome StmtTree) (xs : List CaseItem) (ts : List Token) (h : Halt) → Items k c whole xs ts → Lacks (word_in EndCase) ts → Lacks (word_in Default) ts → HaltsAs (arm (lower k) ts) h
+pub items_halt : (k : ℕ) (c : SubjectTree) (whole : Outcome StmtTree) (xs : List CaseItem) (ts : List Token) (h : Halt) → Items k c whole xs ts → Lacks (word_in EndCase) ts → Lacks (word_in Default) ts → HaltsAs (arm (lower k) c.masks ts) h
     → HaltsAs whole h
-items_halt k c whole xs ts h g v w x = halts_by whole (then_read (many ending_in (arm (lower k)) g.start) (at_ending (lower k) c g.first)) h g.whole_is
-    (halts_then (many ending_in (arm (lower k)) g.start) (at_ending (lower k) c g.first) h
-    (rows_halts arm_tree_of ending_in (arm (lower k)) (many ending_in (arm (lower k)) g.start) (g.first ∷ []) xs ts h g.lists (none_ends ts v w) x))
+items_halt k c whole xs ts h g v w x = halts_by whole (then_read (many ending_in (arm (lower k) c.masks) g.start) (at_ending (lower k) c g.first)) h g.whole_is
+    (halts_then (many ending_in (arm (lower k) c.masks) g.start) (at_ending (lower k) c g.first) h
+    (rows_halts arm_tree_of ending_in (arm (lower k) c.masks) (many ending_in (arm (lower k) c.masks) g.start) (g.first ∷ []) xs ts h g.lists (none_ends ts v w) x))
 
-items_stop : (k : ℕ) (c : ExprTree) (whole : Outcome StmtTree) (xs : List CaseItem) (ts : List Token) (e : Ending) (rest : List Token) → (g : Items k c whole xs ts) → Takes ending_in e ts rest
+items_stop : (k : ℕ) (c : SubjectTree) (whole : Outcome StmtTree) (xs : List CaseItem) (ts : List Token) (e : Ending) (rest : List Token) → (g : Items k c whole xs ts) → Takes ending_in e ts rest
     → whole ≡ at_ending (lower k) c g.first (g.lists.rows, e) rest
-items_stop k c whole xs ts e rest g w = g.whole_is ∙ then_done (many ending_in (arm (lower k)) g.start) (at_ending (lower k) c g.first) (g.lists.rows, e) rest
-    (rows_end arm_tree_of ending_in (arm (lower k)) (many ending_in (arm (lower k)) g.start) (g.first ∷ []) xs e ts rest g.lists w)
+items_stop k c whole xs ts e rest g w = g.whole_is ∙ then_done (many ending_in (arm (lower k) c.masks) g.start) (at_ending (lower k) c g.first) (g.lists.rows, e) rest
+    (rows_end arm_tree_of ending_in (arm (lower k) c.masks) (many ending_in (arm (lower k) c.masks) g.start) (g.first ∷ []) xs e ts rest g.lists w)
 
-pub items_end : (k : ℕ) (x y : Expr) (whole : Outcome StmtTree) (xs : List CaseItem) (ts : List Token) (s : Spot) (rest : List Token) (d : StmtTree) → Items k (tree_of y) whole xs ts → Takes (word_in EndCase) s ts rest
-    → d ≡ switch (tree_of x) (arms_of (map arm_tree_of xs)) → x ≡ y → whole ≡ done d rest
-items_end k x y whole xs ts s rest d g w q e = items_stop k (tree_of y) whole xs ts (record { last = true; spot = s }) rest g (end_ends s ts rest w)
-    ∙ ap (λ z. done (switch (tree_of y) (arms_of z)) rest) (sym g.lists.all) ∙ ap (λ z. done z rest) (sym (q ∙ ap (λ z. switch (tree_of z) (arms_of (map arm_tree_of xs))) e))
+pub items_end : (k : ℕ) (x y : Subject) (whole : Outcome StmtTree) (xs : List CaseItem) (ts : List Token) (s : Spot) (rest : List Token) (d : StmtTree) → Items k (subject_tree y) whole xs ts → Takes (word_in EndCase) s ts rest
+    → d ≡ switch (subject_tree x) (arms_of (map arm_tree_of xs)) → x ≡ y → whole ≡ done d rest
+items_end k x y whole xs ts s rest d g w q e = items_stop k (subject_tree y) whole xs ts (record { last = true; spot = s }) rest g (end_ends s ts rest w)
+    ∙ ap (λ z. done (switch (subject_tree y) (arms_of z)) rest) (sym g.lists.all) ∙ ap (λ z. done z rest) (sym (q ∙ ap (λ z. switch (subject_tree z) (arms_of (map arm_tree_of xs))) e))
 
-pub items_default : (k : ℕ) (x y : Expr) (whole : Outcome StmtTree) (xs : List CaseItem) (ts : List Token) (s : Spot) (inner : List Token) → Items k (tree_of y) whole xs ts → Takes (word_in Default) s ts inner → x ≡ y
-    → whole ≡ in_default (lower k) (tree_of x) (map arm_tree_of xs) inner
-items_default k x y whole xs ts s inner g w e = items_stop k (tree_of y) whole xs ts (record { last = false; spot = s }) inner g (default_ends s ts inner w)
-    ∙ ap (λ z. in_default (lower k) (tree_of y) z inner) (sym g.lists.all) ∙ ap (λ z. in_default (lower k) (tree_of z) (map arm_tree_of xs) inner) (sym e)
+pub items_default : (k : ℕ) (x y : Subject) (whole : Outcome StmtTree) (xs : List CaseItem) (ts : List Token) (s : Spot) (inner : List Token) → Items k (subject_tree y) whole xs ts → Takes (word_in Default) s ts inner → x ≡ y
+    → whole ≡ in_default (lower k) (subject_tree x) (map arm_tree_of xs) inner
+items_default k x y whole xs ts s inner g w e = items_stop k (subject_tree y) whole xs ts (record { last = false; spot = s }) inner g (default_ends s ts inner w)
+    ∙ ap (λ z. in_default (lower k) (subject_tree y) z inner) (sym g.lists.all) ∙ ap (λ z. in_default (lower k) (subject_tree z) (map arm_tree_of xs) inner) (sym e)
 
 pub ruleset items_steps = (items_first_halts, items_first, items_more, items_halt, items_end, halts_for_memory, takes_none)
 
 -- `case`
-abbrev subject_at : ℕ → ExprTree → List Token → Outcome StmtTree
+abbrev subject_at : ℕ → SubjectTree → List Token → Outcome StmtTree
 subject_at k c = next (word_in Default) (λ _. in_default (lower k) c []) (first_item (lower k) c)
 
-case_is : (k : ℕ) (ts : List Token) → case_at (lower k) ts ≡ then_read (condition_at (lower k) ts) (subject_at k)
-case_is k ts = behind_condition k (subject_at k) ts
+abbrev of_subject : ℕ → Bool → ExprTree → List Token → Outcome StmtTree
+of_subject k m c = subject_at k (subject_of m c)
 
-pub case_subject_halts : (k : ℕ) (ts : List Token) (h : Halt) → HaltsAs (condition_at (lower k) ts) h → HaltsAs (case_at (lower k) ts) h
-case_subject_halts k ts h x = halts_by (case_at (lower k) ts) (then_read (condition_at (lower k) ts) (subject_at k)) h (case_is k ts) (halts_then (condition_at (lower k) ts) (subject_at k) h x)
+case_reads : (k : ℕ) (m : Bool) (ts : List Token) → case_at (lower k) m ts ≡ then_read (condition_at (lower k) ts) (of_subject k m)
+case_reads k m ts = behind_condition k (of_subject k m) ts
 
-case_begins : (k : ℕ) (ts : List Token) (c : ExprTree) (mid : List Token) → condition_at (lower k) ts ≡ done c mid → case_at (lower k) ts ≡ subject_at k c mid
-case_begins k ts c mid e = case_is k ts ∙ then_done (condition_at (lower k) ts) (subject_at k) c mid e
+pub case_subject_halts : (k : ℕ) (m : Bool) (ts : List Token) (h : Halt) → HaltsAs (condition_at (lower k) ts) h → HaltsAs (case_at (lower k) m ts) h
+case_subject_halts k m ts h x = halts_by (case_at (lower k) m ts) (then_read (condition_at (lower k) ts) (of_subject k m)) h (case_reads k m ts) (halts_then (condition_at (lower k) ts) (of_subject k m) h x)
 
-pub case_default : (k : ℕ) (ts : List Token) (c : ExprTree) (mid : List Token) (s : Spot) (inner : List Token) (xs : List CaseItem) → condition_at (lower k) ts ≡ done c mid → Takes (word_in Default) s mid inner → xs ≡ []
-    → case_at (lower k) ts ≡ in_default (lower k) c (map arm_tree_of xs) inner
-case_default k ts c mid s inner xs e w q = case_begins k ts c mid e ∙ next_takes (word_in Default) (λ _. in_default (lower k) c []) (first_item (lower k) c) s mid inner w
-    ∙ ap (λ z. in_default (lower k) c (map arm_tree_of z) inner) (sym q)
+case_begins : (k : ℕ) (m : Bool) (ts : List Token) (c : ExprTree) (mid : List Token) → condition_at (lower k) ts ≡ done c mid → case_at (lower k) m ts ≡ of_subject k m c mid
+case_begins k m ts c mid e = case_reads k m ts ∙ then_done (condition_at (lower k) ts) (of_subject k m) c mid e
 
-pub case_items : (k : ℕ) (ts : List Token) (c : ExprTree) (mid : List Token) → condition_at (lower k) ts ≡ done c mid → Lacks (word_in Default) mid → case_at (lower k) ts ≡ first_item (lower k) c mid
-case_items k ts c mid e w = case_begins k ts c mid e ∙ next_lacks (word_in Default) (λ _. in_default (lower k) c []) (first_item (lower k) c) mid w
+pub case_default : (k : ℕ) (m : Bool) (ts : List Token) (c : ExprTree) (mid : List Token) (s : Spot) (inner : List Token) (xs : List CaseItem) → condition_at (lower k) ts ≡ done c mid → Takes (word_in Default) s mid inner → xs ≡ []
+    → case_at (lower k) m ts ≡ in_default (lower k) (subject_of m c) (map arm_tree_of xs) inner
+case_default k m ts c mid s inner xs e w q = case_begins k m ts c mid e ∙ next_takes (word_in Default) (λ _. in_default (lower k) (subject_of m c) []) (first_item (lower k) (subject_of m c)) s mid inner w
+    ∙ ap (λ z. in_default (lower k) (subject_of m c) (map arm_tree_of z) inner) (sym q)
+
+pub case_items : (k : ℕ) (m : Bool) (ts : List Token) (c : ExprTree) (mid : List Token) → condition_at (lower k) ts ≡ done c mid → Lacks (word_in Default) mid → case_at (lower k) m ts ≡ first_item (lower k) (subject_of m c) mid
+case_items k m ts c mid e w = case_begins k m ts c mid e ∙ next_lacks (word_in Default) (λ _. in_default (lower k) (subject_of m c) []) (first_item (lower k) (subject_of m c)) mid w
 
 pub ruleset case_steps = (case_subject_halts, halts_for_memory)
 
 -- behind `default`
-pub colon_goes : (ts : List Token) (s : Spot) (rest : List Token) → Takes (mark_in Colon) s ts rest → (l : Lower) (c : ExprTree) (b : List ArmTree) → in_default l c b ts ≡ default_body l c b rest
+pub colon_goes : (ts : List Token) (s : Spot) (rest : List Token) → Takes (mark_in Colon) s ts rest → (l : Lower) (c : SubjectTree) (b : List ArmTree) → in_default l c b ts ≡ default_body l c b rest
 colon_goes ts s rest w l c b = next_takes (mark_in Colon) (λ _. default_body l c b) (default_body l c b) s ts rest w
 
-pub no_colon_goes : (ts : List Token) → Lacks (mark_in Colon) ts → (l : Lower) (c : ExprTree) (b : List ArmTree) → in_default l c b ts ≡ default_body l c b ts
+pub no_colon_goes : (ts : List Token) → Lacks (mark_in Colon) ts → (l : Lower) (c : SubjectTree) (b : List ArmTree) → in_default l c b ts ≡ default_body l c b ts
 no_colon_goes ts w l c b = next_lacks (mark_in Colon) (λ _. default_body l c b) (default_body l c b) ts w
 
 pub ruleset colon_steps = (colon_goes, no_colon_goes)
 
 abbrev pub GoesToBody : List Token → List Token → Type 0
-GoesToBody ts inner = (l : Lower) (c : ExprTree) (b : List ArmTree) → in_default l c b ts ≡ default_body l c b inner
+GoesToBody ts inner = (l : Lower) (c : SubjectTree) (b : List ArmTree) → in_default l c b ts ≡ default_body l c b inner
 
-pub default_body_halts : (k : ℕ) (c : ExprTree) (b : List ArmTree) (ts inner : List Token) (h : Halt) → GoesToBody ts inner → HaltsAs (read_stmt k inner) h → HaltsAs (in_default (lower k) c b ts) h
+pub default_body_halts : (k : ℕ) (c : SubjectTree) (b : List ArmTree) (ts inner : List Token) (h : Halt) → GoesToBody ts inner → HaltsAs (read_stmt k inner) h → HaltsAs (in_default (lower k) c b ts) h
 default_body_halts k c b ts inner h e x = halts_by (in_default (lower k) c b ts) (default_body (lower k) c b inner) h (e (lower k) c b) (halts_then (read_stmt k inner) (behind_default (lower k) c b) h x)
 
-default_rows : (k : ℕ) (c : ExprTree) (b : List ArmTree) (ts inner : List Token) (d : StmtTree) (mid : List Token) → GoesToBody ts inner → read_stmt k inner ≡ done d mid
-    → in_default (lower k) c b ts ≡ then_read (many (word_in EndCase) (arm (lower k)) mid) (case_end c b d)
+default_rows : (k : ℕ) (c : SubjectTree) (b : List ArmTree) (ts inner : List Token) (d : StmtTree) (mid : List Token) → GoesToBody ts inner → read_stmt k inner ≡ done d mid
+    → in_default (lower k) c b ts ≡ then_read (many (word_in EndCase) (arm (lower k) c.masks) mid) (case_end c b d)
 default_rows k c b ts inner d mid e x = e (lower k) c b ∙ then_done (read_stmt k inner) (behind_default (lower k) c b) d mid x
 
-pub default_rows_halt : (k : ℕ) (c : ExprTree) (b : List ArmTree) (ts inner : List Token) (d : StmtTree) (mid : List Token) (h : Halt) → GoesToBody ts inner → read_stmt k inner ≡ done d mid
-    → HaltsAs (many (word_in EndCase) (arm (lower k)) mid) h → HaltsAs (in_default (lower k) c b ts) h
-default_rows_halt k c b ts inner d mid h e x y = halts_by (in_default (lower k) c b ts) (then_read (many (word_in EndCase) (arm (lower k)) mid) (case_end c b d)) h (default_rows k c b ts inner d mid e x)
-    (halts_then (many (word_in EndCase) (arm (lower k)) mid) (case_end c b d) h y)
+pub default_rows_halt : (k : ℕ) (c : SubjectTree) (b : List ArmTree) (ts inner : List Token) (d : StmtTree) (mid : List Token) (h : Halt) → GoesToBody ts inner → read_stmt k inner ≡ done d mid
+    → HaltsAs (many (word_in EndCase) (arm (lower k) c.masks) mid) h → HaltsAs (in_default (lower k) c b ts) h
+default_rows_halt k c b ts inner d mid h e x y = halts_by (in_default (lower k) c b ts) (then_read (many (word_in EndCase) (arm (lower k) c.masks) mid) (case_end c b d)) h (default_rows k c b ts inner d mid e x)
+    (halts_then (many (word_in EndCase) (arm (lower k) c.masks) mid) (case_end c b d) h y)
 
 arms_join : (bs cs : List ArmTree) → arms_of (bs ++ cs) ≡ arms_before bs (arms_of cs)
 arms_join [] cs = refl
 arms_join (b ∷ bs) cs = search (rules, arms_join bs cs)
 
-pub default_done : (k : ℕ) (c : ExprTree) (b : List ArmTree) (ts inner : List Token) (d : StmtTree) (mid : List Token) (all : List ArmTree) (rest : List Token) (e : StmtTree) → GoesToBody ts inner → read_stmt k inner ≡ done d mid
-    → ArmsBehind (lower k) mid b all rest → e ≡ switch_else c (arms_of all) d → in_default (lower k) c b ts ≡ done e rest
-default_done k c b ts inner d mid all rest e f x y q = default_rows k c b ts inner d mid f x ∙ then_done (many (word_in EndCase) (arm (lower k)) mid) (case_end c b d) (y.rows, y.spot) rest y.reads
+pub default_done : (k : ℕ) (c : SubjectTree) (b : List ArmTree) (ts inner : List Token) (d : StmtTree) (mid : List Token) (all : List ArmTree) (rest : List Token) (e : StmtTree) → GoesToBody ts inner → read_stmt k inner ≡ done d mid
+    → ArmsBehind (lower k) c.masks mid b all rest → e ≡ switch_else c (arms_of all) d → in_default (lower k) c b ts ≡ done e rest
+default_done k c b ts inner d mid all rest e f x y q = default_rows k c b ts inner d mid f x ∙ then_done (many (word_in EndCase) (arm (lower k) c.masks) mid) (case_end c b d) (y.rows, y.spot) rest y.reads
     ∙ ap (λ z. done (switch_else c z d) rest) (sym (arms_join b y.rows)) ∙ ap (λ z. done (switch_else c (arms_of z) d) rest) (sym y.joined) ∙ ap (λ z. done z rest) (sym q)
 
 pub ruleset default_steps = (default_body_halts, default_rows_halt, default_done, halts_for_memory, takes_none)
 
-abbrev pub ArmRows : ℕ → Outcome (List ArmTree × Spot) → List ArmTree → List CaseItem → List Token → Type 0
-ArmRows k whole base xs rest = Rows arm_tree_of (word_in EndCase) (arm (lower k)) whole base xs rest
+abbrev pub ArmRows : ℕ → Bool → Outcome (List ArmTree × Spot) → List ArmTree → List CaseItem → List Token → Type 0
+ArmRows k m whole base xs rest = Rows arm_tree_of (word_in EndCase) (arm (lower k) m) whole base xs rest
 
-pub last_items_none : (k : ℕ) (xs : List CaseItem) (ts : List Token) → ArmRows k (many (word_in EndCase) (arm (lower k)) ts) (map arm_tree_of xs) xs ts
-last_items_none k xs ts = rows_behind arm_tree_of (word_in EndCase) (arm (lower k)) xs ts
+pub last_items_none : (k : ℕ) (m : Bool) (xs : List CaseItem) (ts : List Token) → ArmRows k m (many (word_in EndCase) (arm (lower k) m) ts) (map arm_tree_of xs) xs ts
+last_items_none k m xs ts = rows_behind arm_tree_of (word_in EndCase) (arm (lower k) m) xs ts
 
-pub last_items_more : (k : ℕ) (whole : Outcome (List ArmTree × Spot)) (base : List ArmTree) (xs ys : List CaseItem) (ts : List Token) (x : CaseItem) (rest : List Token) → ArmRows k whole base xs ts → Lacks (word_in EndCase) ts
-    → arm (lower k) ts ≡ done (arm_tree_of x) rest → ys ≡ xs ++ x ∷ [] → ArmRows k whole base ys rest
-last_items_more k whole base xs ys ts x rest g w e q = rows_more arm_tree_of (word_in EndCase) (arm (lower k)) (eats_arms k) whole base xs ys ts x rest g w e q
+pub last_items_more : (k : ℕ) (m : Bool) (whole : Outcome (List ArmTree × Spot)) (base : List ArmTree) (xs ys : List CaseItem) (ts : List Token) (x : CaseItem) (rest : List Token) → ArmRows k m whole base xs ts → Lacks (word_in EndCase) ts
+    → arm (lower k) m ts ≡ done (arm_tree_of x) rest → ys ≡ xs ++ x ∷ [] → ArmRows k m whole base ys rest
+last_items_more k m whole base xs ys ts x rest g w e q = rows_more arm_tree_of (word_in EndCase) (arm (lower k) m) (eats_arms k m) whole base xs ys ts x rest g w e q
 
-pub last_items_halt : (k : ℕ) (whole : Outcome (List ArmTree × Spot)) (base : List ArmTree) (xs : List CaseItem) (ts : List Token) (h : Halt) → ArmRows k whole base xs ts → Lacks (word_in EndCase) ts → HaltsAs (arm (lower k) ts) h
+pub last_items_halt : (k : ℕ) (m : Bool) (whole : Outcome (List ArmTree × Spot)) (base : List ArmTree) (xs : List CaseItem) (ts : List Token) (h : Halt) → ArmRows k m whole base xs ts → Lacks (word_in EndCase) ts → HaltsAs (arm (lower k) m ts) h
     → HaltsAs whole h
-last_items_halt k whole base xs ts h g w x = rows_halts arm_tree_of (word_in EndCase) (arm (lower k)) whole base xs ts h g w x
+last_items_halt k m whole base xs ts h g w x = rows_halts arm_tree_of (word_in EndCase) (arm (lower k) m) whole base xs ts h g w x
 
-pub last_items_end : (k : ℕ) (start : List Token) (base : List ArmTree) (xs : List CaseItem) (ts : List Token) (s : Spot) (rest : List Token) → ArmRows k (many (word_in EndCase) (arm (lower k)) start) base xs ts
-    → Takes (word_in EndCase) s ts rest → ArmsBehind (lower k) start base (map arm_tree_of xs) rest
-last_items_end k start base xs ts s rest g w = record {
+pub last_items_end : (k : ℕ) (m : Bool) (start : List Token) (base : List ArmTree) (xs : List CaseItem) (ts : List Token) (s : Spot) (rest : List Token) → ArmRows k m (many (word_in EndCase) (arm (lower k) m) start) base xs ts
+    → Takes (word_in EndCase) s ts rest → ArmsBehind (lower k) m start base (map arm_tree_of xs) rest
+last_items_end k m start base xs ts s rest g w = record {
   rows = g.rows;
   spot = s;
-  reads = rows_end arm_tree_of (word_in EndCase) (arm (lower k)) (many (word_in EndCase) (arm (lower k)) start) base xs s ts rest g w;
+  reads = rows_end arm_tree_of (word_in EndCase) (arm (lower k) m) (many (word_in EndCase) (arm (lower k) m) start) base xs s ts rest g w;
   joined = g.all;
 }
 

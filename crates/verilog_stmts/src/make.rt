@@ -2,13 +2,21 @@
 ghost use Rattle.std.specs.Prelude.{◌≡◌, map, IfOk};
 ghost use Rattle.verilog_exprs.specs.Selected.{selection_of};
 ghost use Rattle.verilog_reading.specs.ExprTree.{tree_of, target_tree_of, target_trees_of, whole, join_of};
-ghost use Rattle.verilog_reading.specs.StmtTree.{stmt_tree_of, stmt_trees_of, null, set, when, either, switch, switch_else, block, arms_of};
+ghost use Rattle.verilog_reading.specs.StmtTree.{stmt_tree_of, stmt_trees_of, null, set, when, either, switch, switch_else, block, label_tree_of, by_value, by_mask, arms_of};
 ghost use Rattle.verilog_reading.specs.TargetReader.{aimed};
-ghost use Rattle.verilog_stmts.specs.Forms.{arm_tree_of};
+ghost use Rattle.verilog_stmts.specs.Forms.{subject_tree, arm_tree_of};
 
 use cdc_base::{List, Name, NoMemory};
 use std::alloc::Global;
-use verilog_ast::{CaseItem, Expr, Stmt, Target};
+use verilog_ast::{CaseItem, Delay, Expr, Label, Stmt, Target};
+use verilog_exprs::make::PartEnd;
+
+/// What a `case` compares, and whether masks may be among its labels.
+#[derive(Drop)]
+pub struct Subject {
+    pub masks: bool,
+    pub value: Expr,
+}
 
 pub fn make_whole(name: Name) -> Target
     ensures { target_tree_of result ≡ whole name }
@@ -17,15 +25,16 @@ pub fn make_whole(name: Name) -> Target
 }
 
 /// The bit at the index, or the part from the index to `right`.
-pub fn make_aimed(name: Name, index: Expr, right: Option<Expr>) -> Target
+pub fn make_aimed(name: Name, index: Expr, right: Option<PartEnd>) -> Target
     ensures { target_tree_of result ≡ aimed name (selection_of index right) }
 {
     match right {
         None => Target::At { name, index },
         Some(right) => Target::Part {
             name,
+            kind: right.kind,
             left: index,
-            right,
+            right: right.expr,
         },
     }
 }
@@ -51,11 +60,12 @@ pub fn make_null() -> Stmt
     Stmt::Null
 }
 
-pub fn make_set(blocking: bool, target: Target, value: Expr) -> Stmt
-    ensures { stmt_tree_of result ≡ set blocking (target_tree_of target) (tree_of value) }
+pub fn make_set(blocking: bool, delay: Option<Delay>, target: Target, value: Expr) -> Stmt
+    ensures { stmt_tree_of result ≡ set blocking delay (target_tree_of target) (tree_of value) }
 {
     Stmt::Set {
         blocking,
+        delay,
         target,
         value,
     }
@@ -81,18 +91,31 @@ pub fn make_either(alloc: Global, cond: Expr, yes: Stmt, other: Stmt) -> Result<
     })
 }
 
-pub fn make_arm(labels: List<Expr>, body: Stmt) -> CaseItem
-    ensures { arm_tree_of result ≡ record { labels = map tree_of labels; body = stmt_tree_of body } }
+pub fn make_value(value: Expr) -> Label
+    ensures { label_tree_of result ≡ by_value (tree_of value) }
+{
+    Label::Value(value)
+}
+
+pub fn make_mask(value: u64, open: u64, width: u8) -> Label
+    ensures { label_tree_of result ≡ by_mask value «open» width }
+{
+    Label::Mask { value, open, width }
+}
+
+pub fn make_arm(labels: List<Label>, body: Stmt) -> CaseItem
+    ensures { arm_tree_of result ≡ record { labels = map label_tree_of labels; body = stmt_tree_of body } }
 {
     CaseItem { labels, body }
 }
 
 /// A `case` without a `default`.
-pub fn make_switch(subject: Expr, items: List<CaseItem>) -> Stmt
-    ensures { stmt_tree_of result ≡ switch (tree_of subject) (arms_of (map arm_tree_of items)) }
+pub fn make_switch(subject: Subject, items: List<CaseItem>) -> Stmt
+    ensures { stmt_tree_of result ≡ switch (subject_tree subject) (arms_of (map arm_tree_of items)) }
 {
     Stmt::Case {
-        subject,
+        masks: subject.masks,
+        subject: subject.value,
         items,
         default: None,
     }
@@ -101,14 +124,15 @@ pub fn make_switch(subject: Expr, items: List<CaseItem>) -> Stmt
 /// A `case` with a `default`.
 pub fn make_switch_else(
     alloc: Global,
-    subject: Expr,
+    subject: Subject,
     items: List<CaseItem>,
     body: Stmt,
 ) -> Result<Stmt, NoMemory>
-    ensures { IfOk result (λ s. stmt_tree_of s ≡ switch_else (tree_of subject) (arms_of (map arm_tree_of items)) (stmt_tree_of body)) }
+    ensures { IfOk result (λ s. stmt_tree_of s ≡ switch_else (subject_tree subject) (arms_of (map arm_tree_of items)) (stmt_tree_of body)) }
 {
     Ok(Stmt::Case {
-        subject,
+        masks: subject.masks,
+        subject: subject.value,
         items,
         default: Some(boxed_stmt(alloc, body)?),
     })

@@ -1,30 +1,33 @@
 //! Statements. `left` counts the levels that are left below the first of the statement.
-ghost use Rattle.std.specs.Prelude.{List, ◌≡◌, ◌≤◌, ◌<◌, true, false, map, length, Option, IfOk, IfErr};
+ghost use Rattle.std.specs.Prelude.{List, ◌≡◌, ◌≤◌, ◌<◌, true, false, map, length, Option, IfOk, IfErr, IfSome, IfNone};
 ghost use Rattle.cdc_base.specs.declared.words.Keyword.TheVariants.{Else, EndCase, End};
 ghost use Rattle.verilog_exprs.specs.Halts.{HaltsAs};
 ghost use Rattle.verilog_exprs.specs.Next.{Takes, Lacks};
 ghost use Rattle.verilog_lex.specs.declared.token.Token.{Token};
-ghost use Rattle.verilog_reading.specs.ExprTree.{ExprTree, TargetTree, tree_of};
+ghost use Rattle.verilog_reading.specs.ExprTree.{tree_of};
 ghost use Rattle.verilog_reading.specs.Lexemes.{Spot, word_in};
 ghost use Rattle.verilog_reading.specs.Lists.{many};
-ghost use Rattle.verilog_reading.specs.Outcome.{done, then_read};
-ghost use Rattle.verilog_reading.specs.StmtReader.{read_stmt as stmt_reader, Lower, lower, in_set, at_assignment, at_semicolon, start_in, arm, in_default, default_body, first_item, in_block, block_rows};
-ghost use Rattle.verilog_reading.specs.StmtTree.{ArmTree, stmt_tree_of, takes_else};
-ghost use Rattle.verilog_stmts.specs.Forms.{condition_at, if_at, case_at, compound_at, arm_tree_of, ArmsBehind};
+ghost use Rattle.verilog_reading.specs.Outcome.{done};
+ghost use Rattle.verilog_reading.specs.StmtReader as reader;
+ghost use Rattle.verilog_reading.specs.StmtReader.{read_stmt as stmt_reader, Lower, lower, in_set, start_in, case_in, arm, in_default, default_body, first_item, in_block, block_rows};
+ghost use Rattle.verilog_reading.specs.StmtTree.{Subject as SubjectTree, ArmTree, stmt_tree_of, takes_else};
+ghost use Rattle.verilog_stmts.specs.Forms.{condition_at, if_at, case_at, compound_at, subject_tree, arm_tree_of, ArmsBehind};
 ghost use Rattle.verilog_stmts.specs.Levels.{lower_in};
 
+use crate::assignment::past_assignment;
+use crate::label::read_labels;
 use crate::make::{
-    make_arm, make_block, make_either, make_null, make_set, make_switch, make_switch_else,
+    Subject, make_arm, make_block, make_either, make_null, make_set, make_switch, make_switch_else,
     make_when,
 };
 use crate::target::{read_target, starts_target};
 use cdc_base::List;
 use std::alloc::Global;
 use verilog_ast::{CaseItem, Expr, Stmt};
-use verilog_exprs::expr::{read_expr, read_exprs};
+use verilog_exprs::expr::read_expr;
 use verilog_exprs::halt::{Halt, deeper, refused};
 use verilog_exprs::tokens::{Read, after_mark, after_word, past_ident, past_mark, past_word};
-use verilog_lex::{Keyword, MarkKind, Token};
+use verilog_lex::{Keyword, MarkKind, Token, TokenKind};
 
 /// Whether a statement begins with the next token.
 fn starts_stmt(tokens: &[Token]) -> bool
@@ -33,9 +36,35 @@ fn starts_stmt(tokens: &[Token]) -> bool
 {
     after_mark(tokens, MarkKind::Semicolon).is_some()
         || after_word(tokens, Keyword::If).is_some()
-        || after_word(tokens, Keyword::Case).is_some()
+        || after_case(tokens).is_some()
         || after_word(tokens, Keyword::Begin).is_some()
         || starts_target(tokens)
+}
+
+fn masks_of(word: Keyword) -> Option<bool>
+    ensures { result ≡ reader.masks_of word }
+{
+    match word {
+        Keyword::Case => Some(false),
+        Keyword::CaseZ => Some(true),
+        _ => None,
+    }
+}
+
+/// Whether masks may be among the labels of the `case` or `casez` that stands next, and the tokens behind its word.
+fn after_case(tokens: &[Token]) -> Option<(bool, &[Token])>
+    ensures found { IfSome result (λ p. (s : Spot) × Takes case_in (record { masks = p.0; spot = s }) tokens.now p.1.now) }
+    ensures free { IfNone result (Lacks case_in tokens.now) }
+    ensures shorter { IfSome result (λ p. length p.1.now < length tokens.now) }
+{
+    let (first, rest) = tokens.split_first()?;
+    let TokenKind::Word(word) = first.kind else {
+        return None;
+    };
+    match masks_of(word) {
+        Some(masks) => Some((masks, rest)),
+        None => None,
+    }
 }
 
 /// `stmt`
@@ -60,7 +89,7 @@ pub fn read_stmt<'a>(alloc: Global, tokens: &'a [Token], left: u32) -> Result<Re
     read_compound(alloc, tokens, left)
 }
 
-/// `if`, `case` or `begin`, and what stands behind it.
+/// `if`, `case`, `casez` or `begin`, and what stands behind it.
 #[tactic(auto, using(crate::proofs::StmtSteps::compound_steps))]
 #[cycle(stmt)]
 fn read_compound<'a>(alloc: Global, tokens: &'a [Token], left: u32) -> Result<Read<'a, Stmt>, Halt>
@@ -73,9 +102,9 @@ fn read_compound<'a>(alloc: Global, tokens: &'a [Token], left: u32) -> Result<Re
         let below = deeper(left, 0, tokens)?;
         return read_if(alloc, inner, below);
     }
-    if let Some(inner) = after_word(tokens, Keyword::Case) {
+    if let Some((masks, inner)) = after_case(tokens) {
         let below = deeper(left, 0, tokens)?;
-        return read_case(alloc, inner, below);
+        return read_case(alloc, masks, inner, below);
     }
     let inner = past_word(tokens, Keyword::Begin)?;
     read_block(alloc, inner, left)
@@ -90,27 +119,13 @@ fn read_set<'a>(alloc: Global, tokens: &'a [Token], left: u32) -> Result<Read<'a
     ensures shorter { IfOk result (λ r. length r.rest.now < length tokens.now) }
 {
     let target = read_target(alloc, tokens, left)?;
-    let (blocking, inner) = past_assignment(target.rest)?;
-    let value = read_expr(alloc, inner, left)?;
+    let assigned = past_assignment(alloc, target.rest)?;
+    let value = read_expr(alloc, assigned.rest, left)?;
     let rest = past_mark(value.rest, MarkKind::Semicolon)?;
     Ok(Read {
-        item: make_set(blocking, target.item, value.expr),
+        item: make_set(assigned.blocking, assigned.delay, target.item, value.expr),
         rest,
     })
-}
-
-/// Whether a blocking assignment follows, or one that does not block, and the tokens behind its mark.
-#[tactic(auto, using(crate::proofs::StmtSteps::assignment_steps))]
-fn past_assignment(tokens: &[Token]) -> Result<(bool, &[Token]), Halt>
-    ensures found { IfOk result (λ p. (l : Lower) (t : TargetTree) → at_assignment l t tokens.now ≡ then_read (l.exprs.expr p.1.now) (at_semicolon p.0 t)) }
-    ensures halts { IfErr result (λ h. (l : Lower) (t : TargetTree) → HaltsAs (at_assignment l t tokens.now) h) }
-    ensures shorter { IfOk result (λ p. length p.1.now < length tokens.now) }
-{
-    if let Some(rest) = after_mark(tokens, MarkKind::Equals) {
-        return Ok((true, rest));
-    }
-    let rest = past_mark(tokens, MarkKind::LessEqual)?;
-    Ok((false, rest))
 }
 
 /// An expression in parentheses that belong to the statement around it.
@@ -153,19 +168,28 @@ fn read_if<'a>(alloc: Global, tokens: &'a [Token], left: u32) -> Result<Read<'a,
     })
 }
 
-/// What stands behind `case`.
+/// What stands behind `case` or `casez`.
 #[tactic(auto, using(crate::proofs::StmtSteps::case_steps))]
 #[cycle(stmt)]
-fn read_case<'a>(alloc: Global, tokens: &'a [Token], left: u32) -> Result<Read<'a, Stmt>, Halt>
-    ensures read { IfOk result (λ r. case_at (lower left) tokens.now ≡ done (stmt_tree_of r.item) r.rest.now) }
-    ensures halts { IfErr result (λ h. HaltsAs (case_at (lower left) tokens.now) h) }
+fn read_case<'a>(
+    alloc: Global,
+    masks: bool,
+    tokens: &'a [Token],
+    left: u32,
+) -> Result<Read<'a, Stmt>, Halt>
+    ensures read { IfOk result (λ r. case_at (lower left) masks tokens.now ≡ done (stmt_tree_of r.item) r.rest.now) }
+    ensures halts { IfErr result (λ h. HaltsAs (case_at (lower left) masks tokens.now) h) }
     ensures nearest { IfOk result (λ r. takes_else (stmt_tree_of r.item) ≡ true → Lacks (word_in Else) r.rest.now) }
     ensures shorter { IfOk result (λ r. length r.rest.now < length tokens.now) }
 {
-    let subject = read_condition(alloc, tokens, left)?;
-    match after_word(subject.rest, Keyword::Default) {
-        Some(inner) => read_default(alloc, subject.item, List::new(alloc), inner, left),
-        None => read_items(alloc, subject.item, subject.rest, left),
+    let compared = read_condition(alloc, tokens, left)?;
+    let subject = Subject {
+        masks,
+        value: compared.item,
+    };
+    match after_word(compared.rest, Keyword::Default) {
+        Some(inner) => read_default(alloc, subject, List::new(alloc), inner, left),
+        None => read_items(alloc, subject, compared.rest, left),
     }
 }
 
@@ -174,16 +198,17 @@ fn read_case<'a>(alloc: Global, tokens: &'a [Token], left: u32) -> Result<Read<'
 #[cycle(stmt)]
 fn read_items<'a>(
     alloc: Global,
-    subject: Expr,
+    subject: Subject,
     tokens: &'a [Token],
     left: u32,
 ) -> Result<Read<'a, Stmt>, Halt>
-    ensures read { IfOk result (λ r. first_item (lower left) (tree_of subject) tokens.now ≡ done (stmt_tree_of r.item) r.rest.now) }
-    ensures halts { IfErr result (λ h. HaltsAs (first_item (lower left) (tree_of subject) tokens.now) h) }
+    ensures read { IfOk result (λ r. first_item (lower left) (subject_tree subject) tokens.now ≡ done (stmt_tree_of r.item) r.rest.now) }
+    ensures halts { IfErr result (λ h. HaltsAs (first_item (lower left) (subject_tree subject) tokens.now) h) }
     ensures nearest { IfOk result (λ r. takes_else (stmt_tree_of r.item) ≡ true → Lacks (word_in Else) r.rest.now) }
     ensures shorter { IfOk result (λ r. length r.rest.now < length tokens.now) }
 {
-    let first = read_arm(alloc, tokens, left)?;
+    let masks = subject.masks;
+    let first = read_arm(alloc, masks, tokens, left)?;
     let mut items = List::new(alloc);
     items.push(first.item)?;
     let mut rest = first.rest;
@@ -197,7 +222,7 @@ fn read_items<'a>(
         if let Some(after) = after_word(rest, Keyword::Default) {
             return read_default(alloc, subject, items, after, left);
         }
-        let next = read_arm(alloc, rest, left)?;
+        let next = read_arm(alloc, masks, rest, left)?;
         items.push(next.item)?;
         rest = next.rest;
     }
@@ -208,18 +233,18 @@ fn read_items<'a>(
 #[cycle(stmt)]
 fn read_default<'a>(
     alloc: Global,
-    subject: Expr,
+    subject: Subject,
     items: List<CaseItem>,
     tokens: &'a [Token],
     left: u32,
 ) -> Result<Read<'a, Stmt>, Halt>
-    ensures read { IfOk result (λ r. in_default (lower left) (tree_of subject) (map arm_tree_of items) tokens.now ≡ done (stmt_tree_of r.item) r.rest.now) }
-    ensures halts { IfErr result (λ h. HaltsAs (in_default (lower left) (tree_of subject) (map arm_tree_of items) tokens.now) h) }
+    ensures read { IfOk result (λ r. in_default (lower left) (subject_tree subject) (map arm_tree_of items) tokens.now ≡ done (stmt_tree_of r.item) r.rest.now) }
+    ensures halts { IfErr result (λ h. HaltsAs (in_default (lower left) (subject_tree subject) (map arm_tree_of items) tokens.now) h) }
     ensures nearest { IfOk result (λ r. takes_else (stmt_tree_of r.item) ≡ true → Lacks (word_in Else) r.rest.now) }
     ensures shorter { IfOk result (λ r. length r.rest.now < length tokens.now) }
 {
     let body = read_stmt(alloc, without_colon(tokens), left)?;
-    let all = read_last_items(alloc, items, body.rest, left)?;
+    let all = read_last_items(alloc, subject.masks, items, body.rest, left)?;
     Ok(Read {
         item: make_switch_else(alloc, subject, all.item, body.item)?,
         rest: all.rest,
@@ -229,7 +254,7 @@ fn read_default<'a>(
 /// The tokens behind a colon, or all of them where none stands next.
 #[tactic(auto, using(crate::proofs::StmtSteps::colon_steps))]
 fn without_colon(tokens: &[Token]) -> &[Token]
-    ensures found { (l : Lower) (c : ExprTree) (b : List ArmTree) → in_default l c b tokens.now ≡ default_body l c b result.now }
+    ensures found { (l : Lower) (c : SubjectTree) (b : List ArmTree) → in_default l c b tokens.now ≡ default_body l c b result.now }
     ensures shorter { length result.now ≤ length tokens.now }
 {
     match after_mark(tokens, MarkKind::Colon) {
@@ -243,12 +268,13 @@ fn without_colon(tokens: &[Token]) -> &[Token]
 #[cycle(stmt)]
 fn read_last_items<'a>(
     alloc: Global,
+    masks: bool,
     before: List<CaseItem>,
     tokens: &'a [Token],
     left: u32,
 ) -> Result<Read<'a, List<CaseItem>>, Halt>
-    ensures read { IfOk result (λ r. ArmsBehind (lower left) tokens.now (map arm_tree_of before) (map arm_tree_of r.item) r.rest.now) }
-    ensures halts { IfErr result (λ h. HaltsAs (many (word_in EndCase) (arm (lower left)) tokens.now) h) }
+    ensures read { IfOk result (λ r. ArmsBehind (lower left) masks tokens.now (map arm_tree_of before) (map arm_tree_of r.item) r.rest.now) }
+    ensures halts { IfErr result (λ h. HaltsAs (many (word_in EndCase) (arm (lower left) masks) tokens.now) h) }
     ensures shorter { IfOk result (λ r. length r.rest.now < length tokens.now) }
 {
     let mut items = before;
@@ -260,7 +286,7 @@ fn read_last_items<'a>(
                 rest: after,
             });
         }
-        let next = read_arm(alloc, rest, left)?;
+        let next = read_arm(alloc, masks, rest, left)?;
         items.push(next.item)?;
         rest = next.rest;
     }
@@ -269,16 +295,21 @@ fn read_last_items<'a>(
 /// Labels, and the statement that they lead to.
 #[tactic(auto, using(crate::proofs::StmtSteps::arm_steps))]
 #[cycle(stmt)]
-fn read_arm<'a>(alloc: Global, tokens: &'a [Token], left: u32) -> Result<Read<'a, CaseItem>, Halt>
-    ensures read { IfOk result (λ r. arm (lower left) tokens.now ≡ done (arm_tree_of r.item) r.rest.now) }
-    ensures halts { IfErr result (λ h. HaltsAs (arm (lower left) tokens.now) h) }
+fn read_arm<'a>(
+    alloc: Global,
+    masks: bool,
+    tokens: &'a [Token],
+    left: u32,
+) -> Result<Read<'a, CaseItem>, Halt>
+    ensures read { IfOk result (λ r. arm (lower left) masks tokens.now ≡ done (arm_tree_of r.item) r.rest.now) }
+    ensures halts { IfErr result (λ h. HaltsAs (arm (lower left) masks tokens.now) h) }
     ensures shorter { IfOk result (λ r. length r.rest.now < length tokens.now) }
 {
-    let labels = read_exprs(alloc, tokens, left)?;
+    let labels = read_labels(alloc, masks, tokens, left)?;
     let inner = past_mark(labels.rest, MarkKind::Colon)?;
     let body = read_stmt(alloc, inner, left)?;
     Ok(Read {
-        item: make_arm(labels.exprs, body.item),
+        item: make_arm(labels.item, body.item),
         rest: body.rest,
     })
 }

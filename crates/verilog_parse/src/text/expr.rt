@@ -3,7 +3,7 @@ ghost use Rattle.std.specs.Prelude.{IfOk, map};
 ghost use Rattle.verilog_parse.specs.Texts.{printed_expr, printed_target};
 ghost use Rattle.verilog_parse.specs.Printed.{Adds, with_commas};
 
-use crate::text::spelling::{binary_mark, unary_mark};
+use crate::text::spelling::{binary_mark, part_mark, unary_mark};
 use crate::text::token::{put_comma, put_mark, put_name, put_number};
 use cdc_base::NoMemory;
 use std::alloc::Global;
@@ -23,11 +23,16 @@ pub fn put_expr(alloc: Global, out: &mut Vec<u8>, expr: &Expr) -> Result<(), NoM
             put_expr(alloc, out, index)?;
             put_mark(out, MarkKind::BracketClose)
         }
-        Expr::Part { name, left, right } => {
+        Expr::Part {
+            name,
+            kind,
+            left,
+            right,
+        } => {
             put_name(out, name)?;
             put_mark(out, MarkKind::BracketOpen)?;
             put_expr(alloc, out, left)?;
-            put_mark(out, MarkKind::Colon)?;
+            put_mark(out, part_mark(*kind))?;
             put_expr(alloc, out, right)?;
             put_mark(out, MarkKind::BracketClose)
         }
@@ -92,11 +97,16 @@ pub fn put_target(alloc: Global, out: &mut Vec<u8>, target: &Target) -> Result<(
             put_expr(alloc, out, index)?;
             put_mark(out, MarkKind::BracketClose)
         }
-        Target::Part { name, left, right } => {
+        Target::Part {
+            name,
+            kind,
+            left,
+            right,
+        } => {
             put_name(out, name)?;
             put_mark(out, MarkKind::BracketOpen)?;
             put_expr(alloc, out, left)?;
-            put_mark(out, MarkKind::Colon)?;
+            put_mark(out, part_mark(*kind))?;
             put_expr(alloc, out, right)?;
             put_mark(out, MarkKind::BracketClose)
         }

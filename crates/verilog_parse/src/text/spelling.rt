@@ -1,9 +1,10 @@
 //! How words and marks are written.
 ghost use Rattle.std.specs.Prelude.{◌≡◌};
 ghost use Rattle.verilog_parse.specs.Pieces as pieces;
+ghost use Rattle.verilog_reading.specs.Parts as parts;
 ghost use Rattle.verilog_parse.specs.Printed.{spelled_word, spelled_mark};
 
-use verilog_ast::{BinaryOp, UnaryOp};
+use verilog_ast::{BinaryOp, PartKind, UnaryOp};
 use verilog_lex::{Keyword, MarkKind};
 
 pub fn word_text(word: Keyword) -> &'static [u8]
@@ -16,6 +17,7 @@ pub fn word_text(word: Keyword) -> &'static [u8]
         Keyword::Begin => b"begin",
         Keyword::Buf => b"buf",
         Keyword::Case => b"case",
+        Keyword::CaseZ => b"casez",
         Keyword::Default => b"default",
         Keyword::Else => b"else",
         Keyword::End => b"end",
@@ -95,6 +97,7 @@ pub fn unary_mark(op: UnaryOp) -> MarkKind
     ensures { result ≡ pieces.unary_mark op }
 {
     match op {
+        UnaryOp::Minus => MarkKind::Minus,
         UnaryOp::Not => MarkKind::Tilde,
         UnaryOp::LogicNot => MarkKind::Bang,
         UnaryOp::And => MarkKind::Ampersand,
@@ -103,6 +106,17 @@ pub fn unary_mark(op: UnaryOp) -> MarkKind
         UnaryOp::Nand => MarkKind::TildeAmpersand,
         UnaryOp::Nor => MarkKind::TildeBar,
         UnaryOp::Xnor => MarkKind::TildeCaret,
+    }
+}
+
+/// The mark between the ends of a part.
+pub fn part_mark(kind: PartKind) -> MarkKind
+    ensures { result ≡ parts.part_mark kind }
+{
+    match kind {
+        PartKind::Range => MarkKind::Colon,
+        PartKind::Up => MarkKind::PlusColon,
+        PartKind::Down => MarkKind::MinusColon,
     }
 }
 

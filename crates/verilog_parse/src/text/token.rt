@@ -1,5 +1,7 @@
 //! Single tokens as text.
-ghost use Rattle.std.specs.Prelude.{◌≡◌, ◌++◌, IfOk};
+ghost use Rattle.std.specs.Prelude.{[], ◌∷◌, ◌≡◌, ◌++◌, ◌<◌, codes, IfOk};
+ghost use Rattle.std.specs.Fmt.{decimal};
+ghost use Rattle.std.specs.Int.{bit_at};
 ghost use Rattle.cdc_base.specs.declared.size.NumberSize.TheVariants.{Plain, Unsized, Sized};
 ghost use Rattle.cdc_base.specs.declared.words.Keyword.TheVariants.{Or};
 ghost use Rattle.verilog_lex.specs.declared.marks.MarkKind.TheVariants.{Comma};
@@ -108,6 +110,64 @@ fn put_sized(alloc: Global, out: &mut Vec<u8>, value: u64, width: u8) -> Result<
     match format!(in alloc; "{width}'h{value:x} ") {
         Ok(text) => put(out, text.as_bytes()),
         Err(_) => Err(NoMemory),
+    }
+}
+
+/// A mask in binary digits behind an open one, which makes it a mask in any case and is cut off.
+#[tactic(auto, using(crate::proofs::TextSteps::mask_steps))]
+pub fn put_mask(
+    alloc: Global,
+    out: &mut Vec<u8>,
+    value: u64,
+    open: u64,
+    width: u8,
+) -> Result<(), NoMemory>
+    ensures { IfOk result (λ _. Adds out.old.items (printed.mask value «open» width) out.new.items) }
+{
+    put_mask_base(alloc, out, width)?;
+    put_mask_digits(out, value, open, width)?;
+    put(out, b" ")
+}
+
+fn put_mask_base(alloc: Global, out: &mut Vec<u8>, width: u8) -> Result<(), NoMemory>
+    ensures { IfOk result (λ _. out.new.items ≡ out.old.items ++ (decimal width ++ codes "'b?")) }
+{
+    match format!(in alloc; "{width}'b?") {
+        Ok(text) => put(out, text.as_bytes()),
+        Err(_) => Err(NoMemory),
+    }
+}
+
+fn put_mask_digits(out: &mut Vec<u8>, value: u64, open: u64, width: u8) -> Result<(), NoMemory>
+    ensures { IfOk result (λ _. out.new.items ≡ out.old.items ++ printed.mask_digits width value «open») }
+{
+    let mut left = width;
+    while left > 0 {
+        left -= 1;
+        put(out, mask_digit(bit(value, left), bit(open, left)))?;
+    }
+    Ok(())
+}
+
+/// The bit of a word, which is 0 above its last.
+#[tactic(auto, using(crate::proofs::TextSteps::bit_steps))]
+fn bit(word: u64, at: u8) -> u64
+    ensures { result ≡ bit_at word at }
+{
+    if at < 64 { word >> at & 1 } else { 0 }
+}
+
+/// The digit of a bit of a mask.
+fn mask_digit(value: u64, open: u64) -> &'static [u8]
+    requires { value < 2 }
+    ensures { result.now ≡ printed.mask_digit value «open» ∷ [] }
+{
+    if open == 1 {
+        b"?"
+    } else if value == 1 {
+        b"1"
+    } else {
+        b"0"
     }
 }
 

@@ -1,6 +1,6 @@
 -- `~` is its cell; all others are a bit with zeros above.
 use Rattle.std.proofs.Common.{IfOk, sym, ap, subst, ◌∙◌}
-use Rattle.verilog_ast.specs.declared.UnaryOp.{UnaryOp}
+use Rattle.flat_form.specs.declared.flat.FUnaryOp.{FUnaryOp}
 use Rattle.flat_form.specs.View.{unary_of}
 use Rattle.flat_meaning.specs.Meaning.{unary_at}
 use Rattle.flat_meaning.specs.Trees.{fit, unary_tree}
@@ -16,7 +16,7 @@ returns-in-Not c = record {
   built = λ wid own are is some most.
       let old = c.args.drafts.now in
       let W = c.args.width in
-      subst (λ (o : UnaryOp). IsDraftOf old c.args.a (unary_at (unary_of o) W own)
+      subst (λ (o : FUnaryOp). IsDraftOf old c.args.a (unary_at (unary_of o) W own)
       → IfOk c.add.result (λ id. IsBuilt wid old c.add.new.self id W (λ sel. unary_tree (unary_of o) W (unary_at (unary_of o) W own) (tree_in sel old c.args.a))))
       (sym c.in-Not.is) (λ h. c.add.ensures.built wid W are (sym h.1, h.0)) is;
 }

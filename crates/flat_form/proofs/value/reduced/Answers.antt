@@ -1,5 +1,5 @@
 use Rattle.std.proofs.Common.{◌≡◌, ℕ, Bool, ◌==◌, subst, sym, ap, not}
-use Rattle.verilog_ast.specs.declared.UnaryOp.{UnaryOp}
+use Rattle.flat_form.specs.declared.flat.FUnaryOp.{FUnaryOp}
 use Rattle.flat_meaning.specs.Values.{Word}
 use Rattle.flat_meaning.specs.Meaning.{unary}
 use Rattle.flat_form.specs.View.{unary_of}
@@ -7,7 +7,7 @@ use Rattle.flat_form.proofs.Numbers.{none-is, some-is, all-is, reduced-none}
 use Rattle.flat_form.proofs.value.reduced.Goals as goal
 
 -- the bit of the operator that the match found
-abbrev Gives : ℕ → Bool → UnaryOp → Word → Type 0
+abbrev Gives : ℕ → Bool → FUnaryOp → Word → Type 0
 Gives w b op f = b ≡ unary (unary_of op) w f 0
 
 pub returns-in-Not : goal.returns-in-Not

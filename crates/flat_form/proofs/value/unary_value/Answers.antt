@@ -1,5 +1,5 @@
 use Rattle.std.proofs.Common.{◌≡◌, Bool, cond, subst, sym, ap, ◌∙◌}
-use Rattle.verilog_ast.specs.declared.UnaryOp.{UnaryOp}
+use Rattle.flat_form.specs.declared.flat.FUnaryOp.{FUnaryOp}
 use Rattle.cell_graph.specs.Tree.{number}
 use Rattle.flat_meaning.specs.Meaning.{unary, unary_at}
 use Rattle.flat_form.specs.View.{unary_of}
@@ -8,8 +8,8 @@ use Rattle.flat_form.proofs.value.unary_value.Goals as goal
 
 pub returns-in-Not : goal.returns-in-Not
 returns-in-Not c = λ f whole small some at e.
-    subst (λ (op : UnaryOp). c.low_bits.result ≡ number (unary (unary_of op) c.args.size f) whole) (sym c.in-Not.is)
-    (not-is c.low_bits.result c.args.a c.args.size whole f small (ap (λ (op : UnaryOp). unary_at (unary_of op) whole c.args.size) (sym c.in-Not.is) ∙ at) e c.low_bits.ensures)
+    subst (λ (op : FUnaryOp). c.low_bits.result ≡ number (unary (unary_of op) c.args.size f) whole) (sym c.in-Not.is)
+    (not-is c.low_bits.result c.args.a c.args.size whole f small (ap (λ (op : FUnaryOp). unary_at (unary_of op) whole c.args.size) (sym c.in-Not.is) ∙ at) e c.low_bits.ensures)
 
 pub returns-in_default : goal.returns-in_default
 returns-in_default c = λ f whole small some at e.

@@ -39,7 +39,7 @@ part_of-returns-in_ok-right-in-Part t c = λ l shows is formed.
     let i = c.in-Part in
     let a = c.deref-in-Part.result.now in
     let b = c.deref-in-Part-2.result.now in
-    let tree = tree-part c.args.expr.now i.name i.left i.right a b i.is c.deref-in-Part.ensures c.deref-in-Part-2.ensures in
+    let tree = tree-part c.args.expr.now i.name i.kind i.left i.right a b i.is c.deref-in-Part.ensures c.deref-in-Part-2.ensures in
     let inner = subst IsFormed tree formed in
     let first = c.in_ok-part_of-in-Part.ensures l shows is inner.0 in
     let second = c.in_ok-left-in-Part.ensures.read (piece l (tree_of a)) first.0 (fit l is (tree_of a) inner.0) in
@@ -47,7 +47,7 @@ part_of-returns-in_ok-right-in-Part t c = λ l shows is formed.
     let fourth = c.in_ok-right-in-Part.ensures.read (piece l (tree_of b)) third.0 (fit l is (tree_of b) inner.1) in
     ok-map c.part_read.result
     (λ r h. subst (λ z. Reads l z c.args.faults.now c.part_read.new.faults r) (sym tree)
-    (part-reads l i.name (tree_of a) (tree_of b) c.args.faults.now c.note_unknown-in-Part.new.faults c.part_of-in-Part.new.faults c.settled_constant.new.faults c.part_of-in-Part-2.new.faults c.settled_constant-in-Part.new.faults
+    (part-reads l i.name i.kind (tree_of a) (tree_of b) c.args.faults.now c.note_unknown-in-Part.new.faults c.part_of-in-Part.new.faults c.settled_constant.new.faults c.part_of-in-Part-2.new.faults c.settled_constant-in-Part.new.faults
     c.part_read.new.faults r is inner.1 (c.in_ok-note_unknown-in-Part.ensures l shows) first.1 second.1 third.1 fourth.1 h))
     (c.part_read.ensures l (read l (tree_of a)) (read l (tree_of b)) shows is second.0 fourth.0)
 

@@ -2,7 +2,8 @@ use Rattle.std.proofs.Common.{◌≡◌, ◌+◌, [], ◌∷◌, ◌++◌, map, 
 use Rattle.std.proofs.lemmas.List.{drop_more}
 use Rattle.verilog_ast.specs.declared.Expr.{Expr}
 use Rattle.verilog_reading.specs.ExprTree.{tree_of, trees_of}
-use Rattle.flat_unfolding.specs.Resets.{names_in, all_names_in, signals_among}
+use Rattle.flat_unfolding.specs.Mentions.{names_in, all_names_in}
+use Rattle.flat_unfolding.specs.Resets.{signals_among}
 use Rattle.flat_names.proofs.Options.{ok-map}
 use Rattle.flat_names.proofs.Trees.{tree-index, tree-part, tree-binary, tree-choice, tree-repeat}
 use Rattle.flat_process.specs.Resets.{signals_of, joined}
@@ -29,7 +30,7 @@ add_names-returns-in_ok-add_names-in-Part t c = λ l shows.
     let first = signals_of c.add-in-Part.new.self in
     let second = signals_of c.add_names-in-Part.new.signals in
     let third = signals_of c.add_names-in-Part-2.new.signals in
-    let tree = tree-part c.args.expr.now i.name i.left i.right a b i.is c.deref-in-Part.ensures c.deref-in-Part-2.ensures in
+    let tree = tree-part c.args.expr.now i.name i.kind i.left i.right a b i.is c.deref-in-Part.ensures c.deref-in-Part-2.ensures in
     let two = then-among l old first second (i.name ∷ []) (names_in (tree_of a)) (c.in_ok-add-in-Part.ensures l shows) (c.in_ok-add_names-in-Part.ensures l shows) in
     ok-map c.add_names-in-Part-2.result
     (λ x h. then-among l old second third (i.name ∷ names_in (tree_of a)) (names_in (tree_of b)) two h ∙ ap (λ v. joined old (signals_among l (names_in v))) (sym tree))

@@ -1,7 +1,8 @@
 use Rattle.std.proofs.Common.{◌≡◌, map, drop}
 use Rattle.verilog_reading.specs.ExprTree.{tree_of, trees_of}
 use Rattle.flat_unfolding.specs.Names as n
-use Rattle.flat_unfolding.specs.Resets.{all_names_in, signals_among}
+use Rattle.flat_unfolding.specs.Mentions.{all_names_in}
+use Rattle.flat_unfolding.specs.Resets.{signals_among}
 use Rattle.flat_names.specs.Looks.{Shows}
 use Rattle.flat_process.specs.Resets.{signals_of, joined}
 use Rattle.flat_process.proofs.reset.+add_names.Given as goal

@@ -1,6 +1,6 @@
 use Rattle.std.proofs.Common.{false, sym, refl, ◌∙◌}
 use Rattle.verilog_reading.specs.ExprTree.{tree_of}
-use Rattle.flat_unfolding.specs.Resets.{names_in}
+use Rattle.flat_unfolding.specs.Mentions.{names_in}
 use Rattle.flat_process.specs.declared.reset.Signals.{Signals}
 use Rattle.flat_process.proofs.ResetSignals.{first-joined, tested, not-one, not-tested}
 use Rattle.flat_process.proofs.reset.reset_signals.Goals as goal

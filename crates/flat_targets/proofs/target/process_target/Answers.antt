@@ -15,7 +15,7 @@ returns-in_ok-note_pieces-in-Whole c = λ l h is formed.
     let tree = target_tree_of x in
     let other : is_index tree ≡ false = elim c.in-Whole.is [
       | inl w ↦ ap (λ z. is_index (target_tree_of z)) (w.1 ∙ sym (v.rolls-Whole w.0)) ∙ ap is_index (fold-roll-Target TargetTree target_tree_step (Target-F.Whole w.0))
-      | inr (inl w) ↦ ap (λ z. is_index (target_tree_of z)) (w.3 ∙ sym (v.rolls-Part w.0 w.1 w.2)) ∙ ap is_index (fold-roll-Target TargetTree target_tree_step (Target-F.Part w.0 w.1 w.2))
+      | inr (inl w) ↦ ap (λ z. is_index (target_tree_of z)) (w.4 ∙ sym (v.rolls-Part w.0 w.1 w.2 w.3)) ∙ ap is_index (fold-roll-Target TargetTree target_tree_step (Target-F.Part w.0 w.1 w.2 w.3))
       | inr (inr w) ↦ ap (λ z. is_index (target_tree_of z)) w.1 ∙ ap is_index (join-tree w.0)
     ] in
     let a = c.in_ok-fixed-in-Whole.ensures l h is formed in

@@ -144,11 +144,11 @@ read_repeat-returns-in_err-make_repeat-clause-halts t c = let p = err_from_is_er
 
 pub read_select-returns-in_err-right-clause-halts : goal.read_select-returns-in_err-right-clause-halts
 read_select-returns-in_err-right-clause-halts t c = let p = err_from_is_err_and c.from_residual-in_err-right.result c.from_residual-in_err-right.ensures.1 in
-    rw (p.1, p.2) (Steps.select_right_halts _ _ _ _ _ _ _ c.in_ok-index.ensures.read c.in_default.ensures.free c.in_ok-inner.ensures.found.1 c.in_err-right.ensures.halts)
+    rw (p.1, p.2) (Steps.select_right_halts _ _ _ _ _ _ _ _ c.in_ok-index.ensures.read c.in_default.ensures.free c.in_ok-kind.ensures.found.1 c.in_err-right.ensures.halts)
 
 pub read_select-returns-in_err-rest-clause-halts : goal.read_select-returns-in_err-rest-clause-halts
 read_select-returns-in_err-rest-clause-halts t c = let p = err_from_is_err_and c.from_residual-in_err-rest.result c.from_residual-in_err-rest.ensures.1 in
-    rw (p.1, p.2) (Steps.select_open _ _ _ _ _ _ _ _ _ c.in_ok-index.ensures.read c.in_default.ensures.free c.in_ok-inner.ensures.found.1 c.in_ok-right.ensures.read c.in_err-rest.ensures.free c.in_err-rest.ensures.refused)
+    rw (p.1, p.2) (Steps.select_open _ _ _ _ _ _ _ _ _ _ c.in_ok-index.ensures.read c.in_default.ensures.free c.in_ok-kind.ensures.found.1 c.in_ok-right.ensures.read c.in_err-rest.ensures.free c.in_err-rest.ensures.refused)
 
 pub read_unary-returns-in-Some-clause-read : goal.read_unary-returns-in-Some-clause-read
 read_unary-returns-in-Some-clause-read t c = Steps.unary_number _ _ _ _ _ c.in-Some.ensures.found.1 c.in-Some.ensures.found.2

@@ -1,4 +1,4 @@
-use Rattle.verilog_items.proofs.DelaySteps as Steps
+use Rattle.verilog_exprs.proofs.DvalSteps as Steps
 use Rattle.verilog_items.proofs.delay.past_value.Goals as goal
 
 pub returns-in-Some-clause-found : goal.returns-in-Some-clause-found

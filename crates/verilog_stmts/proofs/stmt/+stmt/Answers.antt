@@ -1,6 +1,5 @@
 use Rattle.std.proofs.Common.{◌≡◌, ◌+◌, ◌-◌, map, refl, arith, rules}
-use Rattle.verilog_reading.specs.ExprTree.{tree_of}
-use Rattle.verilog_stmts.specs.Forms.{arm_tree_of}
+use Rattle.verilog_stmts.specs.Forms.{subject_tree, arm_tree_of}
 use Rattle.std.proofs.lemmas.Result.{err_from_is_err_and}
 use Rattle.verilog_exprs.proofs.Steps.{halts_for_memory}
 use Rattle.verilog_stmts.proofs.StmtSteps as Steps
@@ -35,28 +34,28 @@ read_compound-returns-in_err-below-clause-halts t c = let p = err_from_is_err_an
 pub read_compound-returns-in-Some-clause-read : goal.read_compound-returns-in-Some-clause-read
 read_compound-returns-in-Some-clause-read t c = rw (Steps.compound_if _ _ _ _ _ c.in-Some.ensures.found.1 c.in_ok-below.ensures.less) c.read_if.ensures.read
 
-pub read_compound-returns-in-Some-after_word-clause-read : goal.read_compound-returns-in-Some-after_word-clause-read
-read_compound-returns-in-Some-after_word-clause-read t c = rw (Steps.compound_case _ _ _ _ _ c.in_default.ensures.free c.in-Some-after_word.ensures.found.1 c.in_ok-below-2.ensures.less) c.read_case.ensures.read
+pub read_compound-returns-in-Some-after_case-clause-read : goal.read_compound-returns-in-Some-after_case-clause-read
+read_compound-returns-in-Some-after_case-clause-read t c = rw (Steps.compound_case _ _ _ _ _ _ c.in_default.ensures.free c.in-Some-after_case.ensures.found.1 c.in_ok-below-2.ensures.less) c.read_case.ensures.read
 
 pub read_compound-returns-clause-read : goal.read_compound-returns-clause-read
-read_compound-returns-clause-read t c = rw (Steps.compound_begin _ _ _ _ c.in_default.ensures.free c.in_default-after_word.ensures.free c.in_ok-inner.ensures.found.1) c.read_block.ensures.read
+read_compound-returns-clause-read t c = rw (Steps.compound_begin _ _ _ _ c.in_default.ensures.free c.in_default-after_case.ensures.free c.in_ok-inner.ensures.found.1) c.read_block.ensures.read
 
 pub read_compound-returns-in-Some-clause-halts : goal.read_compound-returns-in-Some-clause-halts
 read_compound-returns-in-Some-clause-halts t c = rw (Steps.compound_if _ _ _ _ _ c.in-Some.ensures.found.1 c.in_ok-below.ensures.less) c.read_if.ensures.halts
 
-pub read_compound-returns-in-Some-after_word-clause-halts : goal.read_compound-returns-in-Some-after_word-clause-halts
-read_compound-returns-in-Some-after_word-clause-halts t c = rw (Steps.compound_case _ _ _ _ _ c.in_default.ensures.free c.in-Some-after_word.ensures.found.1 c.in_ok-below-2.ensures.less) c.read_case.ensures.halts
+pub read_compound-returns-in-Some-after_case-clause-halts : goal.read_compound-returns-in-Some-after_case-clause-halts
+read_compound-returns-in-Some-after_case-clause-halts t c = rw (Steps.compound_case _ _ _ _ _ _ c.in_default.ensures.free c.in-Some-after_case.ensures.found.1 c.in_ok-below-2.ensures.less) c.read_case.ensures.halts
 
 pub read_compound-returns-clause-halts : goal.read_compound-returns-clause-halts
-read_compound-returns-clause-halts t c = rw (Steps.compound_begin _ _ _ _ c.in_default.ensures.free c.in_default-after_word.ensures.free c.in_ok-inner.ensures.found.1) c.read_block.ensures.halts
+read_compound-returns-clause-halts t c = rw (Steps.compound_begin _ _ _ _ c.in_default.ensures.free c.in_default-after_case.ensures.free c.in_ok-inner.ensures.found.1) c.read_block.ensures.halts
 
 pub read_compound-returns-in_err-below-2-clause-halts : goal.read_compound-returns-in_err-below-2-clause-halts
 read_compound-returns-in_err-below-2-clause-halts t c = let p = err_from_is_err_and c.from_residual-in_err-below-2.result c.from_residual-in_err-below-2.ensures.1 in
-    rw (p.1, p.2) (Steps.compound_case_deep _ _ _ _ _ c.in_default.ensures.free c.in-Some-after_word.ensures.found.1 c.in_err-below-2.ensures.high c.in_err-below-2.ensures.refused)
+    rw (p.1, p.2) (Steps.compound_case_deep _ _ _ _ _ c.in_default.ensures.free c.in-Some-after_case.ensures.found.1 c.in_err-below-2.ensures.high c.in_err-below-2.ensures.refused)
 
 pub read_compound-returns-in_err-inner-clause-halts : goal.read_compound-returns-in_err-inner-clause-halts
 read_compound-returns-in_err-inner-clause-halts t c = let p = err_from_is_err_and c.from_residual-in_err-inner.result c.from_residual-in_err-inner.ensures.1 in
-    rw (p.1, p.2) (Steps.compound_refused _ _ _ c.in_default.ensures.free c.in_default-after_word.ensures.free c.in_err-inner.ensures.free c.in_err-inner.ensures.refused)
+    rw (p.1, p.2) (Steps.compound_refused _ _ _ c.in_default.ensures.free c.in_default-after_case.ensures.free c.in_err-inner.ensures.free c.in_err-inner.ensures.refused)
 
 pub read_if-returns-in_err-cond-clause-halts : goal.read_if-returns-in_err-cond-clause-halts
 read_if-returns-in_err-cond-clause-halts t c = let p = err_from_is_err_and c.from_residual.result c.from_residual.ensures.1 in
@@ -90,25 +89,25 @@ read_if-returns-clause-read t c = Steps.if_either c.args.left c.args.tokens.now 
 pub read_if-returns-clause-nearest : goal.read_if-returns-clause-nearest
 read_if-returns-clause-nearest t c = Steps.lacks_either _ _ _ _ _ c.in_ok-make_either.ensures c.in_ok-other.ensures.nearest
 
-pub read_case-returns-in_err-subject-clause-halts : goal.read_case-returns-in_err-subject-clause-halts
-read_case-returns-in_err-subject-clause-halts t c = let p = err_from_is_err_and c.from_residual.result c.from_residual.ensures.1 in
-    rw (p.1, p.2) (Steps.case_subject_halts c.args.left c.args.tokens.now _ c.in_err-subject.ensures.halts)
+pub read_case-returns-in_err-compared-clause-halts : goal.read_case-returns-in_err-compared-clause-halts
+read_case-returns-in_err-compared-clause-halts t c = let p = err_from_is_err_and c.from_residual.result c.from_residual.ensures.1 in
+    rw (p.1, p.2) (Steps.case_subject_halts c.args.left c.args.masks c.args.tokens.now _ c.in_err-compared.ensures.halts)
 
 pub read_case-returns-in-Some-clause-read : goal.read_case-returns-in-Some-clause-read
-read_case-returns-in-Some-clause-read t c = rw (Steps.case_default c.args.left c.args.tokens.now _ _ _ _ _ c.in_ok-subject.ensures.read c.in-Some.ensures.found.1 c.new.ensures) c.read_default.ensures.read
+read_case-returns-in-Some-clause-read t c = rw (Steps.case_default c.args.left c.args.masks c.args.tokens.now _ _ _ _ _ c.in_ok-compared.ensures.read c.in-Some.ensures.found.1 c.new.ensures) c.read_default.ensures.read
 
 pub read_case-returns-in-None-clause-read : goal.read_case-returns-in-None-clause-read
-read_case-returns-in-None-clause-read t c = rw (Steps.case_items c.args.left c.args.tokens.now _ _ c.in_ok-subject.ensures.read c.in-None.ensures.free) c.read_items.ensures.read
+read_case-returns-in-None-clause-read t c = rw (Steps.case_items c.args.left c.args.masks c.args.tokens.now _ _ c.in_ok-compared.ensures.read c.in-None.ensures.free) c.read_items.ensures.read
 
 pub read_case-returns-in-Some-clause-halts : goal.read_case-returns-in-Some-clause-halts
-read_case-returns-in-Some-clause-halts t c = rw (Steps.case_default c.args.left c.args.tokens.now _ _ _ _ _ c.in_ok-subject.ensures.read c.in-Some.ensures.found.1 c.new.ensures) c.read_default.ensures.halts
+read_case-returns-in-Some-clause-halts t c = rw (Steps.case_default c.args.left c.args.masks c.args.tokens.now _ _ _ _ _ c.in_ok-compared.ensures.read c.in-Some.ensures.found.1 c.new.ensures) c.read_default.ensures.halts
 
 pub read_case-returns-in-None-clause-halts : goal.read_case-returns-in-None-clause-halts
-read_case-returns-in-None-clause-halts t c = rw (Steps.case_items c.args.left c.args.tokens.now _ _ c.in_ok-subject.ensures.read c.in-None.ensures.free) c.read_items.ensures.halts
+read_case-returns-in-None-clause-halts t c = rw (Steps.case_items c.args.left c.args.masks c.args.tokens.now _ _ c.in_ok-compared.ensures.read c.in-None.ensures.free) c.read_items.ensures.halts
 
 pub read_items-returns-in_err-first-clause-halts : goal.read_items-returns-in_err-first-clause-halts
 read_items-returns-in_err-first-clause-halts t c = let p = err_from_is_err_and c.from_residual.result c.from_residual.ensures.1 in
-    rw (p.1, p.2) (Steps.items_first_halts _ _ _ _ c.in_err-first.ensures.halts)
+    rw (p.1, p.2) (Steps.items_first_halts c.args.left (subject_tree c.args.subject) c.args.tokens.now _ c.in_err-first.ensures.halts)
 
 pub read_items-returns-in_err-push-clause-halts : goal.read_items-returns-in_err-push-clause-halts
 read_items-returns-in_err-push-clause-halts t c = let p = err_from_is_err_and c.from_residual-in_err-push.result c.from_residual-in_err-push.ensures.1 in
@@ -150,31 +149,31 @@ read_items-items-preserved t c = record {
 
 pub read_default-returns-in_err-body-clause-halts : goal.read_default-returns-in_err-body-clause-halts
 read_default-returns-in_err-body-clause-halts t c = let p = err_from_is_err_and c.from_residual.result c.from_residual.ensures.1 in
-    rw (p.1, p.2) (Steps.default_body_halts c.args.left (tree_of c.args.subject) (map arm_tree_of c.args.items) c.args.tokens.now _ _ c.without_colon.ensures.found c.in_err-body.ensures.halts)
+    rw (p.1, p.2) (Steps.default_body_halts c.args.left (subject_tree c.args.subject) (map arm_tree_of c.args.items) c.args.tokens.now _ _ c.without_colon.ensures.found c.in_err-body.ensures.halts)
 
 pub read_default-returns-in_err-all-clause-halts : goal.read_default-returns-in_err-all-clause-halts
 read_default-returns-in_err-all-clause-halts t c = let p = err_from_is_err_and c.from_residual-in_err-all.result c.from_residual-in_err-all.ensures.1 in
-    rw (p.1, p.2) (Steps.default_rows_halt c.args.left (tree_of c.args.subject) (map arm_tree_of c.args.items) c.args.tokens.now _ _ _ _ c.without_colon.ensures.found c.in_ok-body.ensures.read c.in_err-all.ensures.halts)
+    rw (p.1, p.2) (Steps.default_rows_halt c.args.left (subject_tree c.args.subject) (map arm_tree_of c.args.items) c.args.tokens.now _ _ _ _ c.without_colon.ensures.found c.in_ok-body.ensures.read c.in_err-all.ensures.halts)
 
 pub read_default-returns-in_err-make_switch_else-clause-halts : goal.read_default-returns-in_err-make_switch_else-clause-halts
 read_default-returns-in_err-make_switch_else-clause-halts t c = let p = err_from_is_err_and c.from_residual-in_err-make_switch_else.result c.from_residual-in_err-make_switch_else.ensures.1 in
     rw p.1 (halts_for_memory _ _ p.2)
 
 pub read_default-returns-clause-read : goal.read_default-returns-clause-read
-read_default-returns-clause-read t c = Steps.default_done c.args.left (tree_of c.args.subject) (map arm_tree_of c.args.items) c.args.tokens.now _ _ _ _ _ _ c.without_colon.ensures.found c.in_ok-body.ensures.read c.in_ok-all.ensures.read c.in_ok-make_switch_else.ensures
+read_default-returns-clause-read t c = Steps.default_done c.args.left (subject_tree c.args.subject) (map arm_tree_of c.args.items) c.args.tokens.now _ _ _ _ _ _ c.without_colon.ensures.found c.in_ok-body.ensures.read c.in_ok-all.ensures.read c.in_ok-make_switch_else.ensures
 
 pub read_default-returns-clause-nearest : goal.read_default-returns-clause-nearest
 read_default-returns-clause-nearest t c = Steps.takes_none _ _ _ c.in_ok-make_switch_else.ensures refl
 
 pub read_last_items-items-init : goal.read_last_items-items-init
-read_last_items-items-init t c = record { lists = Steps.last_items_none _ _ _; shorter = omega arith }
+read_last_items-items-init t c = record { lists = Steps.last_items_none _ _ _ _; shorter = omega arith }
 
 pub read_last_items-returns-in-Some-clause-read : goal.read_last_items-returns-in-Some-clause-read
-read_last_items-returns-in-Some-clause-read t c = Steps.last_items_end _ _ _ _ _ _ _ c.items.invariant.lists c.in-Some.ensures.found.1
+read_last_items-returns-in-Some-clause-read t c = Steps.last_items_end _ _ _ _ _ _ _ _ c.items.invariant.lists c.in-Some.ensures.found.1
 
 pub read_last_items-returns-in_err-next-clause-halts : goal.read_last_items-returns-in_err-next-clause-halts
 read_last_items-returns-in_err-next-clause-halts t c = let p = err_from_is_err_and c.from_residual.result c.from_residual.ensures.1 in
-    rw (p.1, p.2) (Steps.last_items_halt _ _ _ _ _ _ c.items.invariant.lists c.in_default.ensures.free c.in_err-next.ensures.halts)
+    rw (p.1, p.2) (Steps.last_items_halt _ _ _ _ _ _ _ c.items.invariant.lists c.in_default.ensures.free c.in_err-next.ensures.halts)
 
 pub read_last_items-returns-in_err-push-clause-halts : goal.read_last_items-returns-in_err-push-clause-halts
 read_last_items-returns-in_err-push-clause-halts t c = let p = err_from_is_err_and c.from_residual-in_err-push.result c.from_residual-in_err-push.ensures.1 in
@@ -182,24 +181,24 @@ read_last_items-returns-in_err-push-clause-halts t c = let p = err_from_is_err_a
 
 pub read_last_items-items-preserved : goal.read_last_items-items-preserved
 read_last_items-items-preserved t c = record {
-  lists = Steps.last_items_more _ _ _ _ _ _ _ _ c.items.invariant.lists c.in_default.ensures.free c.in_ok-next.ensures.read c.in_ok-push.ensures.pushed;
+  lists = Steps.last_items_more _ _ _ _ _ _ _ _ _ c.items.invariant.lists c.in_default.ensures.free c.in_ok-next.ensures.read c.in_ok-push.ensures.pushed;
   shorter = omega (arith, c.in_ok-next.ensures.shorter, c.items.invariant.shorter);
 }
 
 pub read_arm-returns-in_err-labels-clause-halts : goal.read_arm-returns-in_err-labels-clause-halts
 read_arm-returns-in_err-labels-clause-halts t c = let p = err_from_is_err_and c.from_residual.result c.from_residual.ensures.1 in
-    rw (p.1, p.2) (Steps.arm_labels_halt _ _ _ c.in_err-labels.ensures.halts)
+    rw (p.1, p.2) (Steps.arm_labels_halt c.args.left c.args.masks c.args.tokens.now _ c.in_err-labels.ensures.halts)
 
 pub read_arm-returns-in_err-inner-clause-halts : goal.read_arm-returns-in_err-inner-clause-halts
 read_arm-returns-in_err-inner-clause-halts t c = let p = err_from_is_err_and c.from_residual-in_err-inner.result c.from_residual-in_err-inner.ensures.1 in
-    rw (p.1, p.2) (Steps.arm_colon_halts _ _ _ _ _ c.in_ok-labels.ensures.read c.in_err-inner.ensures.free c.in_err-inner.ensures.refused)
+    rw (p.1, p.2) (Steps.arm_colon_halts c.args.left c.args.masks c.args.tokens.now _ _ _ c.in_ok-labels.ensures.read c.in_err-inner.ensures.free c.in_err-inner.ensures.refused)
 
 pub read_arm-returns-in_err-body-clause-halts : goal.read_arm-returns-in_err-body-clause-halts
 read_arm-returns-in_err-body-clause-halts t c = let p = err_from_is_err_and c.from_residual-in_err-body.result c.from_residual-in_err-body.ensures.1 in
-    rw (p.1, p.2) (Steps.arm_body_halts _ _ _ _ _ _ _ c.in_ok-labels.ensures.read c.in_ok-inner.ensures.found.1 c.in_err-body.ensures.halts)
+    rw (p.1, p.2) (Steps.arm_body_halts c.args.left c.args.masks c.args.tokens.now _ _ _ _ _ c.in_ok-labels.ensures.read c.in_ok-inner.ensures.found.1 c.in_err-body.ensures.halts)
 
 pub read_arm-returns-clause-read : goal.read_arm-returns-clause-read
-read_arm-returns-clause-read t c = Steps.arm_done _ _ _ _ _ _ _ _ _ c.in_ok-labels.ensures.read c.in_ok-inner.ensures.found.1 c.in_ok-body.ensures.read c.make_arm.ensures
+read_arm-returns-clause-read t c = Steps.arm_done c.args.left c.args.masks c.args.tokens.now _ _ _ _ _ _ _ c.in_ok-labels.ensures.read c.in_ok-inner.ensures.found.1 c.in_ok-body.ensures.read c.make_arm.ensures
 
 pub read_block-returns-in_err-inner-clause-halts : goal.read_block-returns-in_err-inner-clause-halts
 read_block-returns-in_err-inner-clause-halts t c = let p = err_from_is_err_and c.from_residual.result c.from_residual.ensures.1 in

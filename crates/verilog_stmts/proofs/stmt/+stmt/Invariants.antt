@@ -1,10 +1,9 @@
 use Rattle.std.proofs.Common.{◌≡◌, ◌≤◌, ◌<◌, ◌+◌, ◌*◌, length, map}
 use Rattle.cdc_base.specs.declared.words.Keyword.TheVariants.{EndCase, End}
-use Rattle.verilog_reading.specs.ExprTree.{tree_of}
 use Rattle.verilog_reading.specs.Lexemes.{word_in}
 use Rattle.verilog_reading.specs.Lists.{many}
 use Rattle.verilog_reading.specs.StmtReader.{read_stmt, lower, arm, first_item}
-use Rattle.verilog_stmts.specs.Forms.{arm_tree_of}
+use Rattle.verilog_stmts.specs.Forms.{subject_tree, arm_tree_of}
 use Rattle.verilog_stmts.proofs.StmtSteps.{Items, ArmRows, StmtRows}
 use Rattle.verilog_stmts.proofs.stmt.+stmt.Given as goal
 
@@ -51,7 +50,7 @@ decreases-read_stmts-stmts l = length l.rest
 
 abbrev pub invariant-read_items-items : goal.invariant-read_items-items
 invariant-read_items-items l = record {
-  lists : Items l.left (tree_of l.fn.subject) (first_item (lower l.left) (tree_of l.fn.subject) l.tokens) l.items l.rest;
+  lists : Items l.left (subject_tree l.fn.subject) (first_item (lower l.left) (subject_tree l.fn.subject) l.tokens) l.items l.rest;
   same : l.subject ≡ l.fn.subject;
   shorter : length l.rest < length l.tokens;
 }
@@ -61,7 +60,7 @@ decreases-read_items-items l = length l.rest
 
 abbrev pub invariant-read_last_items-items : goal.invariant-read_last_items-items
 invariant-read_last_items-items l = record {
-  lists : ArmRows l.left (many (word_in EndCase) (arm (lower l.left)) l.tokens) (map arm_tree_of l.fn.before) l.items l.rest;
+  lists : ArmRows l.left l.masks (many (word_in EndCase) (arm (lower l.left) l.masks) l.tokens) (map arm_tree_of l.fn.before) l.items l.rest;
   shorter : length l.rest ≤ length l.tokens;
 }
 

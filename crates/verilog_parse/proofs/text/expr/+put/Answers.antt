@@ -8,7 +8,7 @@ put_expr-returns-in_ok-put_expr-in-At t c = ok_as _ _ _ _ _ (Text.at_printed _ _
     (ok_behind _ _ _ _ _ _ c.in_ok-put_name-in-At.ensures (ok_behind _ _ _ _ _ _ c.in_ok-put_mark-in-At.ensures (ok_behind _ _ _ _ _ _ c.in_ok-put_expr-in-At.ensures c.put_mark-in-At.ensures)))
 
 pub put_expr-returns-in_ok-put_expr-in-Part-2 : goal.put_expr-returns-in_ok-put_expr-in-Part-2
-put_expr-returns-in_ok-put_expr-in-Part-2 t c = ok_as _ _ _ _ _ (Text.part_printed _ _ _ _ _ _ c.in-Part.is c.deref-in-Part.ensures c.deref-in-Part-2.ensures)
+put_expr-returns-in_ok-put_expr-in-Part-2 t c = ok_as _ _ _ _ _ (Text.part_printed _ _ _ _ _ _ _ _ c.in-Part.is c.deref-in-Part.ensures c.deref-in-Part-2.ensures c.part_mark.ensures)
     (ok_behind _ _ _ _ _ _ c.in_ok-put_name-in-Part.ensures (ok_behind _ _ _ _ _ _ c.in_ok-put_mark-in-Part.ensures (ok_behind _ _ _ _ _ _ (adds_both _ _ _ _ _ c.in_ok-put_expr-in-Part.ensures (adds_both _ _ _ _ _ c.in_ok-put_mark-in-Part-2.ensures c.in_ok-put_expr-in-Part-2.ensures)) c.put_mark-in-Part-3.ensures)))
 
 pub put_expr-returns-in_ok-put_mark-in-Unary : goal.put_expr-returns-in_ok-put_mark-in-Unary

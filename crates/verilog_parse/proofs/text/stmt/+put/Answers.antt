@@ -6,7 +6,7 @@ use Rattle.verilog_parse.proofs.text.stmt.+put.Goals as goal
 
 pub put_case_item-returns : goal.put_case_item-returns
 put_case_item-returns t c = ok_as _ _ _ _ _ (Text.arm_printed _ _ c.as_slice.ensures)
-    (ok_behind _ _ _ _ _ _ c.in_ok-put_exprs.ensures (ok_behind _ _ _ _ _ _ c.in_ok-put_mark.ensures (ok_behind _ _ _ _ _ _ c.in_ok-put_stmt.ensures c.put_line_end.ensures)))
+    (ok_behind _ _ _ _ _ _ c.in_ok-put_labels.ensures (ok_behind _ _ _ _ _ _ c.in_ok-put_mark.ensures (ok_behind _ _ _ _ _ _ c.in_ok-put_stmt.ensures c.put_line_end.ensures)))
 
 pub put_case_items-loop-item-preserved : goal.put_case_items-loop-item-preserved
 put_case_items-loop-item-preserved t c = rows_step printed_arm c.args.items.now c.item-item.result c.loop-item.item-index _ _ _ _ (search rules) c.item-item.is c.loop-item.invariant
@@ -25,7 +25,7 @@ put_stmt-returns-in_ok-put_word-in-Some t c = ok_as _ _ _ _ _ (Text.either_print
     (ok_behind _ _ _ _ _ _ c.in_ok-put_opening-in-If.ensures (ok_behind _ _ _ _ _ _ c.in_ok-put_stmt-in-If.ensures (ok_behind _ _ _ _ _ _ c.in_ok-put_word-in-Some.ensures c.put_stmt-in-Some.ensures)))
 
 pub put_stmt-returns-in_ok-put_default-in-Case : goal.put_stmt-returns-in_ok-put_default-in-Case
-put_stmt-returns-in_ok-put_default-in-Case t c = ok_as _ _ _ _ _ (Text.case_printed _ _ _ _ _ c.in-Case.is c.as_slice.ensures)
+put_stmt-returns-in_ok-put_default-in-Case t c = ok_as _ _ _ _ _ (Text.case_printed _ _ _ _ _ _ _ c.in-Case.is c.as_slice.ensures c.case_word.ensures)
     (ok_behind _ _ _ _ _ _ c.in_ok-put_opening-in-Case.ensures (ok_behind _ _ _ _ _ _ c.in_ok-put_line_end-in-Case.ensures (ok_behind _ _ _ _ _ _ c.in_ok-put_case_items-in-Case.ensures (ok_behind _ _ _ _ _ _ c.in_ok-put_default-in-Case.ensures c.put_word-in-Case.ensures))))
 
 pub put_stmt-returns-in_ok-put_stmts-in-Block : goal.put_stmt-returns-in_ok-put_stmts-in-Block

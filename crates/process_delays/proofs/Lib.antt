@@ -1,0 +1,4 @@
+pub mod Trees
+pub mod Ways
+pub mod Walks
+pub mod Undelayed
