@@ -79,6 +79,10 @@ expect "newer times of the same sources build nothing" "at hand: x" 9 0 x
 CDCAUDIT_WHICH=1 expect "it can be asked which program runs" "at hand: x" 9 0 x
 says "it can be asked which program runs" "bin/cdcaudit-x86_64-linux"
 
+program "$top/bin/cdcaudit-x86_64-linux" '$(ulimit -Ss)'
+ulimit -Ss 4096
+expect "the program gets as much stack as it may" "$(ulimit -Hs): x" 9 0 x
+
 echo "// changed" >>"$top/crates/cdcaudit/src/main.rt"
 expect "other sources without a toolchain are refused" "" 125 0 x
 says "other sources without a toolchain are refused" "rt is not on the path"
