@@ -1,5 +1,5 @@
 -- The design that a netlist's text describes, by the layers that read, unfold and elaborate it.
-use Rattle.std.proofs.Common.{◌≡◌, ◌≤◌, ℕ, List, map, Result, Ok, Err}
+use Rattle.std.proofs.Common.{◌≡◌, ◌≤◌, ◌++◌, ℕ, List, map, Result, Ok, Err}
 use Rattle.std.specs.Prelude.{IfOk}
 use Rattle.cdc_base.specs.declared.fault.Stop.{Stop}
 use Rattle.cdc_base.specs.declared.signal.Signal.{Signal}
@@ -20,11 +20,11 @@ use Rattle.flat_form.specs.declared.flat.Flat as f
 use Rattle.flat_form.specs.Sizes.{IsWellSized}
 use Rattle.flat_form.specs.View.{flat_of}
 use Rattle.flat_unfolding.specs.Formed.{IsSourceFormed}
-use Rattle.flat_unfolding.specs.Unfolding.{IsUnfolding, unfolded}
 use Rattle.flat_unfolding.specs.Widths.{KeepsSizes}
 use Rattle.flat_unfolding.proofs.Sound.{sound_law}
 use Rattle.flat_unfolding.proofs.Visited.{sizes_law}
 use Rattle.flat_unfolding.proofs.Widths.{well_sized_law}
+use Rattle.reset_nets.specs.Designs.{IsDesign as IsUnfolded}
 use Rattle.flat_meaning.specs.SignalTrees.{AreTrees}
 use Rattle.flat_meaning.specs.Sound.{IsSound}
 use Rattle.flat_meaning.specs.Trees.{Selects}
@@ -62,16 +62,16 @@ module _ (modules : List ModuleTree) (c : Constraints) where
     pub flattened : IsFlattened flat
     pub sized : AreSized flat.signals
 
-  pub flat_of_modules : IsSourceFormed modules → (given : Result f.Flat Stop) → IsUnfolding (unfolded modules c.top c.resets (named_in c)) given
+  pub flat_of_modules : IsSourceFormed modules → (given : Result f.Flat Stop) → IsUnfolded modules c.top c.resets (named_in c) given
       → IfOk given KeepsSizes → IfOk given IsFlatOfModules
   flat_of_modules formed (Ok flat) unfolds keeps = record {
     unfolds = unfolds;
     flattened = record {
-      sized = well_sized_law modules formed c.top c.resets (named_in c) flat unfolds keeps;
-      sound = sound_law modules formed c.top c.resets (named_in c) (flat_of flat) unfolds;
+      sized = well_sized_law modules formed c.top (c.resets ++ unfolds.nets) (named_in c) flat unfolds.unfolds keeps;
+      sound = sound_law modules formed c.top (c.resets ++ unfolds.nets) (named_in c) (flat_of flat) unfolds.unfolds;
     };
     sized = λ sig s at. at-place (λ (x : Signal). (1 ≤ x.width) × (x.width ≤ 64)) flat.signals sig s at
-        (sizes_law modules formed c.top c.resets (named_in c) (flat_of flat) unfolds).signals;
+        (sizes_law modules formed c.top (c.resets ++ unfolds.nets) (named_in c) (flat_of flat) unfolds.unfolds).signals;
   }
   flat_of_modules formed (Err e) unfolds keeps = tt
 

@@ -18,7 +18,7 @@ use Rattle.verilog_parse.specs.Refusals.{RefusesFirst}
 use Rattle.verilog_reading.specs.Refusals.{IsEnded}
 use Rattle.verilog_reading.specs.SourceTree.{ModuleTree}
 use Rattle.flat_form.specs.declared.flat.Flat.{Flat}
-use Rattle.flat_unfolding.specs.Unfolding.{IsUnfolding, unfolded}
+use Rattle.reset_nets.specs.Designs.{IsDesign as IsUnfolded}
 use Rattle.refusals.specs.Limits.{Tells}
 use Rattle.elaborate.specs.Refusals.{IsRefusedFor}
 use Rattle.command_files.specs.declared.answer.Ending.{Ending}
@@ -51,7 +51,7 @@ reading_cause text ts (Err (stop.Refused f)) are h = reading ts are (h (text_end
 reading_cause text ts (Err stop.Memory) are h = tt
 
 module _ (modules : List ModuleTree) (c : ConstraintsOf) where
-  pub unfolding_cause : (given : Result Flat Stop) → IsUnfolding (unfolded modules c.top c.resets (named_in c)) given
+  pub unfolding_cause : (given : Result Flat Stop) → IsUnfolded modules c.top c.resets (named_in c) given
       → IfErr given (Refuses (λ f. IsDesignRefused modules c f Netlist))
   unfolding_cause (Ok flat) h = tt
   unfolding_cause (Err (stop.Refused f)) h = rule h

@@ -10,12 +10,12 @@ use Rattle.verilog_lex.specs.Tokens.{tokens_of}
 use Rattle.verilog_reading.specs.ItemReading.{IsSource}
 use Rattle.verilog_reading.specs.SourceTree.{ModuleTree}
 use Rattle.flat_unfolding.specs.Outcome.{good}
-use Rattle.flat_unfolding.specs.Unfolding.{unfolded}
 use Rattle.flat_meaning.specs.Design.{Flat}
 use Rattle.flat_meaning.specs.Segments.{IsLoopFree}
 use Rattle.flat_meaning.specs.SignalTrees.{AreTrees}
 use Rattle.flat_meaning.specs.Sound.{IsSound}
 use Rattle.flat_meaning.specs.Trees.{Selects}
+use Rattle.reset_nets.specs.Designs.{Unfolds}
 use Rattle.elaborate.specs.NetTrees.{HasTrees}
 use Rattle.elaborate.specs.Words.{as_word}
 
@@ -30,9 +30,9 @@ pub record ReadsAs (text : List ℕ) (modules : List ModuleTree) : Type 0 where
 abbrev pub named_in : Constraints → List (List ℕ)
 named_in c = (map (λ (k : ClockPin). k.name) c.clocks ++ map (λ (i : InputPin). i.name) c.inputs) ++ c.statics
 
--- the modules unfold to the flat design, from the top that the constraints name, with their resets and other names
+-- the modules unfold to the flat design, from the top that the constraints name, with their resets, all reset nets and their other names
 abbrev pub UnfoldsTo : List ModuleTree → Constraints → Flat → Type 0
-UnfoldsTo modules c f = unfolded modules c.top c.resets (named_in c) ≡ good f
+UnfoldsTo modules c f = Unfolds modules c.top c.resets (named_in c) (good f)
 
 -- the net has the trees and the signals of the flat design that the modules unfold to, which is sound and has no loop
 pub record IsNetOfModules (modules : List ModuleTree) (c : Constraints) (net : Net) : Type 0 where

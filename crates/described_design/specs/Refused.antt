@@ -13,7 +13,7 @@ use Rattle.verilog_reading.specs.SourceTree.{ModuleTree}
 use Rattle.flat_form.specs.declared.flat.Flat.{Flat}
 use Rattle.flat_form.specs.View.{flat_of}
 use Rattle.flat_unfolding.specs.Outcome.{bad}
-use Rattle.flat_unfolding.specs.Unfolding.{unfolded}
+use Rattle.reset_nets.specs.Designs.{Unfolds}
 use Rattle.elaborate.specs.Refusals.{IsFlattened, IsRefusedFor}
 use Rattle.command_files.specs.declared.status.Status.{Status}
 use Rattle.command_files.specs.declared.status.Status.TheVariants.{Netlist, Constraints}
@@ -28,7 +28,7 @@ pub data IsNetlistRefused (text : List ℕ) (fault : Fault) : Status → Type 0 
 -- modules under constraints: the first broken rule of their unfolding; the cause for which their flat design has no cells; or the rule of clocks and
 -- inputs that its net breaks
 pub data IsDesignRefused (modules : List ModuleTree) (c : ConstraintsOf) (fault : Fault) : Status → Type 0 where
-  rule : unfolded modules c.top c.resets (named_in c) ≡ bad fault → IsDesignRefused modules c fault Netlist
+  rule : Unfolds modules c.top c.resets (named_in c) (bad fault) → IsDesignRefused modules c fault Netlist
   cells : (flat : Flat) → UnfoldsTo modules c (flat_of flat) → IsFlattened flat → IsRefusedFor flat fault → IsDesignRefused modules c fault Netlist
   domains : (net : Net) → IsNetOfModules modules c net → IsNet net → IsBroken plain.ghosts.reads net c fault → IsDesignRefused modules c fault Constraints
 

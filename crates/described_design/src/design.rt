@@ -36,7 +36,7 @@ pub fn read_source(alloc: Global, text: &[u8]) -> Result<Source, Ending>
     )
 }
 
-/// The cells of a source, unfolded from the top that the constraints name.
+/// The cells of a source, unfolded from the top that the constraints name, with its reset nets.
 fn elaborated(alloc: Global, source: &Source, constraints: &Constraints) -> Result<Net, Ending>
     ensures of_files { IfErr result IsOfFiles }
     ensures is_net { IfOk result IsNet }
@@ -49,7 +49,7 @@ fn elaborated(alloc: Global, source: &Source, constraints: &Constraints) -> Resu
     let resets = constraints.resets.as_slice();
     let names = names_of(alloc, constraints)?;
     let named = names.as_slice();
-    let flat = flat_design::flatten(alloc, source, &constraints.top, resets, named);
+    let flat = reset_nets::design(alloc, source, &constraints.top, resets, named);
     let flat = or_refused(Status::Netlist, flat)?;
     or_refused(Status::Netlist, elaborate::elaborate(alloc, &flat))
 }

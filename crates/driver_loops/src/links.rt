@@ -73,14 +73,14 @@ impl Links {
     }
 
     /// Begins the next vertex.
-    fn begin(&mut self) -> Result<(), NoMemory>
+    pub fn begin(&mut self) -> Result<(), NoMemory>
         ensures { OnOk result (self.new ≡ self.old ++ [] ∷ []) }
     {
         grow(&mut self.starts, self.ends.len())
     }
 
     /// The last vertex leads to one more.
-    fn add(&mut self, end: u32) -> Result<(), NoMemory>
+    pub fn add(&mut self, end: u32) -> Result<(), NoMemory>
         ensures { OnOk result (self.new ≡ extended self.old (end ∷ [])) }
     {
         grow(&mut self.ends, end)

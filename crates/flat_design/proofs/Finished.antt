@@ -22,7 +22,7 @@ use Rattle.flat_unfolding.specs.Names as n
 use Rattle.flat_unfolding.specs.Names.{width_of}
 use Rattle.flat_unfolding.specs.Signals as u
 use Rattle.flat_unfolding.specs.Signals.{is_register, kind_of, signals_from, flat_design}
-use Rattle.flat_unfolding.specs.Starts.{given_bit, start_bit}
+use Rattle.flat_unfolding.specs.Starts.{given_bit, start_bit, first_start}
 use Rattle.flat_unfolding.specs.Design.{Start, Design}
 use Rattle.cdc_base.specs.declared.fault.Stop.{Stop}
 use Rattle.cdc_base.specs.declared.fault.Stop.TheVariants.{Refused, Memory}
@@ -37,7 +37,7 @@ use Rattle.flat_drivers.specs.Driving.{IsMarked, AreMarked, IsFinished, design_o
 use Rattle.flat_names.specs.declared.design.Entry.{Entry}
 use Rattle.flat_names.specs.declared.design.Design as table
 use Rattle.flat_names.specs.Looks.{Seen, seen, shown}
-use Rattle.flat_names.specs.Designs.{signal_of, first_start, ShowsDesign}
+use Rattle.flat_names.specs.Designs.{signal_of, ShowsDesign}
 use Rattle.flat_design.specs.Visiting.{IsFitDesign}
 use Rattle.flat_design.specs.Finishing.{HasKept, AreKept, finished_at}
 

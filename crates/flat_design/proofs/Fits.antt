@@ -25,6 +25,7 @@ use Rattle.flat_unfolding.proofs.Steps.{judged_is, good_is, good_then, some_is}
 use Rattle.flat_unfolding.proofs.Entries.{same_length}
 use Rattle.flat_form.specs.Sizes.{is_word}
 use Rattle.flat_names.specs.Looks.{IsFit}
+use Rattle.flat_design.specs.Chosen.{chosen_item_of}
 use Rattle.flat_design.specs.Visiting.{AreFitNames, IsFitDesign, IsPlain}
 
 -- names and a design that are fit
@@ -103,6 +104,18 @@ item-looks modules visiting prefix inside s t p (gate kind es) h e = gate-looks 
 item-looks modules visiting prefix inside s t p (instance child params x ports) h e = absurd h
 item-looks modules visiting prefix inside s t p (always event body) h e = always-looks s t p event body e
 item-looks modules visiting prefix inside s t p (initial body) h e = starts-look s t p (initial_starts (look_of s) (so_far s) body) e
+
+-- so do the items that are wanted
+pub chosen-looks : (wires_only : Bool) (modules : List ModuleTree) (visiting : List Text) (prefix : Text) (inside : Visit) (s t : Stage) (p : Place) (b : BodyTree) → IsPlain b
+    → chosen_item_of wires_only modules visiting prefix inside s p b ≡ good t → KeepsLook s t
+chosen-looks wires modules visiting prefix inside s t p (param q) h e = item-looks modules visiting prefix inside s t p (param q) h e
+chosen-looks wires modules visiting prefix inside s t p (decl d) h e = item-looks modules visiting prefix inside s t p (decl d) h e
+chosen-looks wires modules visiting prefix inside s t p (assign x v) h e = item-looks modules visiting prefix inside s t p (assign x v) h e
+chosen-looks wires modules visiting prefix inside s t p (gate kind es) h e = item-looks modules visiting prefix inside s t p (gate kind es) h e
+chosen-looks wires modules visiting prefix inside s t p (instance child params x ports) h e = absurd h
+chosen-looks true modules visiting prefix inside s t p (always event body) h e = ap look_of (sym (good_is s t e))
+chosen-looks false modules visiting prefix inside s t p (always event body) h e = item-looks modules visiting prefix inside s t p (always event body) h e
+chosen-looks wires modules visiting prefix inside s t p (initial body) h e = item-looks modules visiting prefix inside s t p (initial body) h e
 
 pub values-look : (p : Place) (s : Stage) (ds : List DeclTree) (t : Stage) → each (λ u (d : DeclTree). declared_value u p d) s ds ≡ good t → KeepsLook s t
 values-look p s [] t e = ap look_of (sym (good_is s t e))

@@ -19,7 +19,7 @@ use Rattle.flat_unfolding.specs.Widths.{KeepsSizes}
 use Rattle.flat_unfolding.proofs.OneDriver.{none_from, no_bit}
 use Rattle.flat_unfolding.proofs.Sound.{well_clocked_law, sound_law}
 use Rattle.flat_unfolding.proofs.Steps.{good_then, some_is}
-use Rattle.flat_unfolding.proofs.Visits.{limits_law, tried}
+use Rattle.flat_unfolding.proofs.Visits.{limits_law, accepted}
 use Rattle.flat_unfolding.proofs.Widths.{well_sized_law}
 use Rattle.signal_names.specs.Laws.{IsSourceVisible}
 use Rattle.signal_names.proofs.Visits.{names_differ}
@@ -51,7 +51,7 @@ module _ (modules : List ModuleTree) (top : Text) (resets : List ResetPin) (name
   from_top_driven None e = absurd (search (rules, e))
   from_top_driven (Some m) e =
       let g = good_then (visit modules (length modules) [] (m.name ∷ []) m [] (top_ports (header_of m)) (no_design resets)) (λ (s : Stage). finished named s.design) f e in
-      let t = tried named g.0.design f g.2 in driven f g.0.design.resets t.0 t.1
+      let t = accepted named g.0.design f g.2 in driven f g.0.design.resets t.0 (subst (λ x. driven_once x g.0.design.resets ≡ good t.0) t.2 t.1)
 
   unfolded_driven : unfolded modules top resets named ≡ good f → IsDriven f
   unfolded_driven e =

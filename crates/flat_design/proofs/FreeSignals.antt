@@ -19,13 +19,13 @@ use Rattle.flat_unfolding.specs.Outcome.{Text}
 use Rattle.flat_unfolding.specs.Names as n
 use Rattle.flat_unfolding.specs.Design as u
 use Rattle.flat_unfolding.specs.Design.{Start}
-use Rattle.flat_unfolding.specs.Starts.{starts_with}
+use Rattle.flat_unfolding.specs.Starts.{starts_with, first_start}
 use Rattle.flat_unfolding.specs.Signals.{is_driven, is_named, is_free, with_free}
 use Rattle.flat_names.specs.declared.design.Design.{Design}
 use Rattle.flat_names.specs.declared.design.Entry.{Entry}
 use Rattle.flat_names.specs.declared.design.Reset.{Reset}
 use Rattle.flat_names.specs.Looks.{shown}
-use Rattle.flat_names.specs.Designs.{signal_of, first_start, IsReset, reset_of as reset_in, ShowsDesign}
+use Rattle.flat_names.specs.Designs.{signal_of, IsReset, reset_of as reset_in, ShowsDesign}
 use Rattle.flat_drivers.specs.Driving.{is_among, assigned_in, wires_in, clocked_in}
 use Rattle.flat_drivers.specs.Driven.{are_targets_of, are_assigned_by, are_set_by, are_clocked_by, is_assigned_in}
 use Rattle.flat_design.specs.Freeing.{are_named, is_assigned_at, mark_if, free_if}
@@ -78,16 +78,14 @@ mark-or true false = refl
 mark-or false true = refl
 mark-or false false = refl
 
--- the marks of start values, once what assigns is marked
-pub all-marked : (assigned : ℕ → Bool) (xs : List Entry) (s : ℕ)
-    → option_map (mark_if (assigned s)) (slice_get (map (λ (x : Entry). is_some x.start) xs) s) ≡ option_map
-    (λ (x : Entry). is_some x.start || assigned s) (slice_get xs s)
-all-marked assigned xs s = ap (option_map (mark_if (assigned s))) (slice_get-map (λ (x : Entry). is_some x.start) xs s) ∙ go (slice_get xs s)
+-- marks of items, once what assigns is marked
+pub all-marked : {A : Type 0} (p : A → Bool) (assigned : ℕ → Bool) (xs : List A) (s : ℕ)
+    → option_map (mark_if (assigned s)) (slice_get (map p xs) s) ≡ option_map (λ x. p x || assigned s) (slice_get xs s)
+all-marked {A} p assigned xs s = ap (option_map (mark_if (assigned s))) (slice_get-map p xs s) ∙ go (slice_get xs s)
   where
-    go : (o : Option Entry) → option_map (mark_if (assigned s)) (option_map (λ (x : Entry). is_some x.start) o) ≡ option_map
-        (λ (x : Entry). is_some x.start || assigned s) o
+    go : (o : Option A) → option_map (mark_if (assigned s)) (option_map p o) ≡ option_map (λ x. p x || assigned s) o
     go None = refl
-    go (Some x) = ap Some (mark-or (is_some x.start) (assigned s))
+    go (Some x) = ap Some (mark-or (p x) (assigned s))
 
 -- ---- signals that were set free so far
 
@@ -276,5 +274,6 @@ module _ (pins : List ResetPin) (k : Design) (d : u.Design) (h : ShowsDesign pin
           starts = h.starts;
           givens = h.givens;
           process_resets = h.process_resets;
+          late = h.late;
           sizes = record { assigns = h.sizes.assigns; combs = h.sizes.combs; clocked = h.sizes.clocked };
         }

@@ -21,7 +21,7 @@ use Rattle.flat_unfolding.specs.Names.{Names, no_value, is_declared, printed_par
 use Rattle.flat_unfolding.specs.Declarations.{header_decls}
 use Rattle.flat_unfolding.specs.Instances.{Link, overrides_of, links_of, connected, leaning_of}
 use Rattle.flat_unfolding.specs.Design.{Design, Stage, look_of}
-use Rattle.flat_unfolding.specs.Unfolding.{module_named, item, header_values, visit}
+use Rattle.flat_unfolding.specs.Unfolding.{module_named, header_values}
 use Rattle.flat_unfolding.specs.Formed.{IsBodyFormed, IsModuleFormed}
 use Rattle.flat_unfolding.proofs.Steps.{some_is}
 use Rattle.flat_names.specs.declared.scope.Meaning.TheVariants as m
@@ -31,6 +31,7 @@ use Rattle.flat_names.specs.Designs.{ShowsNames, ShowsDesign, ShowsStage, Meets,
 use Rattle.flat_design.specs.declared.instance.Given.{Given}
 use Rattle.flat_design.specs.declared.visit.Open.{Open}
 use Rattle.flat_design.specs.declared.visit.Visit.{Visit}
+use Rattle.flat_design.specs.Chosen.{chosen_item, chosen_visit}
 use Rattle.flat_design.specs.Visiting.{Frame, visited, closed, IsClosed, leaning_in, rest_of, item_before, part_of, prefix_of, IsFrame, AreFrames, AreFitNames, IsVisiting, IsPlain, next_of, IsGrown, Goes, begun, Begins, Table, Enters, Finds, AreEnds, end_rules}
 use Rattle.flat_design.proofs.Fits.{fit-stage, KeepsLook, still-fit, values-look}
 use Rattle.flat_design.proofs.Connected.{connected-fit, connected-count}
@@ -100,12 +101,12 @@ plain-if (bodies.Gate kind es) h = tt
 plain-if (bodies.Always event body) h = tt
 plain-if (bodies.Initial body) h = tt
 
-module _ (pins : List ResetPin) (modules : List Module) (apart : AreNamedApart modules) (opens outer : List Open) (o : Open) (marks : List Bool) (kept : table.Design) (d : Design) (popped : opens ≡ outer ++ o ∷ []) where
+module _ (wires_only : Bool) (pins : List ResetPin) (modules : List Module) (apart : AreNamedApart modules) (opens outer : List Open) (o : Open) (marks : List Bool) (kept : table.Design) (d : Design) (popped : opens ≡ outer ++ o ∷ []) where
   -- a module without an item that is left
   pub record IsLeft (frames : List Frame) : Type 0 where
     pub f : Frame
     pub fs : List Frame
-    pub rest : rest_of (map module_of modules) frames d ≡ then_ (closed f (record { names = f.names; design = d })) (λ u. rest_of (map module_of modules) fs d)
+    pub rest : rest_of wires_only (map module_of modules) frames d ≡ then_ (closed f (record { names = f.names; design = d })) (λ u. rest_of wires_only (map module_of modules) fs d)
     pub is : IsFrame modules o f
     pub names : AreFitNames f.names (length d.entries)
     pub visiting : IsVisiting pins modules outer (slice_set marks o.module false) kept fs d
@@ -119,7 +120,7 @@ module _ (pins : List ResetPin) (modules : List Module) (apart : AreNamedApart m
       record {
         f = i.f;
         fs = i.fs;
-        rest = ap (λ fs. rest_of (map module_of modules) fs d) i.frames_are ∙ rest-none (map module_of modules) i.f i.fs d items;
+        rest = ap (λ fs. rest_of wires_only (map module_of modules) fs d) i.frames_are ∙ rest-none wires_only (map module_of modules) i.f i.fs d items;
         is = i.is;
         names = All-head (λ (g : Frame). AreFitNames g.names (length d.entries)) i.f i.fs v.names;
         visiting = left-behind pins modules apart opens outer o marks kept d popped i.f i.fs v i.is i.around;
@@ -127,25 +128,25 @@ module _ (pins : List ResetPin) (modules : List Module) (apart : AreNamedApart m
 
   -- what was given to it is wide enough, or it is refused
   pub left-on : (frames : List Frame) (l : IsLeft frames) (v : Visit) → closed l.f (record { names = l.f.names; design = d }) ≡ good tt → v.open.items ≡ outer → v.is_open.items ≡ slice_set marks o.module false → v.design ≡ kept
-      → Goes pins modules (rest_of (map module_of modules) frames d) (Ok tt) v
+      → Goes wires_only pins modules (rest_of wires_only (map module_of modules) frames d) (Ok tt) v
   left-on frames l v e stack flags same = (
     l.fs,
     d,
-    l.rest ∙ ap (λ q. then_ q (λ u. rest_of (map module_of modules) l.fs d)) e,
+    l.rest ∙ ap (λ q. then_ q (λ u. rest_of wires_only (map module_of modules) l.fs d)) e,
     subst (λ (os : List Open). IsVisiting pins modules os v.is_open.items v.design l.fs d) (sym stack)
         (subst (λ (ms : List Bool). IsVisiting pins modules outer ms v.design l.fs d) (sym flags)
         (subst (λ (k : table.Design). IsVisiting pins modules outer (slice_set marks o.module false) k l.fs d) (sym same) l.visiting)),
   )
 
-  pub left-refused : (frames : List Frame) (l : IsLeft frames) (v : Visit) (e : Stop) → IsClosed (closed l.f (record { names = l.f.names; design = d })) (Err e) → Goes pins modules (rest_of (map module_of modules) frames d) (Err e) v
-  left-refused frames l v (Refused q) h = l.rest ∙ ap (λ r. then_ r (λ u. rest_of (map module_of modules) l.fs d)) h
+  pub left-refused : (frames : List Frame) (l : IsLeft frames) (v : Visit) (e : Stop) → IsClosed (closed l.f (record { names = l.f.names; design = d })) (Err e) → Goes wires_only pins modules (rest_of wires_only (map module_of modules) frames d) (Err e) v
+  left-refused frames l v (Refused q) h = l.rest ∙ ap (λ r. then_ r (λ u. rest_of wires_only (map module_of modules) l.fs d)) h
   left-refused frames l v Memory h = tt
 
   -- a module with an item that is left
   pub record HasNext (i : Item) (o' : Open) (frames : List Frame) : Type 0 where
     pub f : Frame
     pub fs : List Frame
-    pub rest : rest_of (map module_of modules) frames d ≡ next_of (map module_of modules) f fs d (item_of i)
+    pub rest : rest_of wires_only (map module_of modules) frames d ≡ next_of wires_only (map module_of modules) f fs d (item_of i)
     pub visiting : IsVisiting pins modules (outer ++ o' ∷ []) marks kept (f ∷ fs) d
     pub before : item_before modules o' ≡ Some i
 
@@ -160,7 +161,7 @@ module _ (pins : List ResetPin) (modules : List Module) (apart : AreNamedApart m
       record {
         f = record k.f { items = map item_of (drop (suc o.next) k.is.tree.items) };
         fs = k.fs;
-        rest = ap (λ fs. rest_of (map module_of modules) fs d) k.frames_are ∙ rest-next (map module_of modules) k.f k.fs d (item_of i) (map item_of (drop (suc o.next) k.is.tree.items)) items;
+        rest = ap (λ fs. rest_of wires_only (map module_of modules) fs d) k.frames_are ∙ rest-next wires_only (map module_of modules) k.f k.fs d (item_of i) (map item_of (drop (suc o.next) k.is.tree.items)) items;
         visiting = record {
           frames_are = (
             outer,
@@ -183,7 +184,7 @@ module _ (pins : List ResetPin) (modules : List Module) (apart : AreNamedApart m
 
 -- ---- an item that declares nothing
 
-module _ (pins : List ResetPin) (modules : List Module) where
+module _ (wires_only : Bool) (pins : List ResetPin) (modules : List Module) where
   pub still-visiting : (opens : List Open) (marks : List Bool) (kept grown : table.Design) (f : Frame) (fs : List Frame) (d : Design) (t : Stage) → IsVisiting pins modules opens marks kept (f ∷ fs) d
       → KeepsLook (record { names = f.names; design = d }) t → ShowsDesign pins grown t.design → IsVisiting pins modules opens marks grown (record f { names = t.names } ∷ fs) t.design
   still-visiting opens marks kept grown f fs d t h e shown = go t.names t.design (ap (λ (l : Look). l.names) e) (ap (λ (l : Look). l.entries) e) shown
@@ -204,21 +205,21 @@ module _ (pins : List ResetPin) (modules : List Module) where
 
   -- the item's refusal is that of what is still to come
   pub item-refused : (f : Frame) (fs : List Frame) (d : Design) (i : ItemTree) (names : Table) (kept : table.Design) (v : Visit) (e : Stop)
-      → Meets pins names (item (map module_of modules) (visited (f ∷ fs)) f.prefix (visit (map module_of modules) f.depth) (record { names = f.names; design = d }) i) (Err e) kept
-      → Goes pins modules (next_of (map module_of modules) f fs d i) (Err e) v
-  item-refused f fs d i names kept v (Refused x) h = ap (λ (o : Outcome Stage). then_ o (λ (s : Stage). rest_of (map module_of modules) (record f { names = s.names } ∷ fs) s.design)) h
+      → Meets pins names (chosen_item wires_only (map module_of modules) (visited (f ∷ fs)) f.prefix (chosen_visit wires_only (map module_of modules) f.depth) (record { names = f.names; design = d }) i) (Err e) kept
+      → Goes wires_only pins modules (next_of wires_only (map module_of modules) f fs d i) (Err e) v
+  item-refused f fs d i names kept v (Refused x) h = ap (λ (o : Outcome Stage). then_ o (λ (s : Stage). rest_of wires_only (map module_of modules) (record f { names = s.names } ∷ fs) s.design)) h
   item-refused f fs d i names kept v Memory h = tt
 
   -- the item is done
   pub item-done : (opens : List Open) (o : Open) (marks : List Bool) (kept : table.Design) (f : Frame) (fs : List Frame) (d : Design) (i : ItemTree) (v : Visit) → IsVisiting pins modules (opens ++ o ∷ []) marks kept (f ∷ fs) d
-      → ((t : Stage) → item (map module_of modules) (visited (f ∷ fs)) f.prefix (visit (map module_of modules) f.depth) (record { names = f.names; design = d }) i ≡ good t → KeepsLook (record { names = f.names; design = d }) t)
-      → Meets pins o.names (item (map module_of modules) (visited (f ∷ fs)) f.prefix (visit (map module_of modules) f.depth) (record { names = f.names; design = d }) i) (Ok tt) v.design
-      → v.open.items ≡ opens ++ o ∷ [] → v.is_open.items ≡ marks → Goes pins modules (next_of (map module_of modules) f fs d i) (Ok tt) v
+      → ((t : Stage) → chosen_item wires_only (map module_of modules) (visited (f ∷ fs)) f.prefix (chosen_visit wires_only (map module_of modules) f.depth) (record { names = f.names; design = d }) i ≡ good t → KeepsLook (record { names = f.names; design = d }) t)
+      → Meets pins o.names (chosen_item wires_only (map module_of modules) (visited (f ∷ fs)) f.prefix (chosen_visit wires_only (map module_of modules) f.depth) (record { names = f.names; design = d }) i) (Ok tt) v.design
+      → v.open.items ≡ opens ++ o ∷ [] → v.is_open.items ≡ marks → Goes wires_only pins modules (next_of wires_only (map module_of modules) f fs d i) (Ok tt) v
   item-done opens o marks kept f fs d i v h looks e stack kept-marks =
       let t = e.0 in (
         record f { names = t.names } ∷ fs,
         t.design,
-        ap (λ (q : Outcome Stage). then_ q (λ (s : Stage). rest_of (map module_of modules) (record f { names = s.names } ∷ fs) s.design)) e.1,
+        ap (λ (q : Outcome Stage). then_ q (λ (s : Stage). rest_of wires_only (map module_of modules) (record f { names = s.names } ∷ fs) s.design)) e.1,
         subst (λ (os : List Open). IsVisiting pins modules os v.is_open.items v.design (record f { names = t.names } ∷ fs) t.design) (sym stack)
             (subst (λ (ms : List Bool). IsVisiting pins modules (opens ++ o ∷ []) ms v.design (record f { names = t.names } ∷ fs) t.design) (sym kept-marks)
             (still-visiting (opens ++ o ∷ []) marks kept v.design f fs d t h (looks t e.1) e.2.design)),
@@ -248,7 +249,7 @@ named-instance old new names x h fresh e = record { kept = λ y. ap (option_map 
     kept true y k = sym (ap (found_in (names ++ ((x, no_value) ∷ []))) (sym ((bytes_eq-Decides x y).0 k)) ∙ behind names fresh)
     kept false y k = h.kept y ∙ sym (other names y k)
 
-module _ (pins : List ResetPin) (modules : List Module) (f : Frame) (fs : List Frame) (d : Design) (p : Place) (child x : Text) (params ports : ConnsTree) where
+module _ (wires_only : Bool) (pins : List ResetPin) (modules : List Module) (f : Frame) (fs : List Frame) (d : Design) (p : Place) (child x : Text) (params ports : ConnsTree) where
   abbrev the_item : ItemTree
   the_item = record { place = p; body = instance child params x ports }
 
@@ -256,9 +257,9 @@ module _ (pins : List ResetPin) (modules : List Module) (f : Frame) (fs : List F
   the_stage = record { names = f.names; design = d }
 
   -- its module isn't found
-  pub not-found : (v : Visit) (e : Stop) → Finds modules (visited (f ∷ fs)) the_stage p child x (Err e) → Goes pins modules (next_of (map module_of modules) f fs d the_item) (Err e) v
+  pub not-found : (v : Visit) (e : Stop) → Finds modules (visited (f ∷ fs)) the_stage p child x (Err e) → Goes wires_only pins modules (next_of wires_only (map module_of modules) f fs d the_item) (Err e) v
   not-found v (Refused q) h =
-      ap (λ (o : Outcome Stage). then_ o (λ (s : Stage). rest_of (map module_of modules) (record f { names = s.names } ∷ fs) s.design)) (h (visit (map module_of modules) f.depth) f.prefix params ports)
+      ap (λ (o : Outcome Stage). then_ o (λ (s : Stage). rest_of wires_only (map module_of modules) (record f { names = s.names } ∷ fs) s.design)) (h (chosen_visit wires_only (map module_of modules) f.depth) f.prefix params ports)
   not-found v Memory h = tt
 
   -- the module that was found, by its number
@@ -278,8 +279,8 @@ module _ (pins : List ResetPin) (modules : List Module) (f : Frame) (fs : List F
 
     -- its overrides or connections break a rule
     pub not-joined : (T : Type 0) (sides : IndexMap Text (Option Bool) T) (v : Visit) (e : Stop) → AreEnds pins sides the_stage p t params ports (Err e)
-        → Goes pins modules (next_of (map module_of modules) f fs d the_item) (Err e) v
-    not-joined T sides v (Refused q) h = instance-bad (map module_of modules) f fs d p t child params x ports q found.named found.new found.fresh h
+        → Goes wires_only pins modules (next_of wires_only (map module_of modules) f fs d the_item) (Err e) v
+    not-joined T sides v (Refused q) h = instance-bad wires_only (map module_of modules) f fs d p t child params x ports q found.named found.new found.fresh h
     not-joined T sides v Memory h = tt
 
     module _ (apart : AreNamedApart modules) (opens : List Open) (o : Open) (marks : List Bool) (kept : table.Design) (h : IsVisiting pins modules (opens ++ o ∷ []) marks kept (f ∷ fs) d)
@@ -294,18 +295,18 @@ module _ (pins : List ResetPin) (modules : List Module) (f : Frame) (fs : List F
       entry = begun (overrides_of (look_of the_stage) t params) (prefix_of modules renamed) t d
 
       to-come : Stage → Outcome Design
-      to-come s = then_ (header_values t (connected (links_of (look_of the_stage) t ports) s)) (λ (u : Stage). rest_of (map module_of modules)
+      to-come s = then_ (header_values t (connected (links_of (look_of the_stage) t ports) s)) (λ (u : Stage). rest_of wires_only (map module_of modules)
           (record { tree = t; names = u.names; items = t.items; prefix = f.prefix ++ printed_part x ++ codes "."; depth = f.depth - 1; given = leaning_of (look_of the_stage) t params ports; place = Some p } ∷ record f { names = f.names ++ ((x, no_value) ∷ []) } ∷ fs) u.design)
 
-      next-is : next_of (map module_of modules) f fs d the_item ≡ then_ entry to-come
+      next-is : next_of wires_only (map module_of modules) f fs d the_item ≡ then_ entry to-come
       unfolding to-come
       next-is =
-          instance-is (map module_of modules) f fs d p t child params x ports (f.depth - 1) deep found.named found.new found.fresh right
+          instance-is wires_only (map module_of modules) f fs d p t child params x ports (f.depth - 1) deep found.named found.new found.fresh right
           ∙ ap (λ (prefix : Text). then_ (begun (overrides_of (look_of the_stage) t params) prefix t d) to-come)
           (prefix-below pins modules apart opens o marks kept f fs d h x names shows part)
 
       -- its parameters or declarations are refused
-      pub not-begun : (S : Type 0) (v : Visit) (e : Stop) (kept' : table.Design) → Begins {S = S} pins entry (Err e) kept' → Goes pins modules (next_of (map module_of modules) f fs d the_item) (Err e) v
+      pub not-begun : (S : Type 0) (v : Visit) (e : Stop) (kept' : table.Design) → Begins {S = S} pins entry (Err e) kept' → Goes wires_only pins modules (next_of wires_only (map module_of modules) f fs d the_item) (Err e) v
       not-begun S v (Refused q) kept' b = next-is ∙ ap (λ (r : Outcome Stage). then_ r to-come) b
       not-begun S v Memory kept' b = tt
 
@@ -313,17 +314,17 @@ module _ (pins : List ResetPin) (modules : List Module) (f : Frame) (fs : List F
         abbrev links : List Link
         links = links_of (look_of the_stage) t ports
 
-        begins : next_of (map module_of modules) f fs d the_item ≡ to-come s
+        begins : next_of wires_only (map module_of modules) f fs d the_item ≡ to-come s
         begins = next-is ∙ ap (λ (r : Outcome Stage). then_ r to-come) is
 
         -- its module is entered, or refused by a start value in its header
         pub goes-in : (inner : Table) (given : Given) (old v : Visit) (r : Result (Unit {0}) Stop) → map leaning_in given.params.items ++ map leaning_in given.ports.items ≡ leaning_of (look_of the_stage) t params ports → given.place ≡ Some p
             → old.open.items ≡ renamed → old.is_open.items ≡ marks → Enters pins number inner given old (header_values t (connected links s)) r v
-            → Goes pins modules (next_of (map module_of modules) f fs d the_item) r v
+            → Goes wires_only pins modules (next_of wires_only (map module_of modules) f fs d the_item) r v
         unfolding to-come
         goes-in inner given old v (Err Memory) leans at stack same e = tt
         goes-in inner given old v (Err (Refused q)) leans at stack same e =
-            begins ∙ ap (λ (y : Outcome Stage). then_ y (λ (u : Stage). rest_of (map module_of modules)
+            begins ∙ ap (λ (y : Outcome Stage). then_ y (λ (u : Stage). rest_of wires_only (map module_of modules)
             (record { tree = t; names = u.names; items = t.items; prefix = f.prefix ++ printed_part x ++ codes "."; depth = f.depth - 1; given = leaning_of (look_of the_stage) t params ports; place = Some p } ∷ record f { names = f.names ++ ((x, no_value) ∷ []) } ∷ fs) u.design)) e
         goes-in inner given old v (Ok u) leans at stack same e =
             let w = e.0 in
@@ -337,7 +338,7 @@ module _ (pins : List ResetPin) (modules : List Module) (f : Frame) (fs : List F
             let opened : Open = record { «module» = number; names = inner; next = 0; given = given } in (
               frame ∷ around ∷ fs,
               w.design,
-              begins ∙ ap (λ (y : Outcome Stage). then_ y (λ (u : Stage). rest_of (map module_of modules)
+              begins ∙ ap (λ (y : Outcome Stage). then_ y (λ (u : Stage). rest_of wires_only (map module_of modules)
                   (record { tree = t; names = u.names; items = t.items; prefix = f.prefix ++ printed_part x ++ codes "."; depth = f.depth - 1; given = leaning_of (look_of the_stage) t params ports; place = Some p } ∷ around ∷ fs) u.design)) e.1,
               subst (λ (os : List Open). IsVisiting pins modules os v.is_open.items v.design (frame ∷ around ∷ fs) w.design) (sym (e.3 ∙ ap (λ (os : List Open). os ++ opened ∷ []) stack))
                   (subst (λ (ms : List Bool). IsVisiting pins modules (renamed ++ opened ∷ []) ms v.design (frame ∷ around ∷ fs) w.design) (sym (e.4 ∙ ap (λ (ms : List Bool). slice_set ms number true) same)) inside),
@@ -345,14 +346,14 @@ module _ (pins : List ResetPin) (modules : List Module) (f : Frame) (fs : List F
 
 -- ---- the visit of all that is open
 
-module _ (pins : List ResetPin) (modules : List Module) (o : Outcome Design) (v : Visit) (h : Goes pins modules o (Ok tt) v) where
-  pub goes-further : (w : Visit) → Goes pins modules (rest_of (map module_of modules) h.0 h.1) (Ok tt) w → Goes pins modules o (Ok tt) w
+module _ (wires_only : Bool) (pins : List ResetPin) (modules : List Module) (o : Outcome Design) (v : Visit) (h : Goes wires_only pins modules o (Ok tt) v) where
+  pub goes-further : (w : Visit) → Goes wires_only pins modules (rest_of wires_only (map module_of modules) h.0 h.1) (Ok tt) w → Goes wires_only pins modules o (Ok tt) w
   goes-further w g = (g.0, g.1, h.2 ∙ g.2, g.3)
 
   pub all-done : (w : Visit) → h.0 ≡ [] → IsGrown pins w.design h.1 → Ends (IsGrown pins w.design) o (Ok tt)
-  all-done w none g = (h.1, h.2 ∙ ap (λ (fs : List Frame). rest_of (map module_of modules) fs h.1) none, g)
+  all-done w none g = (h.1, h.2 ∙ ap (λ (fs : List Frame). rest_of wires_only (map module_of modules) fs h.1) none, g)
 
-  pub stops : (w : Visit) (e : Stop) (P : Design → Type 0) → Goes pins modules (rest_of (map module_of modules) h.0 h.1) (Err e) w → Ends P o (Err e)
+  pub stops : (w : Visit) (e : Stop) (P : Design → Type 0) → Goes wires_only pins modules (rest_of wires_only (map module_of modules) h.0 h.1) (Err e) w → Ends P o (Err e)
   stops w (Refused f) P g = h.2 ∙ g
   stops w Memory P g = tt
 

@@ -1,5 +1,6 @@
 pub mod Begun
 pub mod Changes
+pub mod Chosen
 pub mod Connected
 pub mod Counted
 pub mod DeclaredResets
@@ -14,6 +15,7 @@ pub mod Going
 pub mod HeaderValues
 pub mod Joined
 pub mod Joints
+pub mod Late
 pub mod Leaning
 pub mod Libraries
 pub mod Links
@@ -25,6 +27,7 @@ pub mod Resolving
 pub mod Shown
 pub mod Sides
 pub mod Stacks
+pub mod StartValues
 pub mod Taken
 pub mod Top
 pub mod TopInputs
@@ -32,4 +35,5 @@ pub mod TopPorts
 pub mod Unfolded
 pub mod Visits
 pub mod Wired
+pub mod WiresSized
 pub mod Flattened

@@ -100,6 +100,7 @@ shows-reset pins d e q r s v h k i = record {
   };
   declared = h.declared;
   process_resets = h.process_resets;
+  late = h.late;
   sizes = h.sizes;
 }
 
@@ -118,6 +119,7 @@ same-items pins d e v h i = record {
   starts = λ t. ap (λ (xs : List Entry). start_at xs t) i ∙ h.starts t;
   givens = λ t. subst (λ (xs : List Entry). AreGiven e.givens xs t) (sym i) (h.givens t);
   process_resets = h.process_resets;
+  late = h.late;
   sizes = h.sizes;
 }
 

@@ -12,7 +12,7 @@ use Rattle.verilog_reading.specs.SourceTree.{ModuleTree, module_of}
 use Rattle.flat_unfolding.specs.Outcome.{Text, Outcome, good, then_}
 use Rattle.flat_unfolding.specs.Declarations.{header_of, header_decls}
 use Rattle.flat_unfolding.specs.Design.{Design, Stage, look_of, no_design}
-use Rattle.flat_unfolding.specs.Unfolding.{header_values, visit, top_ports}
+use Rattle.flat_unfolding.specs.Unfolding.{header_values, top_ports}
 use Rattle.flat_names.specs.declared.design.Design as table
 use Rattle.flat_names.specs.Looks.{IsFit}
 use Rattle.flat_names.specs.Designs.{Ends}
@@ -21,6 +21,7 @@ use Rattle.flat_declarations.specs.Declaring.{override_of, given_in, IsGivenSize
 use Rattle.flat_design.specs.declared.instance.Given.{Given}
 use Rattle.flat_design.specs.declared.visit.Open.{Open}
 use Rattle.flat_design.specs.declared.visit.Visit.{Visit}
+use Rattle.flat_design.specs.Chosen.{chosen_visit}
 use Rattle.flat_design.specs.Visiting.{Frame, leaning_in, rest_of, AreMarked, AreFitNames, IsFitDesign, IsVisiting, Goes, begun, Begins, Table, Enters}
 use Rattle.flat_design.proofs.Fits.{names-fit, design-fit, still-fit, values-look, top-fit}
 use Rattle.flat_design.proofs.Stacks.{AreNamedApart, mark-entered}
@@ -32,7 +33,7 @@ none-visited [] j q e = absurd (search (rules, e))
 none-visited (m ∷ modules) zero q e = ((let l : 0 < suc (length (map (λ (z : Module). false) modules)) = omega arith in l), refl)
 none-visited (m ∷ modules) (suc j) q e = let h = none-visited modules j q e in let k = h.0 in ((let l : suc j < suc (length (map (λ (z : Module). false) modules)) = omega arith in l), h.1)
 
-module _ (pins : List ResetPin) (modules : List Module) (apart : AreNamedApart modules) (top : ℕ) (m : Module) (at : slice_get modules top ≡ Some m) where
+module _ (wires_only : Bool) (pins : List ResetPin) (modules : List Module) (apart : AreNamedApart modules) (top : ℕ) (m : Module) (at : slice_get modules top ≡ Some m) where
   abbrev t : ModuleTree
   t = module_of m
 
@@ -40,13 +41,13 @@ module _ (pins : List ResetPin) (modules : List Module) (apart : AreNamedApart m
   top_begun = begun [] [] t (no_design pins)
 
   abbrev pub top_visit : Outcome Design
-  top_visit = then_ (visit (map module_of modules) (length modules) [] (m.name ∷ []) t [] (top_ports (header_of t)) (no_design pins)) (λ (s : Stage). good s.design)
+  top_visit = then_ (chosen_visit wires_only (map module_of modules) (length modules) [] (m.name ∷ []) t [] (top_ports (header_of t)) (no_design pins)) (λ (s : Stage). good s.design)
 
   abbrev depth : ℕ
   depth = length modules - 1
 
   to-come : Stage → Outcome Design
-  to-come s = then_ (header_values t (top_ports (header_of t) s)) (λ (u : Stage). rest_of (map module_of modules) (record { tree = t; names = u.names; items = t.items; prefix = []; depth = depth; given = []; place = None } ∷ []) u.design)
+  to-come s = then_ (header_values t (top_ports (header_of t) s)) (λ (u : Stage). rest_of wires_only (map module_of modules) (record { tree = t; names = u.names; items = t.items; prefix = []; depth = depth; given = []; place = None } ∷ []) u.design)
 
   deep : length modules ≡ suc depth
   deep = let l = slice_get_within modules top m at in omega (arith, l)
@@ -54,8 +55,8 @@ module _ (pins : List ResetPin) (modules : List Module) (apart : AreNamedApart m
   top-is : top_visit ≡ then_ top_begun to-come
   unfolding to-come
   top-is =
-      ap (λ (k : ℕ). then_ (visit (map module_of modules) k [] (m.name ∷ []) t [] (top_ports (header_of t)) (no_design pins)) (λ (s : Stage). good s.design)) deep
-      ∙ visit-is (map module_of modules) depth [] (m.name ∷ []) t [] (top_ports (header_of t)) (no_design pins) (λ (s : Stage). good s.design)
+      ap (λ (k : ℕ). then_ (chosen_visit wires_only (map module_of modules) k [] (m.name ∷ []) t [] (top_ports (header_of t)) (no_design pins)) (λ (s : Stage). good s.design)) deep
+      ∙ visit-is wires_only (map module_of modules) depth [] (m.name ∷ []) t [] (top_ports (header_of t)) (no_design pins) (λ (s : Stage). good s.design)
 
   pub top-not-begun : (S : Type 0) (e : Stop) (kept : table.Design) (P : Design → Type 0) → Begins {S = S} pins top_begun (Err e) kept → Ends P top_visit (Err e)
   top-not-begun S (Refused f) kept P b = top-is ∙ ap (λ (o : Outcome Stage). then_ o to-come) b
@@ -68,11 +69,11 @@ module _ (pins : List ResetPin) (modules : List Module) (apart : AreNamedApart m
     -- refused by a start value in its header
     pub top-refused : (inner : Table) (given : Given) (old v : Visit) (e : Stop) (P : Design → Type 0) → Enters pins top inner given old (header_values t (top_ports (header_of t) s)) (Err e) v → Ends P top_visit (Err e)
     unfolding to-come
-    top-refused inner given old v (Refused f) P h = begins ∙ ap (λ (o : Outcome Stage). then_ o (λ (u : Stage). rest_of (map module_of modules) (record { tree = t; names = u.names; items = t.items; prefix = []; depth = depth; given = []; place = None } ∷ []) u.design)) h
+    top-refused inner given old v (Refused f) P h = begins ∙ ap (λ (o : Outcome Stage). then_ o (λ (u : Stage). rest_of wires_only (map module_of modules) (record { tree = t; names = u.names; items = t.items; prefix = []; depth = depth; given = []; place = None } ∷ []) u.design)) h
     top-refused inner given old v Memory P h = tt
 
     pub top-entered : (inner : Table) (given : Given) (old v : Visit) → map leaning_in given.params.items ++ map leaning_in given.ports.items ≡ [] → given.place ≡ None → old.open.items ≡ [] → old.is_open.items ≡ map (λ (q : Module). false) modules
-        → Enters pins top inner given old (header_values t (top_ports (header_of t) s)) (Ok tt) v → Goes pins modules top_visit (Ok tt) v
+        → Enters pins top inner given old (header_values t (top_ports (header_of t) s)) (Ok tt) v → Goes wires_only pins modules top_visit (Ok tt) v
     unfolding to-come
     top-entered inner given old v leans place none marks h =
         let w = h.0 in
@@ -92,7 +93,7 @@ module _ (pins : List ResetPin) (modules : List Module) (apart : AreNamedApart m
         } in (
           frame ∷ [],
           w.design,
-          begins ∙ ap (λ (o : Outcome Stage). then_ o (λ (u : Stage). rest_of (map module_of modules) (record { tree = t; names = u.names; items = t.items; prefix = []; depth = depth; given = []; place = None } ∷ []) u.design)) h.1,
+          begins ∙ ap (λ (o : Outcome Stage). then_ o (λ (u : Stage). rest_of wires_only (map module_of modules) (record { tree = t; names = u.names; items = t.items; prefix = []; depth = depth; given = []; place = None } ∷ []) u.design)) h.1,
           subst (λ (os : List Open). IsVisiting pins modules os v.is_open.items v.design (frame ∷ []) w.design) (sym (h.3 ∙ ap (λ (os : List Open). os ++ opened ∷ []) none))
               (subst (λ (ms : List Bool). IsVisiting pins modules (opened ∷ []) ms v.design (frame ∷ []) w.design) (sym (h.4 ∙ ap (λ (ms : List Bool). slice_set ms top true) marks)) visiting),
         )

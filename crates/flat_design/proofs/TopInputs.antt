@@ -49,6 +49,7 @@ shows-outside pins k d s w h i = record {
   starts = h.starts;
   givens = h.givens;
   process_resets = h.process_resets;
+  late = h.late;
   sizes = record { assigns = h.sizes.assigns; combs = h.sizes.combs; clocked = h.sizes.clocked };
 }
 

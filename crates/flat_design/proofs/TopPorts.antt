@@ -39,6 +39,7 @@ shows-output pins k d s v h e = record {
   starts = h.starts;
   givens = h.givens;
   process_resets = h.process_resets;
+  late = h.late;
   sizes = record { assigns = h.sizes.assigns; combs = h.sizes.combs; clocked = h.sizes.clocked };
 }
 

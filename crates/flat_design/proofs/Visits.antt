@@ -12,31 +12,32 @@ use Rattle.flat_unfolding.specs.Design.{Design, Stage, look_of}
 use Rattle.flat_unfolding.specs.Parameters.{Overrides, parameters}
 use Rattle.flat_unfolding.specs.Declarations.{declarations}
 use Rattle.flat_unfolding.specs.Instances.{overrides_of, links_of, connected, leaning_of, is_short}
-use Rattle.flat_unfolding.specs.Unfolding.{module_named, instance_item, item, header_values, with_resets, visit}
+use Rattle.flat_unfolding.specs.Unfolding.{module_named, instance_item, header_values, with_resets}
+use Rattle.flat_design.specs.Chosen.{chosen_item, chosen_visit}
 use Rattle.flat_design.specs.Visiting.{Frame, visited, closed, rest_of, next_of, begun, end_rules}
 
 pub then-then : {A B C : Type 0} (o : Outcome A) (f : A → Outcome B) (g : B → Outcome C) → then_ (then_ o f) g ≡ then_ o (λ a. then_ (f a) g)
 then-then (good a) f g = refl
 then-then (bad e) f g = refl
 
-then-same : {A B : Type 0} (o : Outcome A) (f g : A → Outcome B) → ((a : A) → f a ≡ g a) → then_ o f ≡ then_ o g
+pub then-same : {A B : Type 0} (o : Outcome A) (f g : A → Outcome B) → ((a : A) → f a ≡ g a) → then_ o f ≡ then_ o g
 then-same (good a) f g h = h a
 then-same (bad e) f g h = refl
 
-module _ (modules : List ModuleTree) where
+module _ (wires_only : Bool) (modules : List ModuleTree) where
   -- a module whose items are done
-  pub rest-none : (f : Frame) (fs : List Frame) (d : Design) → f.items ≡ [] → rest_of modules (f ∷ fs) d ≡ then_ (closed f (record { names = f.names; design = d })) (λ u. rest_of modules fs d)
+  pub rest-none : (f : Frame) (fs : List Frame) (d : Design) → f.items ≡ [] → rest_of wires_only modules (f ∷ fs) d ≡ then_ (closed f (record { names = f.names; design = d })) (λ u. rest_of wires_only modules fs d)
   rest-none f fs d e =
-      ap (λ (is : List ItemTree). then_ (each (item modules (visited (f ∷ fs)) f.prefix (visit modules f.depth)) (record { names = f.names; design = d }) is)
-      (λ (s : Stage). then_ (closed f s) (λ u. rest_of modules fs s.design))) e
+      ap (λ (is : List ItemTree). then_ (each (chosen_item wires_only modules (visited (f ∷ fs)) f.prefix (chosen_visit wires_only modules f.depth)) (record { names = f.names; design = d }) is)
+      (λ (s : Stage). then_ (closed f s) (λ u. rest_of wires_only modules fs s.design))) e
 
   -- a module with an item that is left
-  pub rest-next : (f : Frame) (fs : List Frame) (d : Design) (i : ItemTree) (is : List ItemTree) → f.items ≡ i ∷ is → rest_of modules (f ∷ fs) d ≡ next_of modules (record f { items = is }) fs d i
+  pub rest-next : (f : Frame) (fs : List Frame) (d : Design) (i : ItemTree) (is : List ItemTree) → f.items ≡ i ∷ is → rest_of wires_only modules (f ∷ fs) d ≡ next_of wires_only modules (record f { items = is }) fs d i
   rest-next f fs d i is e =
-      ap (λ (js : List ItemTree). then_ (each (item modules (visited (f ∷ fs)) f.prefix (visit modules f.depth)) (record { names = f.names; design = d }) js)
-      (λ (s : Stage). then_ (closed f s) (λ u. rest_of modules fs s.design))) e
-      ∙ then-then (item modules (visited (f ∷ fs)) f.prefix (visit modules f.depth) (record { names = f.names; design = d }) i)
-      (λ (t : Stage). each (item modules (visited (f ∷ fs)) f.prefix (visit modules f.depth)) t is) (λ (s : Stage). then_ (closed f s) (λ u. rest_of modules fs s.design))
+      ap (λ (js : List ItemTree). then_ (each (chosen_item wires_only modules (visited (f ∷ fs)) f.prefix (chosen_visit wires_only modules f.depth)) (record { names = f.names; design = d }) js)
+      (λ (s : Stage). then_ (closed f s) (λ u. rest_of wires_only modules fs s.design))) e
+      ∙ then-then (chosen_item wires_only modules (visited (f ∷ fs)) f.prefix (chosen_visit wires_only modules f.depth) (record { names = f.names; design = d }) i)
+      (λ (t : Stage). each (chosen_item wires_only modules (visited (f ∷ fs)) f.prefix (chosen_visit wires_only modules f.depth)) t is) (λ (s : Stage). then_ (closed f s) (λ u. rest_of wires_only modules fs s.design))
 
 -- ---- an instance that breaks no rule
 
@@ -60,15 +61,15 @@ regroup {B = B} {C = C} (good a) f w g h k = go (f a)
     go (good b) = last (g (w b))
     go (bad e) = refl
 
-module _ (modules : List ModuleTree) where
+module _ (wires_only : Bool) (modules : List ModuleTree) where
   -- the visit of a module goes on with the stack
   pub visit-is : (n : ℕ) (prefix : Text) (visiting : List Text) (m : ModuleTree) (given : Overrides) (ports : Stage → Stage) (d : Design) (k : Stage → Outcome Design)
-      → then_ (visit modules (suc n) prefix visiting m given ports d) k
+      → then_ (chosen_visit wires_only modules (suc n) prefix visiting m given ports d) k
       ≡ then_ (begun given prefix m d)
-      (λ (t : Stage). then_ (header_values m (ports t)) (λ (u : Stage). then_ (each (item modules visiting prefix (visit modules n)) u m.items) k))
+      (λ (t : Stage). then_ (header_values m (ports t)) (λ (u : Stage). then_ (each (chosen_item wires_only modules visiting prefix (chosen_visit wires_only modules n)) u m.items) k))
   visit-is n prefix visiting m given ports d k =
       regroup (parameters given m (record { names = []; design = d })) (λ (s : Stage). declarations prefix m s) (with_resets (length d.entries)) (λ (t : Stage). header_values m (ports t))
-      (λ (u : Stage). each (item modules visiting prefix (visit modules n)) u m.items) k
+      (λ (u : Stage). each (chosen_item wires_only modules visiting prefix (chosen_visit wires_only modules n)) u m.items) k
 
   module _ (f : Frame) (fs : List Frame) (d : Design) (p : Place) (m : ModuleTree) (child : Text) (params : ConnsTree) (x : Text) (ports : ConnsTree) where
     abbrev here : Stage
@@ -92,31 +93,31 @@ module _ (modules : List ModuleTree) where
 
     -- what is still to come once the parameters and declarations of its module are read
     abbrev pub entering : ℕ → Stage → Outcome Design
-    entering n t = then_ (header_values m (connected (links_of (look_of here) m ports) t)) (λ (u : Stage). rest_of modules (inside n u ∷ around ∷ fs) u.design)
+    entering n t = then_ (header_values m (connected (links_of (look_of here) m ports) t)) (λ (u : Stage). rest_of wires_only modules (inside n u ∷ around ∷ fs) u.design)
 
     pub instance-is : (n : ℕ) → f.depth ≡ suc n → module_named child modules ≡ Some m → is_in (visited (f ∷ fs)) m.name ≡ false → is_declared f.names x ≡ false → end_rules here m params ports ≡ []
-        → next_of modules f fs d (record { place = p; body = instance child params x ports })
+        → next_of wires_only modules f fs d (record { place = p; body = instance child params x ports })
         ≡ then_ (begun (overrides_of (look_of here) m params) below m d) (entering n)
     instance-is n depth named new fresh right =
-        let g : Stage → Outcome Design = λ (s : Stage). rest_of modules (record f { names = s.names } ∷ fs) s.design in
-        ap (λ (o : Option ModuleTree). then_ (instance_item modules (visited (f ∷ fs)) f.prefix (visit modules f.depth) here p o child params x ports) g) named
+        let g : Stage → Outcome Design = λ (s : Stage). rest_of wires_only modules (record f { names = s.names } ∷ fs) s.design in
+        ap (λ (o : Option ModuleTree). then_ (instance_item modules (visited (f ∷ fs)) f.prefix (chosen_visit wires_only modules f.depth) here p o child params x ports) g) named
         ∙ ap (λ (o : Outcome Stage). then_ o g)
         (unrefused (is_in (visited (f ∷ fs)) m.name) 303 (Some p) m.name _ new ∙ unrefused (is_declared f.names x) 304 (Some p) x _ fresh ∙ unbroken by_number p (end_rules here m params ports) _ right)
-        ∙ then-then (visit modules f.depth below (m.name ∷ visited (f ∷ fs)) m (overrides_of (look_of here) m params) (connected (links_of (look_of here) m ports)) d) after g
-        ∙ then-same (visit modules f.depth below (m.name ∷ visited (f ∷ fs)) m (overrides_of (look_of here) m params) (connected (links_of (look_of here) m ports)) d)
-        (λ (t : Stage). then_ (after t) g) (λ (t : Stage). then_ (judge t) (λ u. rest_of modules (around ∷ fs) t.design))
+        ∙ then-then (chosen_visit wires_only modules f.depth below (m.name ∷ visited (f ∷ fs)) m (overrides_of (look_of here) m params) (connected (links_of (look_of here) m ports)) d) after g
+        ∙ then-same (chosen_visit wires_only modules f.depth below (m.name ∷ visited (f ∷ fs)) m (overrides_of (look_of here) m params) (connected (links_of (look_of here) m ports)) d)
+        (λ (t : Stage). then_ (after t) g) (λ (t : Stage). then_ (judge t) (λ u. rest_of wires_only modules (around ∷ fs) t.design))
         (λ (t : Stage). then-then (judge t) (λ u. good (record { names = f.names ++ ((x, no_value) ∷ []); design = t.design })) g)
-        ∙ ap (λ k. then_ (visit modules k below (m.name ∷ visited (f ∷ fs)) m (overrides_of (look_of here) m params) (connected (links_of (look_of here) m ports)) d)
-        (λ (t : Stage). then_ (judge t) (λ u. rest_of modules (around ∷ fs) t.design))) depth
-        ∙ visit-is n below (m.name ∷ visited (f ∷ fs)) m (overrides_of (look_of here) m params) (connected (links_of (look_of here) m ports)) d (λ (t : Stage). then_ (judge t) (λ u. rest_of modules (around ∷ fs) t.design))
+        ∙ ap (λ k. then_ (chosen_visit wires_only modules k below (m.name ∷ visited (f ∷ fs)) m (overrides_of (look_of here) m params) (connected (links_of (look_of here) m ports)) d)
+        (λ (t : Stage). then_ (judge t) (λ u. rest_of wires_only modules (around ∷ fs) t.design))) depth
+        ∙ visit-is n below (m.name ∷ visited (f ∷ fs)) m (overrides_of (look_of here) m params) (connected (links_of (look_of here) m ports)) d (λ (t : Stage). then_ (judge t) (λ u. rest_of wires_only modules (around ∷ fs) t.design))
 
     -- an instance whose overrides or connections break a rule
     pub instance-bad : (e : Fault) → module_named child modules ≡ Some m → is_in (visited (f ∷ fs)) m.name ≡ false → is_declared f.names x ≡ false
         → judged by_number p (end_rules here m params ports) (tt {0}) ≡ bad e
-        → next_of modules f fs d (record { place = p; body = instance child params x ports }) ≡ bad e
+        → next_of wires_only modules f fs d (record { place = p; body = instance child params x ports }) ≡ bad e
     instance-bad e named new fresh wrong =
-        let g : Stage → Outcome Design = λ (s : Stage). rest_of modules (record f { names = s.names } ∷ fs) s.design in
-        ap (λ (o : Option ModuleTree). then_ (instance_item modules (visited (f ∷ fs)) f.prefix (visit modules f.depth) here p o child params x ports) g) named
+        let g : Stage → Outcome Design = λ (s : Stage). rest_of wires_only modules (record f { names = s.names } ∷ fs) s.design in
+        ap (λ (o : Option ModuleTree). then_ (instance_item modules (visited (f ∷ fs)) f.prefix (chosen_visit wires_only modules f.depth) here p o child params x ports) g) named
         ∙ ap (λ (o : Outcome Stage). then_ o g)
         (unrefused (is_in (visited (f ∷ fs)) m.name) 303 (Some p) m.name _ new ∙ unrefused (is_declared f.names x) 304 (Some p) x _ fresh
-        ∙ ap (λ (o : Outcome (Unit {0})). then_ o (λ u. then_ (visit modules f.depth below (m.name ∷ visited (f ∷ fs)) m (overrides_of (look_of here) m params) (connected (links_of (look_of here) m ports)) d) after)) wrong)
+        ∙ ap (λ (o : Outcome (Unit {0})). then_ o (λ u. then_ (chosen_visit wires_only modules f.depth below (m.name ∷ visited (f ∷ fs)) m (overrides_of (look_of here) m params) (connected (links_of (look_of here) m ports)) d) after)) wrong)

@@ -32,7 +32,7 @@ use Rattle.flat_design.specs.declared.instance.Connection.{Connection}
 use Rattle.flat_design.specs.Visiting.{IsEnd, port_of, IsLinkOf, if_signal, connect_at, AreFitNames}
 use Rattle.flat_design.proofs.Connected.{one-alike}
 
-whole-keeps : (s : ℕ) → target_keeps_sizes (t.Whole s) ≡ true
+pub whole-keeps : (s : ℕ) → target_keeps_sizes (t.Whole s) ≡ true
 whole-keeps s = ap target_keeps_sizes (sym (t.rolls-Whole s)) ∙ fold-roll-FTarget _ target_step (FTarget-F.Whole s)
 
 read-keeps : (s at w : ℕ) → keeps_sizes (e.Read s at w) ≡ true

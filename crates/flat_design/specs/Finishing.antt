@@ -5,9 +5,8 @@ use Rattle.cdc_base.specs.declared.signal.SigKind.TheVariants.{Register}
 use Rattle.cell_graph.specs.Tree.{bit_at}
 use Rattle.flat_unfolding.specs.Design.{Design}
 use Rattle.flat_unfolding.specs.Signals.{known_bits, start_bits}
-use Rattle.flat_unfolding.specs.Starts.{given_bit}
+use Rattle.flat_unfolding.specs.Starts.{given_bit, first_start}
 use Rattle.flat_names.specs.declared.design.Entry.{Entry}
-use Rattle.flat_names.specs.Designs.{first_start}
 
 -- an entry has what the design tells of a signal's start values
 pub record HasKept (d : Design) (s : ℕ) (x : Entry) : Type 0 where

@@ -31,7 +31,7 @@ use Rattle.flat_unfolding.specs.Parameters.{Overrides, overridable, parameters}
 use Rattle.flat_unfolding.specs.Instances as of
 use Rattle.flat_unfolding.specs.Instances.{Joint, joints, override, override_rules, connection_rules, port_direction, Link, into, out_of, linked, into_port, out_of_port, leaning_joint, takes_input, is_short}
 use Rattle.flat_unfolding.specs.Design.{Design, Stage, look_of}
-use Rattle.flat_unfolding.specs.Unfolding.{item, visit, with_resets, instance_item, modules_differ, module_named}
+use Rattle.flat_unfolding.specs.Unfolding.{with_resets, instance_item, modules_differ, module_named}
 use Rattle.flat_unfolding.specs.Unfolding as law
 use Rattle.flat_unfolding.specs.Widths.{keeps_sizes, target_keeps_sizes}
 use Rattle.flat_names.specs.declared.design.Entry as kept
@@ -43,6 +43,7 @@ use Rattle.flat_names.specs.declared.resolved.Resolved.{Resolved}
 use Rattle.flat_names.specs.Looks.{param_of, IsFitParam, IsFit}
 use Rattle.flat_names.specs.Designs.{ShowsNames, ShowsDesign, ShowsStage, IsReset, reset_of}
 use Rattle.flat_declarations.specs.declared.parameter.Override.{Override}
+use Rattle.flat_design.specs.Chosen.{chosen_item, chosen_visit}
 use Rattle.flat_design.specs.declared.instance.Connection.{Connection}
 use Rattle.flat_design.specs.declared.instance.Leaning.{Leaning}
 use Rattle.flat_design.specs.declared.instance.Overridden.{Overridden}
@@ -232,11 +233,11 @@ IsClosed o (Ok u) = o ≡ good tt
 IsClosed o (Err (Refused e)) = o ≡ bad e
 IsClosed o (Err Memory) = Unit {0}
 
-module _ (modules : List ModuleTree) where
+module _ (wires_only : Bool) (modules : List ModuleTree) where
   -- what is still to come: the innermost module's items, then the module around it goes on with the design and its own names
   abbrev pub rest_of : List Frame → Design → Outcome Design
   rest_of [] d = good d
-  rest_of (f ∷ fs) d = then_ (each (item modules (visited (f ∷ fs)) f.prefix (visit modules f.depth)) (record { names = f.names; design = d }) f.items) (λ s. then_ (closed f s) (λ u. rest_of fs s.design))
+  rest_of (f ∷ fs) d = then_ (each (chosen_item wires_only modules (visited (f ∷ fs)) f.prefix (chosen_visit wires_only modules f.depth)) (record { names = f.names; design = d }) f.items) (λ s. then_ (closed f s) (λ u. rest_of fs s.design))
 
 abbrev pub named_part : ItemBody → Text
 named_part (body.Instance child params x ports) = printed_part x ++ codes "."
@@ -295,25 +296,31 @@ pub record IsVisiting (pins : List ResetPin) (modules : List Module) (opens : Li
   pub different : AreDifferent (visited frames)
 
 -- what is still to come of a module that is visited once this item of it is done
-module _ (modules : List ModuleTree) where
+module _ (wires_only : Bool) (modules : List ModuleTree) where
   abbrev pub next_of : Frame → List Frame → Design → ItemTree → Outcome Design
-  next_of f fs d i = then_ (item modules (visited (f ∷ fs)) f.prefix (visit modules f.depth) (record { names = f.names; design = d }) i) (λ s. rest_of modules (record f { names = s.names } ∷ fs) s.design)
+  next_of f fs d i = then_ (chosen_item wires_only modules (visited (f ∷ fs)) f.prefix (chosen_visit wires_only modules f.depth) (record { names = f.names; design = d }) i) (λ s. rest_of wires_only modules (record f { names = s.names } ∷ fs) s.design)
 
 -- the design of a visit that is done
 abbrev pub IsGrown : List ResetPin → table.Design → Design → Type 0
 IsGrown pins kept d = ShowsDesign pins kept d × IsFitDesign d
 
+-- the wires of a source, or the refusal of what breaks a rule before they are known
+abbrev pub AreWires : Outcome Design → Result table.Design Stop → Type 0
+AreWires o (Ok kept) = (d : Design) × (o ≡ good d) × IsGrown [] kept d
+AreWires o (Err (Refused f)) = o ≡ bad f
+AreWires o (Err Memory) = Unit {0}
+
 -- a step keeps what is still to come, or is the refusal that comes of it
-abbrev pub Goes : List ResetPin → List Module → Outcome Design → Result (Unit {0}) Stop → Visit → Type 0
-Goes pins modules o (Ok u) v = (fs : List Frame) × (t : Design) × (o ≡ rest_of (map module_of modules) fs t) × IsVisiting pins modules v.open.items v.is_open.items v.design fs t
-Goes pins modules o (Err (Refused f)) v = o ≡ bad f
-Goes pins modules o (Err Memory) v = Unit {0}
+abbrev pub Goes : (wires_only : Bool) → List ResetPin → List Module → Outcome Design → Result (Unit {0}) Stop → Visit → Type 0
+Goes wires_only pins modules o (Ok u) v = (fs : List Frame) × (t : Design) × (o ≡ rest_of wires_only (map module_of modules) fs t) × IsVisiting pins modules v.open.items v.is_open.items v.design fs t
+Goes wires_only pins modules o (Err (Refused f)) v = o ≡ bad f
+Goes wires_only pins modules o (Err Memory) v = Unit {0}
 
 -- a step as above, or the end where no module is visited
-abbrev pub Steps : List ResetPin → List Module → List Frame → Design → Result Bool Stop → Visit → Type 0
-Steps pins modules frames d (Ok true) v = Goes pins modules (rest_of (map module_of modules) frames d) (Ok (tt {0})) v
-Steps pins modules frames d (Ok false) v = (frames ≡ []) × IsGrown pins v.design d
-Steps pins modules frames d (Err e) v = Goes pins modules (rest_of (map module_of modules) frames d) (Err e) v
+abbrev pub Steps : (wires_only : Bool) → List ResetPin → List Module → List Frame → Design → Result Bool Stop → Visit → Type 0
+Steps wires_only pins modules frames d (Ok true) v = Goes wires_only pins modules (rest_of wires_only (map module_of modules) frames d) (Ok (tt {0})) v
+Steps wires_only pins modules frames d (Ok false) v = (frames ≡ []) × IsGrown pins v.design d
+Steps wires_only pins modules frames d (Err e) v = Goes wires_only pins modules (rest_of wires_only (map module_of modules) frames d) (Err e) v
 
 -- the parameters and declarations of a module, and the resets among these, in a design so far
 abbrev pub begun : Overrides → (prefix : Text) → ModuleTree → Design → Outcome Stage

@@ -1,4 +1,4 @@
-//! The end of the work: free signals, the trial of drivers, which signals are registers, and their start values.
+//! The end of the work: the rules of resets, free signals, constants, the trial of drivers, which signals are registers, and their start values.
 ghost use Rattle.std.specs.Prelude.{◌≡◌, ◌==◌, ℕ, List, option_map, slice_get, IfOk, IfErr};
 ghost use Rattle.refusals.specs.Numbers.{HasNumberIn, unfolding_numbers};
 ghost use Rattle.cdc_base.specs.declared.signal.ResetPin as pin;
@@ -10,10 +10,11 @@ ghost use Rattle.flat_unfolding.specs.Unfolding.{IsUnfolding};
 ghost use Rattle.flat_unfolding.specs.Widths.{KeepsSizes};
 ghost use Rattle.flat_drivers.specs.Driving.{is_among};
 ghost use Rattle.flat_drivers.specs.Registers.{HasStarts};
-ghost use Rattle.flat_names.specs.Designs.{ShowsDesign};
+ghost use Rattle.flat_names.specs.Designs.{ShowsDesign, flat_so_far, Ends};
 ghost use Rattle.flat_design.specs.Visiting.{IsFitDesign};
 ghost use Rattle.flat_design.specs.Finishing.{HasKept, AreKept, finished_at};
 
+use crate::constants::add_constants;
 use crate::free::mark_free;
 use cdc_base::{List, Name, NoMemory, ResetPin, Signal, Stop};
 use flat_drivers::drivers::try_drivers;
@@ -23,7 +24,8 @@ use flat_form::flat::Flat;
 use flat_names::design::{Design, Entry};
 use std::alloc::Global;
 
-/// The flat design, where free signals come from outside and each bit has its driver.
+/// The flat design, where no rule of resets is broken, free signals come from outside, registers that nothing writes keep
+/// their start values, and each bit has its driver.
 pub fn checked(
     alloc: Global,
     named: &[Name],
@@ -35,7 +37,9 @@ pub fn checked(
     ensures numbered { IfErr result (HasNumberIn unfolding_numbers) }
 {
     let mut design = design;
+    raise_late(&mut design)?;
     mark_free(alloc, named, pins, &mut design)?;
+    add_constants(alloc, &mut design)?;
     try_drivers(
         alloc,
         design.signals.as_slice(),
@@ -47,10 +51,21 @@ pub fn checked(
     Ok(finished(alloc, design)?)
 }
 
+/// Refuses the first process whose resets break a rule.
+fn raise_late(design: &mut Design) -> Result<(), Stop>
+    ensures exact { (pins : List pin.ResetPin) (d : grown.Design) → ShowsDesign pins design.old d → Ends (λ (u : Unit {0}). ShowsDesign pins design.new d) d.late result }
+    ensures numbered { IfErr result (HasNumberIn unfolding_numbers) }
+{
+    match design.late.take() {
+        Some(late) => late.faults.raise(late.place),
+        None => Ok(()),
+    }
+}
+
 /// The flat design.
 fn finished(alloc: Global, design: Design) -> Result<Flat, NoMemory>
     ensures exact { (pins : List pin.ResetPin) (d : grown.Design) → ShowsDesign pins design d → IsFitDesign d → IfOk result (λ f. flat_of f ≡ flat_design d) }
-    ensures sizes { (pins : List pin.ResetPin) (d : grown.Design) → ShowsDesign pins design d → IfOk result (λ f. KeepsSizes f) }
+    ensures sizes { KeepsSizes (flat_so_far design) → IfOk result (λ f. KeepsSizes f) }
 {
     let mut signals = design.signals;
     let registers = registers_of(alloc, signals.as_slice(), design.clocked.as_slice())?;

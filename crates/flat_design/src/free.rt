@@ -76,7 +76,8 @@ fn start_marks(alloc: Global, entries: &[Entry]) -> Result<Vec<bool>, NoMemory>
     Ok(marks)
 }
 
-fn mark_driven(driven: &[u32], marks: &mut Vec<bool>)
+/// Marks these signals.
+pub fn mark_driven(driven: &[u32], marks: &mut Vec<bool>)
     ensures { (s : ℕ) → slice_get marks.new.items s ≡ option_map (mark_if (is_among driven.now s)) (slice_get marks.old.items s) }
 {
     for sig in driven {

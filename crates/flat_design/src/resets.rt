@@ -86,7 +86,7 @@ fn declared_reset(pins: &Pins, sig: usize, design: &Design) -> Option<Reset>
 }
 
 /// The reset of a name, for a signal of one bit.
-fn reset_named(name: &Name, width: u8, pins: &Pins) -> Option<Reset>
+pub fn reset_named(name: &Name, width: u8, pins: &Pins) -> Option<Reset>
     ensures { result ≡ cond (width == 1) (pin_in pins.now name.now) None }
 {
     if width != 1 {

@@ -6,7 +6,8 @@ ghost use Rattle.cdc_base.specs.declared.signal.ResetPin as pin;
 ghost use Rattle.cdc_base.specs.declared.signal.Signal.{Signal};
 ghost use Rattle.flat_names.specs.declared.design.Entry.{Entry};
 ghost use Rattle.verilog_ast.specs.declared.Module as code;
-ghost use Rattle.verilog_reading.specs.SourceTree.{ItemTree, ModuleTree, PortTree, decl_of, body_of, item_of as item_tree_of, port_of, conns_of, module_of};
+ghost use Rattle.verilog_reading.specs.StmtTree.{stmt_tree_of};
+ghost use Rattle.verilog_reading.specs.SourceTree.{ItemTree, ModuleTree, PortTree, always, decl_of, body_of, item_of as item_tree_of, port_of, conns_of, module_of};
 ghost use Rattle.flat_unfolding.specs.Outcome.{Text, good, then_, each};
 ghost use Rattle.flat_unfolding.specs.Names.{printed_part};
 ghost use Rattle.flat_unfolding.specs.Parameters as law_parameters;
@@ -15,12 +16,14 @@ ghost use Rattle.flat_unfolding.specs.Declarations.{header_of};
 ghost use Rattle.flat_unfolding.specs.Instances.{Link, connected};
 ghost use Rattle.flat_unfolding.specs.Design as grown;
 ghost use Rattle.flat_unfolding.specs.Design.{Stage, look_of, no_design};
-ghost use Rattle.flat_unfolding.specs.Formed.{IsFormedIf, IsPortFormed, IsBodyFormed, AreConnsFormed, IsModuleFormed};
+ghost use Rattle.flat_unfolding.specs.Formed.{IsFormedIf, IsStmtFormed, IsPortFormed, IsBodyFormed, AreConnsFormed, IsModuleFormed};
+ghost use Rattle.flat_unfolding.specs.Processes.{always_item};
 ghost use Rattle.flat_unfolding.specs.Unfolding as law;
 ghost use Rattle.flat_unfolding.specs.Unfolding.{declared_value, header_values, top_ports};
 ghost use Rattle.flat_names.specs.Looks.{IsFit};
 ghost use Rattle.flat_names.specs.Designs.{ShowsNames, ShowsDesign, ShowsStage, Meets, Ends};
 ghost use Rattle.flat_declarations.specs.Declaring.{MeetsFit, ShowsOverrides, AreFitOverrides};
+ghost use Rattle.flat_design.specs.Chosen.{chosen, chosen_item_of, chosen_visit};
 ghost use Rattle.flat_design.specs.Visiting.{ShowsPorts, IsLinkOf, IsNumber, IsLibrary, Lists, Frame, IsFrame, closed, IsClosed, rest_of, part_in, part_of, item_before, IsVisiting, AreMarked, next_of, Goes, IsGrown, Steps, begun, Begins, Enters, instance_tree, Finds, AreEnds, mark_at, prefix_of, is_declaration as is_declaration_of, declares as declares_of, IsPlain, IsFitDesign, AreFitNames, ShowsPins};
 
 use crate::instance::{
@@ -42,21 +45,28 @@ use flat_process::assign::{add_assign, add_gate, add_wire_value};
 use flat_process::start::{add_declared_start, add_initial};
 use indexmap::IndexMap;
 use std::alloc::Global;
-use verilog_ast::{Conns, Decl, DeclKind, Item, ItemBody, Module, Port, Source};
+use verilog_ast::{Conns, Decl, DeclKind, Event, Item, ItemBody, Module, Port, Source, Stmt};
 
-/// The source with its modules by name, and the resets by name.
+/// The source with its modules by name, and the resets by name; `wires_only` leaves processes out.
 #[derive(Drop)]
 pub struct Library<'a> {
     alloc: Global,
     modules: &'a [Module],
     by_name: IndexMap<Name, usize>,
     pins: Pins,
+    wires_only: bool,
 }
 
 impl<'a> Library<'a> {
     /// Two modules of one name are refused.
-    pub fn new(alloc: Global, source: &'a Source, resets: &[ResetPin]) -> Result<Library<'a>, Stop>
+    pub fn new(
+        alloc: Global,
+        source: &'a Source,
+        resets: &[ResetPin],
+        wires_only: bool,
+    ) -> Result<Library<'a>, Stop>
         ensures exact { Lists source.entry.now.modules result }
+        ensures wires { IfOk result (λ l. l.wires_only ≡ wires_only) }
         ensures pins { IfOk result (λ l. ShowsPins l.pins resets.now) }
         ensures numbered { IfErr result (HasNumberIn unfolding_numbers) }
     {
@@ -81,6 +91,7 @@ impl<'a> Library<'a> {
             modules,
             by_name,
             pins,
+            wires_only,
         })
     }
 
@@ -202,6 +213,7 @@ fn empty_design(alloc: Global) -> Design
         clocked: Vec::new(alloc),
         resets: Vec::new(alloc),
         outputs: Vec::new(alloc),
+        late: None,
     }
 }
 
@@ -235,7 +247,7 @@ pub fn visit_top(library: &Library, top: usize, visit: &mut Visit) -> Result<(),
         → slice_get library.now.modules.now top ≡ Some m
         → visit.old.open.items ≡ [] → visit.old.is_open.items ≡ map (λ (q : code.Module). false) library.now.modules.now → ShowsDesign pins visit.old.design (no_design pins)
         → Ends (IsGrown pins visit.new.design)
-        (then_ (law.visit (map module_of library.now.modules.now) (length library.now.modules.now) [] (m.name ∷ []) (module_of m) [] (top_ports (header_of (module_of m))) (no_design pins)) (λ (s : Stage). good s.design)) result }
+        (then_ (chosen_visit library.now.wires_only (map module_of library.now.modules.now) (length library.now.modules.now) [] (m.name ∷ []) (module_of m) [] (top_ports (header_of (module_of m))) (no_design pins)) (λ (s : Stage). good s.design)) result }
     ensures numbered { IfErr result (HasNumberIn unfolding_numbers) }
 {
     let none = IndexMap::new(library.alloc);
@@ -269,7 +281,7 @@ fn set_ports(
 /// Visits what is left of the modules that are being visited.
 fn visit_open(library: &Library, visit: &mut Visit) -> Result<(), Stop>
     ensures exact { (pins : List pin.ResetPin) (frames : List Frame) (d : grown.Design) → IsLibrary library.now.modules.now library.now.by_name → ShowsPins library.now.pins pins → All IsModuleFormed (map module_of library.now.modules.now)
-        → IsVisiting pins library.now.modules.now visit.old.open.items visit.old.is_open.items visit.old.design frames d → Ends (IsGrown pins visit.new.design) (rest_of (map module_of library.now.modules.now) frames d) result }
+        → IsVisiting pins library.now.modules.now visit.old.open.items visit.old.is_open.items visit.old.design frames d → Ends (IsGrown pins visit.new.design) (rest_of library.now.wires_only (map module_of library.now.modules.now) frames d) result }
     ensures numbered { IfErr result (HasNumberIn unfolding_numbers) }
 {
     // A visit has fewer steps than any number that a machine could count to, so that the last line isn't met.
@@ -419,7 +431,7 @@ fn add_port_value(
 /// One item of the innermost module, or its end. Answers whether there was a module left.
 fn step(library: &Library, visit: &mut Visit) -> Result<bool, Stop>
     ensures exact { (pins : List pin.ResetPin) (frames : List Frame) (d : grown.Design) → IsLibrary library.now.modules.now library.now.by_name → ShowsPins library.now.pins pins → All IsModuleFormed (map module_of library.now.modules.now)
-        → IsVisiting pins library.now.modules.now visit.old.open.items visit.old.is_open.items visit.old.design frames d → Steps pins library.now.modules.now frames d result visit.new }
+        → IsVisiting pins library.now.modules.now visit.old.open.items visit.old.is_open.items visit.old.design frames d → Steps library.now.wires_only pins library.now.modules.now frames d result visit.new }
     ensures numbered { IfErr result (HasNumberIn unfolding_numbers) }
 {
     let Some(mut open) = visit.open.pop() else {
@@ -463,7 +475,7 @@ fn add_next(library: &Library, item: &Item, outer: Open, visit: &mut Visit) -> R
     ensures exact { (pins : List pin.ResetPin) (frames : List Frame) (f : Frame) (d : grown.Design) → IsLibrary library.now.modules.now library.now.by_name → ShowsPins library.now.pins pins → All IsModuleFormed (map module_of library.now.modules.now)
         → IsVisiting pins library.now.modules.now (visit.old.open.items ++ outer ∷ []) visit.old.is_open.items visit.old.design (f ∷ frames) d
         → item_before library.now.modules.now outer ≡ Some item.now
-        → Goes pins library.now.modules.now (next_of (map module_of library.now.modules.now) f frames d (item_tree_of item.now)) result visit.new }
+        → Goes library.now.wires_only pins library.now.modules.now (next_of library.now.wires_only (map module_of library.now.modules.now) f frames d (item_tree_of item.now)) result visit.new }
     ensures numbered { IfErr result (HasNumberIn unfolding_numbers) }
 {
     if let ItemBody::Instance {
@@ -490,11 +502,12 @@ fn add_plain(library: &Library, item: &Item, outer: Open, visit: &mut Visit) -> 
     ensures exact { (pins : List pin.ResetPin) (frames : List Frame) (f : Frame) (d : grown.Design) → IsLibrary library.now.modules.now library.now.by_name → All IsModuleFormed (map module_of library.now.modules.now)
         → IsVisiting pins library.now.modules.now (visit.old.open.items ++ outer ∷ []) visit.old.is_open.items visit.old.design (f ∷ frames) d
         → item_before library.now.modules.now outer ≡ Some item.now → IsPlain (body_of item.now.body)
-        → Goes pins library.now.modules.now (next_of (map module_of library.now.modules.now) f frames d (item_tree_of item.now)) result visit.new }
+        → Goes library.now.wires_only pins library.now.modules.now (next_of library.now.wires_only (map module_of library.now.modules.now) f frames d (item_tree_of item.now)) result visit.new }
     ensures numbered { IfErr result (HasNumberIn unfolding_numbers) }
 {
     add_item(
         library.alloc,
+        library.wires_only,
         item.place,
         &item.body,
         &outer.names,
@@ -525,7 +538,7 @@ fn add_instance(
         → IsVisiting pins library.now.modules.now (visit.old.open.items ++ outer ∷ []) visit.old.is_open.items visit.old.design (f ∷ frames) d
         → part_of library.now.modules.now outer ≡ printed_part instance.now.name.now ++ codes "."
         → AreConnsFormed (conns_of instance.now.params.now) → AreConnsFormed (conns_of instance.now.ports.now)
-        → Goes pins library.now.modules.now (next_of (map module_of library.now.modules.now) f frames d (instance_tree instance.now)) result visit.new }
+        → Goes library.now.wires_only pins library.now.modules.now (next_of library.now.wires_only (map module_of library.now.modules.now) f frames d (instance_tree instance.now)) result visit.new }
     ensures numbered { IfErr result (HasNumberIn unfolding_numbers) }
 {
     let alloc = library.alloc;
@@ -643,13 +656,14 @@ fn instance_module(
 /// Any item but a parameter, which was read before, and an instance.
 fn add_item(
     alloc: Global,
+    wires_only: bool,
     place: Place,
     body: &ItemBody,
     names: &Names,
     design: &mut Design,
 ) -> Result<(), Stop>
     ensures exact { (pins : List pin.ResetPin) (s : Stage) (modules : List ModuleTree) (visiting : List Text) (prefix : Text) (inside : law.Visit) → ShowsStage pins names.now design.old s → IsFit (look_of s)
-        → IsBodyFormed (body_of body.now) → IsPlain (body_of body.now) → Meets pins names.now (law.item_of modules visiting prefix inside s place (body_of body.now)) result design.new }
+        → IsBodyFormed (body_of body.now) → IsPlain (body_of body.now) → Meets pins names.now (chosen_item_of wires_only modules visiting prefix inside s place (body_of body.now)) result design.new }
     ensures numbered { IfErr result (HasNumberIn unfolding_numbers) }
 {
     match body {
@@ -661,9 +675,31 @@ fn add_item(
         ItemBody::Gate { kind, terminals } => {
             add_gate(alloc, place, *kind, terminals.as_slice(), names, design)
         }
-        ItemBody::Always { event, body } => add_process(alloc, place, event, body, names, design),
+        ItemBody::Always { event, body } => {
+            add_chosen_process(alloc, wires_only, place, event, body, names, design)
+        }
         ItemBody::Initial(body) => add_initial(alloc, place, body, names, design),
     }
+}
+
+/// A process, unless wires alone are wanted.
+fn add_chosen_process(
+    alloc: Global,
+    wires_only: bool,
+    place: Place,
+    event: &Event,
+    body: &Stmt,
+    names: &Names,
+    design: &mut Design,
+) -> Result<(), Stop>
+    ensures exact { (pins : List pin.ResetPin) (s : Stage) → ShowsStage pins names.now design.old s → IsFit (look_of s) → IsStmtFormed (stmt_tree_of body.now)
+        → Meets pins names.now (chosen (always event.now (stmt_tree_of body.now)) wires_only (always_item s place event.now (stmt_tree_of body.now)) s) result design.new }
+    ensures numbered { IfErr result (HasNumberIn unfolding_numbers) }
+{
+    if wires_only {
+        return Ok(());
+    }
+    add_process(alloc, place, event, body, names, design)
 }
 
 /// The value of a declaration: an assignment to a wire, or a register's start value.

@@ -2,6 +2,7 @@
 use Rattle.std.specs.Prelude.{◌≡◌, ℕ, ◌<◌, false, cond, ◌==◌, List, [], ◌∷◌, map, Option, Some, None, is_some, unwrap_or, Result, Ok, Err, option_map, option_and_then, slice_get, bytes_eq}
 use Rattle.std.specs.Option.{option_map_or}
 use Rattle.indexmap.specs.IndexMap.{IndexMap}
+use Rattle.cdc_base.specs.declared.fault.Place.{Place}
 use Rattle.cdc_base.specs.declared.signal.ResetPin.{ResetPin}
 use Rattle.cdc_base.specs.declared.signal.Signal.{Signal}
 use Rattle.cdc_base.specs.declared.fault.Stop.{Stop}
@@ -11,17 +12,18 @@ use Rattle.cell_graph.specs.Tree.{bit_at}
 use Rattle.flat_form.specs.declared.flat.Flat.{Flat}
 use Rattle.flat_form.specs.View as view
 use Rattle.flat_form.specs.View.{flat_of}
-use Rattle.flat_unfolding.specs.Outcome.{Text, Outcome, good, bad}
+use Rattle.flat_unfolding.specs.Outcome.{Text, Broken, Outcome, good, bad, fault_of}
 use Rattle.flat_unfolding.specs.Names as n
 use Rattle.flat_unfolding.specs.Names.{width_of, reset_at}
 use Rattle.flat_unfolding.specs.Signals.{kind_of, left_of, right_of}
-use Rattle.flat_unfolding.specs.Starts.{given_bit}
+use Rattle.flat_unfolding.specs.Starts.{given_bit, first_start}
 use Rattle.flat_unfolding.specs.Widths.{KeepsSizes}
 use Rattle.flat_unfolding.specs.Design as u
 use Rattle.flat_unfolding.specs.Design.{Start, Given, Stage}
 use Rattle.flat_names.specs.declared.scope.Meaning.{Meaning}
 use Rattle.flat_names.specs.declared.design.Reset.{Reset}
 use Rattle.flat_names.specs.declared.design.Entry.{Entry}
+use Rattle.flat_names.specs.declared.design.Late.{Late}
 use Rattle.flat_names.specs.declared.design.Design.{Design}
 use Rattle.flat_names.specs.Looks.{meaning_of, kept_in, seen, shown}
 
@@ -57,11 +59,6 @@ IsReset pins q p = ⊥
 abbrev pub reset_of : List Entry → ℕ → Option Reset
 reset_of entries s = option_and_then (λ (x : Entry). x.reset) (slice_get entries s)
 
--- the first start value of a register
-abbrev pub first_start : List Start → ℕ → Option ℕ
-first_start [] s = None
-first_start (b ∷ rest) s = cond (b.sig == s) (Some b.value) (first_start rest s)
-
 -- what the entries tell of start values; nothing of a signal that isn't there
 abbrev pub start_at : List Entry → ℕ → Option ℕ
 start_at entries s = option_and_then (λ (x : Entry). x.start) (slice_get entries s)
@@ -81,6 +78,16 @@ pub record AreGiven (givens : List Given) (entries : List Entry) (s : ℕ) : Typ
 abbrev pub flat_so_far : Design → Flat
 flat_so_far d = record { signals = d.signals.items; assigns = d.assigns.items; combs = d.combs.items; clocked = d.clocked.items; outputs = d.outputs.items }
 
+-- the refusal at a place of the rule that counts, if there is one
+abbrev pub raised : Place → Option Broken → Outcome (Unit {0})
+raised p None = good tt
+raised p (Some b) = bad (fault_of p b)
+
+-- what is refused behind all items
+abbrev pub late_of : Option Late → Outcome (Unit {0})
+late_of None = good tt
+late_of (Some l) = raised l.place l.faults.found
+
 pub record ShowsDesign (pins : List ResetPin) (d : Design) (e : u.Design) : Type 0 where
   pub declared : e.pins ≡ pins
   pub entries : map seen d.entries.items ≡ map shown e.entries
@@ -94,6 +101,7 @@ pub record ShowsDesign (pins : List ResetPin) (d : Design) (e : u.Design) : Type
   pub outputs : d.outputs.items ≡ e.outputs
   pub starts : (s : ℕ) → start_at d.entries.items s ≡ first_start e.starts s
   pub givens : (s : ℕ) → AreGiven e.givens d.entries.items s
+  pub late : late_of d.late ≡ e.late
   pub sizes : KeepsSizes (flat_so_far d)
 
 pub record ShowsStage {S : Type 0} (pins : List ResetPin) (table : IndexMap Text Meaning S) (d : Design) (s : Stage) : Type 0 where

@@ -1,12 +1,13 @@
 //! The flat design as it grows, with what is known of each signal beyond its printed form.
-ghost use Rattle.std.specs.Prelude.{◌≡◌, [], false, slice_get};
+ghost use Rattle.std.specs.Prelude.{◌≡◌, [], false, None, slice_get};
 ghost use Rattle.std.specs.Option.{option_map_or};
 ghost use Rattle.flat_unfolding.specs.Targets.{of_wires};
 ghost use Rattle.flat_names.specs.declared.design.Entry.{Entry};
 ghost use Rattle.flat_names.specs.Looks.{seen, takes_seen};
 
+use crate::fault::Faults;
 use crate::scope::{Bounds, Look, Names};
-use cdc_base::{Name, Signal};
+use cdc_base::{Name, Place, Signal};
 use flat_form::flat::{FlatAssign, FlatClocked, FlatComb, FlatReset};
 use std::alloc::Global;
 
@@ -51,6 +52,13 @@ impl Entry {
     }
 }
 
+/// A process whose resets break a rule, which is refused behind all items.
+#[derive(Drop)]
+pub struct Late {
+    pub place: Place,
+    pub faults: Faults,
+}
+
 /// All that was unfolded so far. `entries` has one entry for each signal.
 #[derive(Drop)]
 pub struct Design {
@@ -62,6 +70,8 @@ pub struct Design {
     /// One for each of `clocked`.
     pub resets: Vec<FlatReset>,
     pub outputs: Vec<u32>,
+    /// The first such process, in the order of the visits.
+    pub late: Option<Late>,
 }
 
 impl Design {
@@ -73,6 +83,7 @@ impl Design {
         ensures clocked { result.clocked.items ≡ [] }
         ensures resets { result.resets.items ≡ [] }
         ensures outputs { result.outputs.items ≡ [] }
+        ensures late { result.late ≡ None }
     {
         Design {
             signals: Vec::new(alloc),
@@ -82,6 +93,7 @@ impl Design {
             clocked: Vec::new(alloc),
             resets: Vec::new(alloc),
             outputs: Vec::new(alloc),
+            late: None,
         }
     }
 

@@ -1,5 +1,5 @@
 -- How items end, and designs that got one more part.
-use Rattle.std.proofs.Common.{◌≡◌, ℕ, Bool, true, false, cond, ◌&&◌, nat_lt, List, [], ◌∷◌, ◌++◌, map, Option, Some, Result, Ok, Err, refl, sym, ap, ap₂, subst, ◌∙◌, rules, Vec, Global}
+use Rattle.std.proofs.Common.{◌≡◌, ℕ, Bool, true, false, cond, not, ◌&&◌, nat_lt, List, [], ◌∷◌, ◌++◌, map, Option, Some, None, is_some, Result, Ok, Err, refl, sym, ap, ap₂, subst, ◌∙◌, rules, Vec, Global}
 use Rattle.std.specs.List.{list_all}
 use Rattle.std.proofs.lemmas.List.{map-append}
 use Rattle.std.proofs.lemmas.List.Folds.{list_all-append}
@@ -16,7 +16,7 @@ use Rattle.flat_form.specs.declared.flat.FlatReset.{FlatReset}
 use Rattle.flat_form.specs.View as view
 use Rattle.flat_form.specs.View.{target_of, expr_of, stmt_of}
 use Rattle.flat_unfolding.specs.Outcome as o
-use Rattle.flat_unfolding.specs.Outcome.{Text, Broken, Outcome, good, bad, by_number, first_of_all, fault_of, judged}
+use Rattle.flat_unfolding.specs.Outcome.{Text, Broken, Outcome, good, bad, by_number, first_of_all, then_, fault_of, judged}
 use Rattle.flat_unfolding.specs.Widths.{keeps_sizes, target_keeps_sizes, stmt_keeps_sizes}
 use Rattle.flat_unfolding.specs.Design as u
 use Rattle.flat_unfolding.specs.Design.{Stage, look_of, with_design, assigned}
@@ -24,11 +24,13 @@ use Rattle.flat_names.specs.declared.fault.Order.{Order}
 use Rattle.flat_names.specs.declared.fault.Order.TheVariants as k
 use Rattle.flat_names.specs.declared.scope.Meaning.{Meaning}
 use Rattle.flat_names.specs.declared.scope.Look.{Look}
+use Rattle.flat_names.specs.declared.design.Late.{Late}
 use Rattle.flat_names.specs.declared.design.Design.{Design}
 use Rattle.flat_names.specs.Noting.{order_of, Noted, all_noted, Raises}
 use Rattle.flat_names.specs.Looks.{seen, Shows}
-use Rattle.flat_names.specs.Designs.{ShowsNames, ShowsDesign, ShowsStage, Ends}
+use Rattle.flat_names.specs.Designs.{raised, late_of, ShowsNames, ShowsDesign, ShowsStage, Ends}
 use Rattle.flat_process.specs.Assigns.{fresh, IsAssign}
+use Rattle.flat_process.specs.Processes.{has_rule}
 
 -- ---- refusals
 
@@ -59,6 +61,43 @@ module _ {A : Type 0} (P : A → Type 0) where
   pub raised-ends : (p : Place) (bs : List Broken) (a : A) (n : Noted) (r : Result (Unit {0}) Stop) → n ≡ all_noted fresh bs → Raises n.found p r → (bs ≡ [] → P a) → Ends P (judged by_number p bs a) r
   raised-ends p bs a n (Ok u) e h i = let none = raised-none p bs n u e h in raised-ok p bs a u none (i none)
   raised-ends p bs a n (Err x) e h i = raised-err p bs a n x e h
+
+-- ---- rules of resets
+
+-- what is raised of the noted rules of a process is what it breaks
+raised-judged : (p : Place) (bs : List Broken) → raised p (all_noted fresh bs).found ≡ judged by_number p bs (tt {0})
+raised-judged p [] = refl
+raised-judged p (b ∷ bs) = ap (raised p) (first-noted k.Other b bs)
+
+-- a design's rules of resets behind all items, then those of one more process
+abbrev pub with_more : Outcome (Unit {0}) → Place → List Broken → Outcome (Unit {0})
+with_more x p bs = then_ x (λ u. judged by_number p bs (tt {0}))
+
+none-raised : (p : Place) (m : Option Broken) → is_some m ≡ false → good (tt {0}) ≡ raised p m
+none-raised p None h = refl
+none-raised p (Some b) h = absurd (search (rules, h))
+
+module _ (p : Place) (bs : List Broken) (n : Noted) (e : n ≡ all_noted fresh bs) where
+  raised-is : raised p n.found ≡ judged by_number p bs (tt {0})
+  raised-is = ap (λ (m : Noted). raised p m.found) e ∙ raised-judged p bs
+
+  -- the first process that breaks one
+  late-first : (o : Option Late) → (not (has_rule o) && is_some n.found) ≡ true → raised p n.found ≡ with_more (late_of o) p bs
+  late-first None h = raised-is
+  late-first (Some a) h = go a.faults.found h
+    where
+      go : (m : Option Broken) → (not (is_some m) && is_some n.found) ≡ true → raised p n.found ≡ with_more (raised a.place m) p bs
+      go None i = raised-is
+      go (Some b) i = absurd (search (rules, i))
+
+  -- another one
+  late-left : (o : Option Late) → (not (has_rule o) && is_some n.found) ≡ false → late_of o ≡ with_more (late_of o) p bs
+  late-left None h = none-raised p n.found h ∙ raised-is
+  late-left (Some a) h = go a.faults.found h
+    where
+      go : (m : Option Broken) → (not (is_some m) && is_some n.found) ≡ false → raised a.place m ≡ with_more (raised a.place m) p bs
+      go None i = none-raised p n.found i ∙ raised-is
+      go (Some b) i = refl
 
 -- what a stage gives, where its design gives this
 abbrev stage_of : Stage → Outcome u.Design → Outcome Stage
@@ -101,6 +140,7 @@ module _ (pins : List ResetPin) (d : Design) (e : u.Design) (h : ShowsDesign pin
     clocked = h.clocked;
     declared = h.declared;
     process_resets = h.process_resets;
+    late = h.late;
     outputs = h.outputs;
     starts = h.starts;
     givens = h.givens;
@@ -110,6 +150,32 @@ module _ (pins : List ResetPin) (d : Design) (e : u.Design) (h : ShowsDesign pin
       clocked = h.sizes.clocked;
     };
   }
+
+  -- the rules of resets that one more process breaks, which are kept or not
+  shows-late : (o : Option Late) (p : Place) (bs : List Broken) → late_of o ≡ with_more (late_of d.late) p bs → ShowsDesign pins (record d { late = o }) (record e { late = with_more e.late p bs })
+  shows-late o p bs i = record {
+    entries = h.entries;
+    may_repeat = h.may_repeat;
+    signals = h.signals;
+    resets = h.resets;
+    assigns = h.assigns;
+    combs = h.combs;
+    clocked = h.clocked;
+    declared = h.declared;
+    process_resets = h.process_resets;
+    late = i ∙ ap (λ x. with_more x p bs) h.late;
+    outputs = h.outputs;
+    starts = h.starts;
+    givens = h.givens;
+    sizes = record { assigns = h.sizes.assigns; combs = h.sizes.combs; clocked = h.sizes.clocked };
+  }
+
+  pub late-kept : (p : Place) (bs : List Broken) (n : Noted) → n ≡ all_noted fresh bs → (not (has_rule d.late) && is_some n.found) ≡ true
+      → ShowsDesign pins (record d { late = Some (record { place = p; faults = n }) }) (record e { late = with_more e.late p bs })
+  late-kept p bs n i t = shows-late (Some (record { place = p; faults = n })) p bs (late-first p bs n i d.late t)
+
+  pub late-passed : (p : Place) (bs : List Broken) (n : Noted) → n ≡ all_noted fresh bs → (not (has_rule d.late) && is_some n.found) ≡ false → ShowsDesign pins d (record e { late = with_more e.late p bs })
+  late-passed p bs n i t = shows-late d.late p bs (late-left p bs n i d.late t)
 
   -- a process of wires
   pub shows-comb : (v : Vec FlatComb Global) (x : FlatComb) (s : Stmt) → v.items ≡ d.combs.items ++ x ∷ [] → stmt_of x.body ≡ s → stmt_keeps_sizes x.body ≡ true
@@ -124,6 +190,7 @@ module _ (pins : List ResetPin) (d : Design) (e : u.Design) (h : ShowsDesign pin
     clocked = h.clocked;
     declared = h.declared;
     process_resets = h.process_resets;
+    late = h.late;
     outputs = h.outputs;
     starts = h.starts;
     givens = h.givens;
@@ -149,6 +216,7 @@ module _ (pins : List ResetPin) (d : Design) (e : u.Design) (h : ShowsDesign pin
         ∙ ap₂ (λ ys (z : ℕ × Stmt). ys ++ z ∷ []) h.clocked (ap₂ (λ y z. (y, z)) clock body);
     declared = h.declared;
     process_resets = ap (map view.reset_of) j ∙ map-append view.reset_of d.resets.items (y ∷ []) ∙ ap₂ (λ ys (z : Option ℕ × Stmt). ys ++ z ∷ []) h.process_resets reset;
+    late = h.late;
     outputs = h.outputs;
     starts = h.starts;
     givens = h.givens;

@@ -179,6 +179,7 @@ module _ (pins : List ResetPin) (c : Design) (e : u.Design) (h : ShowsDesign pin
         clocked = h.clocked;
         declared = h.declared;
         process_resets = h.process_resets;
+        late = h.late;
         outputs = h.outputs;
         starts = λ s. ap (λ ys. start_at ys s) k ∙ start-same g.sig g c.entries.items s ∙ h.starts s;
         givens = λ s. subst (λ ys. d.AreGiven (e.givens ++ v ∷ []) ys s) (sym k) (given-more (length e.entries) v g i e.givens c.entries.items s small (h.givens s));

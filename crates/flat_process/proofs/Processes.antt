@@ -19,8 +19,9 @@ use Rattle.flat_unfolding.specs.Names.{Meaning, a_param, a_signal, a_memory, no_
 use Rattle.flat_unfolding.specs.Expressions.{read}
 use Rattle.flat_unfolding.specs.Statements.{Kind, clocked, neither, done, done_all}
 use Rattle.flat_unfolding.specs.Resets as q
-use Rattle.flat_unfolding.specs.Resets.{peeled, peeled_rows, tested_signals, branch_given, form_with, form_in, reset_form, reset_rules, is_edge_of, is_active_edge}
-use Rattle.flat_unfolding.specs.Processes.{delay_rules, has_form, first_edge, edge_rules, meant_signal, edge_signal, is_wide, reset_edge, reset_signal, event_rules, body_without, reset_branch, reset_gives}
+use Rattle.flat_unfolding.specs.Mentions.{names_in, read_names}
+use Rattle.flat_unfolding.specs.Resets.{peeled, peeled_rows, tested_signals, branch_given, form_with, form_in, reset_form, reads_other, is_malformed, reset_rules, is_edge_of, is_active_edge}
+use Rattle.flat_unfolding.specs.Processes.{delay_rules, has_form, first_edge, edge_rules, meant_signal, edge_signal, is_wide, reset_edge, reset_signal, event_rules, pair_rules, body_without, reset_branch, reset_gives}
 use Rattle.flat_unfolding.specs.Formed.{IsFormed, IsStmtFormed, AreRowsFormed}
 use Rattle.flat_unfolding.specs.Design as u
 use Rattle.flat_unfolding.proofs.Steps.{none_of_both, some_is}
@@ -38,7 +39,7 @@ use Rattle.flat_process.specs.declared.reset.Given.{Given}
 use Rattle.flat_process.specs.declared.always.Clocked.{Clocked}
 use Rattle.flat_process.specs.declared.always.ResetForm.{ResetForm}
 use Rattle.flat_process.specs.Resets.{AreGiven, AreGivenIf}
-use Rattle.flat_process.specs.Processes.{breaks_edges, lacks_reset, IsBody, reset_with, IsClocked, other_tree, left_tree, IsForm, IsFormIf}
+use Rattle.flat_process.specs.Processes.{IsBody, reset_with, IsClocked, other_tree, left_tree, IsForm, IsFormIf}
 
 -- ---- bodies
 
@@ -89,6 +90,10 @@ mutual
 
 -- ---- reset form
 
+-- the form of a branch whose condition tests these signals
+abbrev of_signals : Look → (c : ExprTree) (first other all : StmtTree) → List ℕ → q.ResetForm
+of_signals l c first other all ss = record { signals = ss; reads = names_in c ++ read_names other; branch = first; given = branch_given l first; rest = left_tree l c other all }
+
 module _ (l : Look) where
   -- neither the first branch nor what is left breaks a rule where the whole breaks none
   abbrev AreClean : q.ResetForm → Type 0
@@ -101,7 +106,7 @@ module _ (l : Look) where
   with-clean : (k : ExprTree) (s z all : StmtTree) (f : q.ResetForm) → form_with l k s z all ≡ Some f → (done l clocked s).broken ≡ [] → (done l clocked z).broken ≡ [] → (done l clocked all).broken ≡ [] → AreClean f
   with-clean k s z all f e c d w = go (tested_signals l k) e
     where
-      go : (o : Option (List ℕ)) → option_map (λ ss. record { signals = ss; branch = s; given = branch_given l s; rest = left_tree l k z all }) o ≡ Some f → AreClean f
+      go : (o : Option (List ℕ)) → option_map (of_signals l k s z all) o ≡ Some f → AreClean f
       go None i = absurd (search (rules, i))
       go (Some ss) i = subst AreClean (some_is _ f i) (c, left-clean (is_some (q.reset_signals l k)) z all d w)
 
@@ -155,10 +160,6 @@ module _ (l : Look) where
         given = subst (AreGiven (length l.entries) (unwrap_or f.given [])) (sym g) (given-or f.given (option_map (λ (v : Vec Given Global). v.items) r.given) h.given);
       }
 
--- the form of a branch whose condition tests these signals
-abbrev of_signals : Look → (c : ExprTree) (first other all : StmtTree) → List ℕ → q.ResetForm
-of_signals l c first other all ss = record { signals = ss; branch = first; given = branch_given l first; rest = left_tree l c other all }
-
 module _ (l : Look) (x : s.Stmt) (k : Expr) (y : Box s.Stmt Global) where
   -- the parts of a branch are as readings of texts give them
   pub branch-formed : (o : Option (Box s.Stmt Global)) → x ≡ vs.If k y o → IsStmtFormed (stmt_tree_of x) → IsFormed (tree_of k) × IsStmtFormed (stmt_tree_of y.value) × IsStmtFormed (other_tree o)
@@ -178,11 +179,12 @@ module _ (l : Look) (x : s.Stmt) (k : Expr) (y : Box s.Stmt Global) where
       (subst (λ ss. IsFormIf l (option_map (of_signals l (tree_of k) (stmt_tree_of y.value) (other_tree o) (stmt_tree_of x)) ss) None) h tt)
 
   -- one whose condition tests some has it
-  pub has-reset : (o : Option (Box s.Stmt Global)) (r : ResetForm) → x ≡ vs.If k y o → Some r.signals.items ≡ tested_signals l (tree_of k) → IsDone (done l clocked (stmt_tree_of y.value)) r.branch
+  pub has-reset : (o : Option (Box s.Stmt Global)) (r : ResetForm) → x ≡ vs.If k y o → Some r.signals.items ≡ tested_signals l (tree_of k) → r.reads_other ≡ reads_other l r.signals.items (names_in (tree_of k) ++ read_names (other_tree o))
+      → IsDone (done l clocked (stmt_tree_of y.value)) r.branch
       → AreGivenIf (length l.entries) (branch_given l (stmt_tree_of y.value)) (option_map (λ (v : Vec Given Global). v.items) r.given)
       → IsDone (done l clocked (left_tree l (tree_of k) (other_tree o) (stmt_tree_of x))) r.rest → IsFormIf l (form_in l (stmt_tree_of x)) (Some r)
-  has-reset o r e h b g d = subst (λ f. IsFormIf l f (Some r)) (sym (form-is o e))
-      (subst (λ ss. IsFormIf l (option_map (of_signals l (tree_of k) (stmt_tree_of y.value) (other_tree o) (stmt_tree_of x)) ss) (Some r)) h (record { signals = refl; branch = b; given = g; rest = d }))
+  has-reset o r e h m b g d = subst (λ f. IsFormIf l f (Some r)) (sym (form-is o e))
+      (subst (λ ss. IsFormIf l (option_map (of_signals l (tree_of k) (stmt_tree_of y.value) (other_tree o) (stmt_tree_of x)) ss) (Some r)) h (record { signals = refl; other = m; branch = b; given = g; rest = d }))
 
 -- ---- events
 
@@ -203,7 +205,7 @@ module _ (l : Look) where
 
   -- an event without its form breaks a rule
   no-form-breaks : (edges : List Edge) → has_form edges ≡ false → event_rules l edges ≡ [] → ⊥
-  no-form-breaks edges e h = go (breaks_edges l edges) (none_of_both (flat_map (edge_rules l (first_edge edges)) edges) _ h).1
+  no-form-breaks edges e h = go (list_any (is_wide l) edges) (none_of_both (flat_map (edge_rules l (first_edge edges)) edges) _ h).1
     where
       go : (b : Bool) → breaks_if (not (has_form edges) || b) 316 (first_edge edges) ≡ [] → ⊥
       go b k = let n = subst (λ a. breaks_if (not a || b) 316 (first_edge edges) ≡ []) e k in absurd (search (rules, n))
@@ -270,9 +272,16 @@ module _ (l : Look) where
       go (Some v) true e = absurd (search (rules, e))
       go (Some v) false e = refl
 
+  -- whether it is malformed
+  pub given-fails : (f : q.ResetForm) (a : Bool) → a ≡ is_none f.given → a ≡ true → a ≡ is_malformed l f
+  given-fails f a e t = or-left a (reads_other l f.signals f.reads) t ∙ ap (λ x. x || reads_other l f.signals f.reads) e
+
+  pub other-fails : (f : q.ResetForm) (r : ResetForm) (a : Bool) → IsForm l f r → a ≡ is_none f.given → a ≡ false → r.reads_other ≡ is_malformed l f
+  other-fails f r a h e t = or-right a r.reads_other t ∙ ap₂ (λ x y. x || y) e h.other
+
   -- what a body with reset form breaks, and one without it
   pub form-breaks : (first : Text) (second : Option Edge) (f : Option q.ResetForm) (r : ResetForm) (b : Bool) → IsFormIf l f (Some r)
-      → ((g : q.ResetForm) → IsForm l g r → b ≡ (not (option_map_or (is_edge_of l g.signals) second true) || is_none g.given)) → breaks_if b 317 first ≡ reset_rules l first second f
+      → ((g : q.ResetForm) → IsForm l g r → b ≡ (not (option_map_or (is_edge_of l g.signals) second true) || is_malformed l g)) → breaks_if b 317 first ≡ reset_rules l first second f
   form-breaks first second None r b h k = absurd h
   form-breaks first None (Some g) r b h k = ap (λ t. breaks_if t 317 first) (k g h)
   form-breaks first (Some e) (Some g) r b h k = ap (λ t. breaks_if t 317 first) (k g h)
@@ -294,64 +303,56 @@ clocked-amid n c m x r us front bs back p e h = record {
 }
 
 module _ (l : Look) (edges : List Edge) (t : StmtTree) where
-  -- what the pair of its edges breaks, and what its reset does
-  abbrev pair : List Broken
-  pair = breaks_if (lacks_reset l edges) 317 (first_edge edges)
-
   abbrev reset_breaks : Option q.ResetForm → List Broken
   reset_breaks f = reset_rules l (first_edge edges) (reset_edge l edges) f
 
-  -- what a process breaks, by whether its event has its form
+  -- what a process breaks at its item, and what behind all items, by whether its event has its form
   abbrev rules_at : Bool → List Broken
-  rules_at b = event_rules l edges ++ (done l (cond b clocked neither) t).broken ++ delay_rules t ++ breaks_if (b && lacks_reset l edges) 317 (first_edge edges) ++ reset_breaks (cond b (reset_form l t) None)
+  rules_at b = event_rules l edges ++ (done l (cond b clocked neither) t).broken ++ delay_rules t
+
+  abbrev taking_at : Bool → List Broken
+  taking_at b = pair_rules l edges ++ reset_breaks (cond b (reset_form l t) None)
 
   -- what its reset tells of its drivers
   abbrev reset_if : Bool → Option ℕ × Stmt
   reset_if b = (reset_signal l edges, reset_branch l (cond b (reset_form l t) None))
 
   -- a process with what it notes
-  abbrev IsProcess : ℕ → Noted → Clocked → Noted → Bool → Type 0
-  IsProcess c f p h b = IsClocked (length l.entries) c (body_without l t (cond b (reset_form l t) None)) (reset_if b) (reset_gives l (cond b (reset_form l t) None)) (rules_at b) p × (h ≡ all_noted f (rules_at b))
+  abbrev IsProcess : ℕ → (f f' g g' : Noted) → Clocked → Bool → Type 0
+  IsProcess c f f' g g' p b = IsClocked (length l.entries) c (body_without l t (cond b (reset_form l t) None)) (reset_if b) (reset_gives l (cond b (reset_form l t) None)) (rules_at b) p
+      × (f' ≡ all_noted f (rules_at b)) × (g' ≡ all_noted g (taking_at b))
 
   -- an event with its form, and one without it
-  pub formed-process : (c m : ℕ) (f g h : Noted) (p : Clocked) → m ≡ c → has_form edges ≡ true → g ≡ all_noted f (event_rules l edges)
+  pub formed-process : (c m : ℕ) (f g h i j k : Noted) (p : Clocked) → m ≡ c → has_form edges ≡ true → g ≡ all_noted f (event_rules l edges) → j ≡ all_noted i (pair_rules l edges)
       → IsClocked (length l.entries) m (body_without l t (reset_form l t)) (reset_with l (reset_signal l edges) t) (reset_gives l (reset_form l t)) (done l clocked t).broken p
-      → h ≡ all_noted g ((done l clocked t).broken ++ delay_rules t ++ pair ++ reset_breaks (reset_form l t)) → IsProcess c f p h (has_form edges)
-  formed-process c m f g h p same e i k j =
+      → h ≡ all_noted g ((done l clocked t).broken ++ delay_rules t) → k ≡ all_noted j (reset_breaks (reset_form l t)) → IsProcess c f h i k p (has_form edges)
+  formed-process c m f g h i j k p same e events pair is body resets =
       let event = event_rules l edges in
-      let body = (done l clocked t).broken in
-      let delays = delay_rules t in
-      let last = reset_breaks (reset_form l t) in
-      let us = reset_gives l (reset_form l t) in
-      let r = reset_with l (reset_signal l edges) t in
+      let broken = (done l clocked t).broken in
       let x = body_without l t (reset_form l t) in
-      subst (IsProcess c f p h) (sym e) (
-        clocked-amid (length l.entries) c c x r us [] (event ++ body ++ delays ++ pair) last p refl
-            (clocked-amid (length l.entries) c c x r us [] (event ++ body ++ delays) pair p refl (clocked-amid (length l.entries) c m x r us event body delays p same k)),
-        then-noted f g h event (body ++ delays ++ pair ++ last) i j ∙ ap (all_noted f) (sym (append_assoc event (body ++ delays ++ pair) last)
-            ∙ ap (λ bs. bs ++ last) (sym (append_assoc event (body ++ delays) pair) ∙ ap (λ bs. bs ++ pair) (sym (append_assoc event body delays)))),
+      subst (IsProcess c f h i k p) (sym e) (
+        clocked-amid (length l.entries) c m x (reset_with l (reset_signal l edges) t) (reset_gives l (reset_form l t)) event broken (delay_rules t) p same is,
+        then-noted f g h event (broken ++ delay_rules t) events body ∙ ap (all_noted f) (sym (append_assoc event broken (delay_rules t))),
+        then-noted i j k (pair_rules l edges) (reset_breaks (reset_form l t)) pair resets,
       )
 
-  pub formless-process : (c : ℕ) (f g h i : Noted) (p : Clocked) → has_form edges ≡ false → g ≡ all_noted f (event_rules l edges) → p.clock ≡ c → p.given.items ≡ []
-      → h ≡ all_noted g ((done l neither t).broken ++ delay_rules t) → i ≡ all_noted h (reset_breaks None) → IsProcess c f p i (has_form edges)
-  formless-process c f g h i p e j k none d n =
+  pub formless-process : (c : ℕ) (f g h i j k : Noted) (p : Clocked) → has_form edges ≡ false → g ≡ all_noted f (event_rules l edges) → j ≡ all_noted i (pair_rules l edges) → p.clock ≡ c → p.given.items ≡ []
+      → h ≡ all_noted g ((done l neither t).broken ++ delay_rules t) → k ≡ all_noted j (reset_breaks None) → IsProcess c f h i k p (has_form edges)
+  formless-process c f g h i j k p e events pair clock none body resets =
       let event = event_rules l edges in
-      let body = (done l neither t).broken in
-      let delays = delay_rules t in
-      subst (IsProcess c f p i) (sym e) (
+      let broken = (done l neither t).broken in
+      subst (IsProcess c f h i k p) (sym e) (
         record {
-          clock = k;
+          clock = clock;
           body = record { stmt = λ b. absurd (tells b); sizes = λ b. absurd (tells b) };
           reset = λ b. absurd (tells b);
           given = subst (AreGiven (length l.entries) []) (sym none) tt;
         },
-        then-noted f h i (event ++ (body ++ delays)) (reset_breaks None) (then-noted f g h event (body ++ delays) j d) n
-            ∙ ap (λ bs. all_noted f (bs ++ reset_breaks None)) (sym (append_assoc event body delays) ∙ sym (append-nil (event ++ body ++ delays))),
+        then-noted f g h event (broken ++ delay_rules t) events body ∙ ap (all_noted f) (sym (append_assoc event broken (delay_rules t))),
+        then-noted i j k (pair_rules l edges) (reset_breaks None) pair resets,
       )
     where
-      tells : (((event_rules l edges ++ (done l neither t).broken) ++ delay_rules t) ++ []) ++ reset_breaks None ≡ [] → ⊥
+      tells : (event_rules l edges ++ (done l neither t).broken) ++ delay_rules t ≡ [] → ⊥
       tells b =
-          let body = event_rules l edges ++ (done l neither t).broken in
-          let front = (none_of_both ((body ++ delay_rules t) ++ []) (reset_breaks None) b).0 in
-          let both = (none_of_both body (delay_rules t) (none_of_both (body ++ delay_rules t) [] front).0).0 in
-          no-form-breaks l edges e (none_of_both (event_rules l edges) (done l neither t).broken both).0
+          let broken = (done l neither t).broken in
+          no-form-breaks l edges e (none_of_both (event_rules l edges) broken (none_of_both (event_rules l edges ++ broken) (delay_rules t) b).0).0

@@ -38,7 +38,7 @@ use Rattle.flat_unfolding.specs.Names.{reset_at}
 use Rattle.flat_unfolding.specs.Constants.{assigned_value}
 use Rattle.flat_unfolding.specs.Expressions.{Term, is_empty, read}
 use Rattle.flat_unfolding.specs.Targets.{of_registers, aim, first_name}
-use Rattle.flat_unfolding.specs.Starts.{Starts, starts_with, twice_rule, start, names_register, initial_row, initial_rows, initial_starts, so_far, with_starts, start_of}
+use Rattle.flat_unfolding.specs.Starts.{Starts, starts_with, twice_rule, start, names_register, initial_row, initial_rows, initial_starts, so_far, with_starts, start_of, first_start}
 use Rattle.flat_unfolding.specs.Statements.{neither, done}
 use Rattle.flat_unfolding.specs.Design as u
 use Rattle.flat_unfolding.specs.Design.{Stage, look_of, with_design}
@@ -52,7 +52,7 @@ use Rattle.flat_names.specs.declared.resolved.Resolved.{Resolved}
 use Rattle.flat_names.specs.Noting.{Noted, noted, all_noted, Raises}
 use Rattle.flat_names.specs.Looks.{Seen, seen, shown, Shows, IsFit}
 use Rattle.flat_names.specs.Pieces.{IsRead}
-use Rattle.flat_names.specs.Designs.{signal_of, first_start, start_at, known_at, value_at, reset_of, IsReset, ShowsNames, ShowsDesign, Meets}
+use Rattle.flat_names.specs.Designs.{signal_of, start_at, known_at, value_at, reset_of, IsReset, ShowsNames, ShowsDesign, Meets}
 use Rattle.flat_names.proofs.Options.{none-some, some-same, ok-map}
 use Rattle.flat_names.proofs.Notes.{then-noted}
 use Rattle.flat_names.proofs.Looked.{entry-is, width-is, is-there}
@@ -206,6 +206,7 @@ module _ (pins : List ResetPin) (d : Design) (e : u.Design) (zs : List u.Start) 
     clocked = h.clocked;
     declared = h.declared;
     process_resets = h.process_resets;
+    late = h.late;
     outputs = h.outputs;
     starts = λ k. ap (λ ys. start_at ys k) i ∙ start-behind s v d.entries.items k (subst (λ m. s < m) (sym as-many) inside)
         ∙ ap (λ o. cond (s == k) (Some v) o) (h.starts k) ∙ go k (s == k) refl ∙ sym (first-push zs (record { sig = s; value = v }) k);

@@ -1,6 +1,6 @@
 -- Processes, side by side with the definition's.
-use Rattle.std.specs.Prelude.{◌≡◌, ℕ, Bool, true, cond, ◌&&◌, ◌||◌, List, [], length, Option, Some, None, is_some, is_none, option_map, Box, Vec}
-use Rattle.std.specs.List.{list_any}
+use Rattle.std.specs.Prelude.{◌≡◌, ℕ, Bool, true, false, cond, ◌&&◌, List, [], length, Option, Some, None, is_some, is_none, option_map, Box, Vec}
+use Rattle.std.specs.Option.{option_map_or}
 use Rattle.std.specs.Global.{Global}
 use Rattle.verilog_ast.specs.declared.Edge.{Edge}
 use Rattle.verilog_ast.specs.declared.Stmt as s
@@ -15,8 +15,9 @@ use Rattle.flat_unfolding.specs.Names as n
 use Rattle.flat_unfolding.specs.Widths.{stmt_keeps_sizes}
 use Rattle.flat_unfolding.specs.Statements.{clocked, done}
 use Rattle.flat_unfolding.specs.Resets as q
-use Rattle.flat_unfolding.specs.Processes.{counts_as_star, wires_process, clocked_process, is_wide, is_clock_falling, are_two, reset_edge, reset_branch}
+use Rattle.flat_unfolding.specs.Processes.{counts_as_star, wires_process, clocked_process, are_two, reset_edge, reset_branch}
 use Rattle.flat_unfolding.specs.Design as u
+use Rattle.flat_names.specs.declared.design.Late.{Late}
 use Rattle.flat_statements.specs.Statements.{IsDone}
 use Rattle.flat_process.specs.declared.reset.Given.{Given}
 use Rattle.flat_process.specs.declared.always.Clocked.{Clocked}
@@ -26,10 +27,6 @@ use Rattle.flat_process.specs.Resets.{AreGiven, AreGivenIf}
 -- a process with a list of edges or levels
 abbrev pub process_at : u.Stage → Place → List Edge → StmtTree → Outcome u.Stage
 process_at s p edges body = cond (counts_as_star (u.look_of s) edges body) (wires_process s p body) (clocked_process s p edges body)
-
--- whether an edge has several bits, or the clock's falls
-abbrev pub breaks_edges : n.Look → List Edge → Bool
-breaks_edges l edges = list_any (is_wide l) edges || is_clock_falling l edges
 
 -- whether there are two edges of which not exactly one names a reset
 abbrev pub lacks_reset : n.Look → List Edge → Bool
@@ -60,9 +57,14 @@ pub record IsClocked (n c : ℕ) (x : Stmt) (r : Option ℕ × Stmt) (us : List 
   pub reset : bs ≡ [] → reset_of p.reset ≡ r
   pub given : AreGiven n us p.given.items
 
+-- whether a process is kept whose resets break a rule
+abbrev pub has_rule : Option Late → Bool
+has_rule o = option_map_or (λ (k : Late). is_some k.faults.found) o false
+
 -- a process in reset form
 pub record IsForm (l : n.Look) (f : q.ResetForm) (r : ResetForm) : Type 0 where
   pub signals : r.signals.items ≡ f.signals
+  pub other : r.reads_other ≡ q.reads_other l f.signals f.reads
   pub branch : IsDone (done l clocked f.branch) r.branch
   pub given : AreGivenIf (length l.entries) f.given (option_map (λ (v : Vec Given Global). v.items) r.given)
   pub rest : IsDone (done l clocked f.rest) r.rest

@@ -1,15 +1,16 @@
 -- Resets of clocked processes, side by side with the definition's.
-use Rattle.std.specs.Prelude.{◌≡◌, ℕ, zero, suc, ◌+◌, ◌-◌, ◌^◌, ◌/◌, ◌%◌, ◌<◌, ◌≤◌, Bool, true, false, cond, ◌&&◌, List, [], ◌∷◌, ◌++◌, length, Option, Some, None, bit_and, bit_or}
+use Rattle.std.specs.Prelude.{◌≡◌, ℕ, zero, suc, ◌+◌, ◌-◌, ◌^◌, ◌/◌, ◌%◌, ◌<◌, ◌≤◌, Bool, true, false, cond, not, ◌==◌, ◌&&◌, List, [], ◌∷◌, ◌++◌, length, Option, Some, None, bit_and, bit_or}
+use Rattle.std.specs.List.{list_any}
 use Rattle.cdc_base.specs.declared.signal.ResetPin.{ResetPin}
 use Rattle.cell_graph.specs.Tree.{bit_at}
 use Rattle.flat_meaning.specs.Assigned.{is_within}
 use Rattle.flat_meaning.specs.Flat.{Target, Whole, Part, Pick, Group, Targets, no_targets, target, target_size, target_sizes}
 use Rattle.flat_unfolding.specs.Names as n
-use Rattle.flat_unfolding.specs.Names.{reset_at, width_at}
+use Rattle.flat_unfolding.specs.Names.{Meaning, a_signal, reset_at, width_at}
 use Rattle.flat_unfolding.specs.Constants.{assigned_value, both}
 use Rattle.flat_unfolding.specs.Expressions.{Term, is_sound}
 use Rattle.flat_unfolding.specs.Targets.{Aim}
-use Rattle.flat_unfolding.specs.Resets.{given_to, given_to_all}
+use Rattle.flat_unfolding.specs.Resets.{is_reset, given_to, given_to_all}
 use Rattle.flat_unfolding.specs.Design as u
 use Rattle.flat_names.specs.declared.design.Entry.{Entry}
 use Rattle.flat_names.specs.declared.scope.Look.{Look}
@@ -27,6 +28,11 @@ signals_of a = cond a.has_others None (Some a.numbers.items)
 
 abbrev pub joined : Option (List ℕ) → Option (List ℕ) → Option (List ℕ)
 joined a b = both (λ x y. x ++ y) a b
+
+-- whether what a name stands for is a reset beside these signals
+abbrev pub is_other : n.Look → List ℕ → Option Meaning → Bool
+is_other l signals (Some (a_signal s)) = is_reset l s && not (list_any (λ t. t == s) signals)
+is_other l signals m = false
 
 -- a target without a variable index, of so many signals
 abbrev mutual

@@ -1,5 +1,5 @@
 //! Processes: their events, latches and resets.
-ghost use Rattle.std.specs.Prelude.{◌≡◌, ℕ, ◌++◌, ◌∷◌, [], true, false, not, ◌&&◌, ◌||◌, ◌==◌, List, Option, Some, None, is_some, is_none, option_copied, length, map, flat_map, unwrap_or, option_map, IfOk, IfErr};
+ghost use Rattle.std.specs.Prelude.{◌≡◌, ℕ, ◌++◌, ◌∷◌, [], true, false, not, ◌&&◌, ◌||◌, ◌==◌, List, Option, Some, None, is_some, option_copied, length, map, flat_map, unwrap_or, option_map, IfOk, IfErr};
 ghost use Rattle.std.specs.Option.{option_map_or};
 ghost use Rattle.std.specs.List.{list_all, list_any};
 ghost use Rattle.refusals.specs.Numbers.{HasNumberIn, unfolding_numbers};
@@ -7,16 +7,16 @@ ghost use Rattle.cdc_base.specs.declared.signal.ResetPin.{ResetPin};
 ghost use Rattle.verilog_reading.specs.ExprTree.{tree_of};
 ghost use Rattle.verilog_reading.specs.StmtTree.{StmtTree, stmt_tree_of};
 ghost use Rattle.flat_meaning.specs.Flat.{Stmt as FlatStmt};
-ghost use Rattle.flat_unfolding.specs.Outcome.{Broken, breaks_if, judged, by_number};
+ghost use Rattle.flat_unfolding.specs.Outcome.{Broken, breaks_if, then_, judged, by_number};
 ghost use Rattle.flat_unfolding.specs.Names as n;
 ghost use Rattle.flat_unfolding.specs.Statements.{clocked as clocked_kind, of_wires, done};
 ghost use Rattle.flat_unfolding.specs.Reads.{latch_rule};
 ghost use Rattle.flat_unfolding.specs.Resets as q;
-ghost use Rattle.flat_unfolding.specs.Resets.{reset_form as reset_form_of, reset_rules, is_edge_of as is_edge_of_reset, is_active_edge as is_active};
+ghost use Rattle.flat_unfolding.specs.Resets.{reset_form as reset_form_of, reset_rules, is_edge_of as is_edge_of_reset, is_active_edge as is_active, is_malformed as is_malformed_of};
 ghost use Rattle.flat_unfolding.specs.Design as u;
 ghost use Rattle.flat_unfolding.specs.Design.{Stage, look_of};
 ghost use Rattle.flat_unfolding.specs.Processes as w;
-ghost use Rattle.flat_unfolding.specs.Processes.{always_item, edge_rules, event_rules, clocked_rules, clocked_body, body_without, reset_of, reset_gives, form_of};
+ghost use Rattle.flat_unfolding.specs.Processes.{always_item, edge_rules, event_rules, clocked_rules, pair_rules, taking_rules, clocked_body, body_without, reset_of, reset_gives, form_of};
 ghost use Rattle.flat_unfolding.specs.Formed.{IsFormed, IsStmtFormed};
 ghost use Rattle.flat_names.specs.Noting.{all_noted};
 ghost use Rattle.flat_names.specs.Looks.{Shows, IsFit};
@@ -24,8 +24,9 @@ ghost use Rattle.flat_names.specs.Designs.{IsPin, ShowsDesign, ShowsStage, Ends,
 ghost use Rattle.flat_statements.specs.Statements.{kind_of, IsDone};
 ghost use Rattle.flat_process.specs.Assigns.{fresh};
 ghost use Rattle.flat_process.specs.Resets.{ArePins};
-ghost use Rattle.flat_process.specs.Processes.{process_at, breaks_edges, lacks_reset, IsBody, reset_with, IsClocked, other_tree, left_tree, IsForm, IsFormIf};
+ghost use Rattle.flat_process.specs.Processes.{process_at, lacks_reset, IsBody, reset_with, IsClocked, other_tree, left_tree, IsForm, IsFormIf, has_rule};
 
+use crate::others::reads_other;
 use crate::reset::{
     Given, is_reset, keep_given, peeled, reset_branch, reset_signals, tested_signals,
 };
@@ -33,7 +34,7 @@ use crate::sensitivity::counts_as_star;
 use cdc_base::{Name, NoMemory, Place, Stop};
 use flat_form::flat::{FStmt, FlatClocked, FlatComb, FlatReset};
 use flat_form::memory::push;
-use flat_names::design::{Design, Reset};
+use flat_names::design::{Design, Late, Reset};
 use flat_names::fault::{Faults, Order, Rule};
 use flat_names::scope::{Look, Meaning, Names};
 use flat_statements::latch::first_latch;
@@ -168,26 +169,29 @@ fn add_clocked_process(
     ensures numbered { IfErr result (HasNumberIn unfolding_numbers) }
 {
     let mut faults = Faults::new(alloc, Order::Other);
+    let mut late = Faults::new(alloc, Order::Other);
     let process = {
         let look = design.look(alloc, names);
-        clocked_process(&look, edges, body, &mut faults)?
+        clocked_process(&look, edges, body, &mut faults, &mut late)?
     };
-    keep_clocked_process(place, faults, process, design)
+    keep_clocked_process(place, faults, late, process, design)
 }
 
-/// Adds a clocked process, if its item broke no rule.
+/// Adds a clocked process, if its item broke no rule. The rules of resets that it breaks are `late`.
 fn keep_clocked_process(
     place: Place,
     faults: Faults,
+    late: Faults,
     process: Clocked,
     design: &mut Design,
 ) -> Result<(), Stop>
-    ensures kept { (pins : List ResetPin) (e : u.Design) (clock : ℕ) (x : FlatStmt) (reset : Option ℕ × FlatStmt) (us : List u.Given) (bs : List Broken) → ShowsDesign pins design.old e
-        → faults ≡ all_noted fresh bs → IsClocked (length e.entries) clock x reset us bs process
-        → Ends (ShowsDesign pins design.new) (judged by_number place bs (record e { clocked = e.clocked ++ (clock, x) ∷ []; resets = e.resets ++ reset ∷ []; givens = e.givens ++ us })) result }
+    ensures kept { (pins : List ResetPin) (e : u.Design) (clock : ℕ) (x : FlatStmt) (reset : Option ℕ × FlatStmt) (us : List u.Given) (bs ts : List Broken) → ShowsDesign pins design.old e
+        → faults ≡ all_noted fresh bs → late ≡ all_noted fresh ts → IsClocked (length e.entries) clock x reset us bs process
+        → Ends (ShowsDesign pins design.new) (judged by_number place bs (record e { clocked = e.clocked ++ (clock, x) ∷ []; resets = e.resets ++ reset ∷ []; givens = e.givens ++ us; late = then_ e.late (λ u. judged by_number place ts (tt {0})) })) result }
     ensures numbered { IfErr result (HasNumberIn unfolding_numbers) }
 {
     faults.raise(place)?;
+    keep_late(place, late, design);
     keep_given(design, process.given.as_slice());
     push(&mut design.resets, process.reset)?;
     let process = FlatClocked {
@@ -198,24 +202,53 @@ fn keep_clocked_process(
     Ok(())
 }
 
+/// Keeps the rules of resets that a process breaks, if it is the first that breaks one.
+fn keep_late(place: Place, faults: Faults, design: &mut Design)
+    ensures { (pins : List ResetPin) (e : u.Design) (ts : List Broken) → ShowsDesign pins design.old e → faults ≡ all_noted fresh ts
+        → ShowsDesign pins design.new (record e { late = then_ e.late (λ u. judged by_number place ts (tt {0})) }) }
+{
+    if is_first_late(&design.late, &faults) {
+        design.late = Some(Late { place, faults });
+    }
+}
+
+fn is_first_late(late: &Option<Late>, faults: &Faults) -> bool
+    ensures { result ≡ (not (has_rule late.now) && is_some faults.now.found) }
+{
+    !is_late(late) && faults.rule().is_some()
+}
+
+/// Whether a process is kept whose resets break a rule.
+fn is_late(late: &Option<Late>) -> bool
+    ensures { result ≡ has_rule late.now }
+{
+    match late {
+        Some(late) => late.faults.rule().is_some(),
+        None => false,
+    }
+}
+
+/// A clocked process. The rules of resets that it breaks are noted in `late`.
 fn clocked_process(
     look: &Look,
     edges: &[Edge],
     body: &Stmt,
     faults: &mut Faults,
+    late: &mut Faults,
 ) -> Result<Clocked, NoMemory>
     ensures { (pins : List ResetPin) (l : n.Look) → Shows look.now l → IsFit l → ArePins pins look.now l → IsStmtFormed (stmt_tree_of body.now)
         → IfOk result (λ p. IsClocked (length l.entries) (unwrap_or (w.clock_of l edges.now) 0) (clocked_body l edges.now (stmt_tree_of body.now)) (reset_of l edges.now (stmt_tree_of body.now))
         (reset_gives l (form_of l edges.now (stmt_tree_of body.now))) (clocked_rules l edges.now (stmt_tree_of body.now)) p
-        × (faults.new ≡ all_noted faults.old (clocked_rules l edges.now (stmt_tree_of body.now)))) }
+        × (faults.new ≡ all_noted faults.old (clocked_rules l edges.now (stmt_tree_of body.now))) × (late.new ≡ all_noted late.old (taking_rules l edges.now (stmt_tree_of body.now)))) }
 {
     note_event(look, edges, faults)?;
+    note_pair(look, edges, late)?;
     let clock = clock_of(look, edges).unwrap_or(0);
     if has_form(edges) {
-        process_with_form(look, edges, clock, body, faults)
+        process_with_form(look, edges, clock, body, faults, late)
     } else {
         let body = body_at_edges(look, body, Mode::Neither, faults)?;
-        note_reset(look, edges, &None, faults)?;
+        note_reset(look, edges, &None, late)?;
         Ok(Clocked {
             clock,
             body,
@@ -274,7 +307,7 @@ fn first_edge(edges: &[Edge]) -> &str
     }
 }
 
-/// Notes where an event hasn't its form, an edge is that of no signal or of several bits, or the clock's edge falls.
+/// Notes where an event hasn't its form, or an edge is that of no signal or of several bits.
 fn note_event(look: &Look, edges: &[Edge], faults: &mut Faults) -> Result<(), NoMemory>
     ensures { (l : n.Look) → Shows look.now l → IsFit l → IfOk result (λ _. faults.new ≡ all_noted faults.old (event_rules l edges.now)) }
 {
@@ -286,16 +319,9 @@ fn note_event(look: &Look, edges: &[Edge], faults: &mut Faults) -> Result<(), No
 }
 
 fn breaks_event(look: &Look, edges: &[Edge]) -> bool
-    ensures { (l : n.Look) → Shows look.now l → IsFit l → result ≡ (not (w.has_form edges.now) || breaks_edges l edges.now) }
+    ensures { (l : n.Look) → Shows look.now l → IsFit l → result ≡ (not (w.has_form edges.now) || list_any (w.is_wide l) edges.now) }
 {
-    !has_form(edges) || have_fault(look, edges)
-}
-
-/// Whether an edge has several bits, or the clock's falls.
-fn have_fault(look: &Look, edges: &[Edge]) -> bool
-    ensures { (l : n.Look) → Shows look.now l → IsFit l → result ≡ breaks_edges l edges.now }
-{
-    has_wide_edge(look, edges) || is_clock_falling(look, edges)
+    !has_form(edges) || has_wide_edge(look, edges)
 }
 
 fn note_edges(look: &Look, edges: &[Edge], faults: &mut Faults) -> Result<(), NoMemory>
@@ -413,26 +439,27 @@ fn process_with_form(
     clock: u32,
     body: &Stmt,
     faults: &mut Faults,
+    late: &mut Faults,
 ) -> Result<Clocked, NoMemory>
     ensures { (pins : List ResetPin) (l : n.Look) → Shows look.now l → IsFit l → ArePins pins look.now l → IsStmtFormed (stmt_tree_of body.now)
         → IfOk result (λ p. IsClocked (length l.entries) clock (body_without l (stmt_tree_of body.now) (reset_form_of l (stmt_tree_of body.now))) (reset_with l (w.reset_signal l edges.now) (stmt_tree_of body.now))
         (reset_gives l (reset_form_of l (stmt_tree_of body.now))) (done l clocked_kind (stmt_tree_of body.now)).broken p
-        × (faults.new ≡ all_noted faults.old ((done l clocked_kind (stmt_tree_of body.now)).broken ++ w.delay_rules (stmt_tree_of body.now) ++ breaks_if (lacks_reset l edges.now) 317 (w.first_edge edges.now)
-        ++ reset_rules l (w.first_edge edges.now) (w.reset_edge l edges.now) (reset_form_of l (stmt_tree_of body.now))))) }
+        × (faults.new ≡ all_noted faults.old ((done l clocked_kind (stmt_tree_of body.now)).broken ++ w.delay_rules (stmt_tree_of body.now)))
+        × (late.new ≡ all_noted late.old (reset_rules l (w.first_edge edges.now) (w.reset_edge l edges.now) (reset_form_of l (stmt_tree_of body.now))))) }
 {
     let whole = body_at_edges(look, body, Mode::Clocked, faults)?;
-    note_pair(look, edges, faults)?;
     let form = reset_form(look, body)?;
-    note_reset(look, edges, &form, faults)?;
+    note_reset(look, edges, &form, late)?;
     let edge = reset_signal(look, edges);
     Ok(with_reset(look.alloc, clock, edge, whole, form))
 }
 
-/// A body in reset form: the signals of its resets, its first branch, what that gives where it has its form, and what is
-/// left of the body.
+/// A body in reset form: the signals of its resets, whether it reads another reset in its condition or its other branch,
+/// its first branch, what that gives where it has its form, and what is left of the body.
 #[derive(Drop)]
 struct ResetForm {
     signals: Vec<u32>,
+    reads_other: bool,
     branch: FStmt,
     given: Option<Vec<Given>>,
     rest: FStmt,
@@ -449,11 +476,13 @@ fn reset_form(look: &Look, body: &Stmt) -> Result<Option<ResetForm>, NoMemory>
     let Some(signals) = tested_signals(look, cond)? else {
         return Ok(None);
     };
+    let reads_other = reads_other(look, cond, other, signals.as_slice())?;
     let branch = branch_body(look, yes)?;
     let given = reset_branch(look, yes)?;
     let rest = rest_body(look, stmt, cond, other)?;
     Ok(Some(ResetForm {
         signals,
+        reads_other,
         branch,
         given,
         rest,
@@ -493,8 +522,24 @@ fn branch_body(look: &Look, branch: &Stmt) -> Result<FStmt, NoMemory>
     statement(look, branch, Mode::Clocked, &mut unheard)
 }
 
-/// Notes two edges of which not exactly one names a reset.
+/// Notes two edges of which not exactly one names a reset, or of which the clock's falls.
 fn note_pair(look: &Look, edges: &[Edge], faults: &mut Faults) -> Result<(), NoMemory>
+    ensures { (l : n.Look) → Shows look.now l → IfOk result (λ _. faults.new ≡ all_noted faults.old (pair_rules l edges.now)) }
+{
+    note_lack(look, edges, faults)?;
+    note_falling(look, edges, faults)
+}
+
+fn note_falling(look: &Look, edges: &[Edge], faults: &mut Faults) -> Result<(), NoMemory>
+    ensures { (l : n.Look) → Shows look.now l → IfOk result (λ _. faults.new ≡ all_noted faults.old (breaks_if (w.is_clock_falling l edges.now) 316 (w.first_edge edges.now))) }
+{
+    if is_clock_falling(look, edges) {
+        faults.note(Rule::ClockForm, first_edge(edges))?;
+    }
+    Ok(())
+}
+
+fn note_lack(look: &Look, edges: &[Edge], faults: &mut Faults) -> Result<(), NoMemory>
     ensures { (l : n.Look) → Shows look.now l → IfOk result (λ _. faults.new ≡ all_noted faults.old (breaks_if (lacks_reset l edges.now) 317 (w.first_edge edges.now))) }
 {
     if lack_reset(look, edges) {
@@ -509,8 +554,8 @@ fn lack_reset(look: &Look, edges: &[Edge]) -> bool
     edges.len() == 2 && reset_edge(look, edges).is_none()
 }
 
-/// Notes where the reset's edge isn't that of the signals that reset form tests, or where the first branch hasn't its
-/// form.
+/// Notes where the reset's edge isn't that of the signals that reset form tests, where the first branch hasn't its form,
+/// or where another reset is read.
 fn note_reset(
     look: &Look,
     edges: &[Edge],
@@ -538,9 +583,15 @@ fn breaks_reset(look: &Look, edges: &[Edge], form: &Option<ResetForm>) -> bool
 
 fn breaks_form(look: &Look, edges: &[Edge], form: &ResetForm) -> bool
     ensures { (pins : List ResetPin) (l : n.Look) (f : q.ResetForm) → Shows look.now l → ArePins pins look.now l → IsForm l f form.now
-        → result ≡ (not (option_map_or (is_edge_of_reset l f.signals) (w.reset_edge l edges.now) true) || is_none f.given) }
+        → result ≡ (not (option_map_or (is_edge_of_reset l f.signals) (w.reset_edge l edges.now) true) || is_malformed_of l f) }
 {
-    !fits_edge(look, edges, form.signals.as_slice()) || form.given.is_none()
+    !fits_edge(look, edges, form.signals.as_slice()) || is_malformed(form)
+}
+
+fn is_malformed(form: &ResetForm) -> bool
+    ensures { (l : n.Look) (f : q.ResetForm) → IsForm l f form.now → result ≡ is_malformed_of l f }
+{
+    form.given.is_none() || form.reads_other
 }
 
 /// Whether the reset's edge, if there is one, is that of these signals.

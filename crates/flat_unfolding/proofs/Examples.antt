@@ -19,7 +19,7 @@ use Rattle.flat_meaning.specs.Flat as f
 use Rattle.flat_meaning.specs.Design.{Flat}
 use Rattle.flat_unfolding.specs.Outcome.{Outcome, good, refused}
 use Rattle.flat_unfolding.specs.Unfolding.{unfolded}
-use Rattle.flat_unfolding.proofs.Sources.{v, plain, sized, unsized, bit, pair, to, to_bit, to_pair, blocking, later, rows, range, down_to_zero, wire, wire_with, reg, reg_with, memory, parameter_of, parameter, localparam, of_wires, on, at_clock, at_clock_or, instance_of, port_item, port, input, output, a_module, an_old_module, top_m, h, h_reset, with_stub, refused_at, one_bit, ranged, starts_as}
+use Rattle.flat_unfolding.proofs.Sources.{v, plain, sized, unsized, bit, pair, to, to_bit, to_pair, blocking, later, rows, range, down_to_zero, wire, wire_with, reg, reg_with, memory, parameter_of, parameter, localparam, of_wires, on, at_clock, at_clock_or, instance_of, port_item, port, input, output, a_module, an_old_module, top_m, in_h, h, h_reset, with_stub, refused_at, one_bit, ranged, starts_as}
 
 -- ---- modules, names, places
 
@@ -399,6 +399,55 @@ reset_to_signal : h_reset (reg None "r" ∷ at_clock "ca" (either (unary u.Logic
 unfolding keyword_of is_left_out
 reset_to_signal = refl
 
+-- of two such processes the first one is told
+first_process_is_told : h_reset (reg None "r" ∷ reg None "x" ∷ at_clock "ca" (either (unary u.LogicNot (v "e")) (later (to "r") (v "d")) (later (to "r") (v "d")))
+    ∷ at_clock "cb" (either (unary u.LogicNot (v "e")) (later (to "x") (v "d")) (later (to "x") (v "d"))) ∷ []) ≡ refused_at 317 4 "ca"
+unfolding keyword_of is_left_out
+first_process_is_told = refl
+
+-- assign q = Z; behind it is refused before it
+resets_come_last : h_reset (reg None "r" ∷ at_clock "ca" (either (unary u.LogicNot (v "e")) (later (to "r") (v "d")) (later (to "r") (v "d"))) ∷ assign (to "q") (v "Z") ∷ []) ≡ refused_at 305 4 "Z"
+unfolding keyword_of is_left_out
+resets_come_last = refl
+
+-- wire w; assign q = w; which has no driver, is refused after it
+resets_before_drivers : h_reset (reg None "r" ∷ at_clock "ca" (either (unary u.LogicNot (v "e")) (later (to "r") (v "d")) (later (to "r") (v "d"))) ∷ wire None "w" ∷ assign (to "q") (v "w") ∷ []) ≡ refused_at 317 3 "ca"
+unfolding keyword_of is_left_out
+resets_before_drivers = refl
+
+-- with the resets e and d, both active low: the `else` reads the other one
+second_reset_is_read : unfolded (in_h (reg None "r"
+    ∷ at_clock_or "ca" (on edge.Neg "e") (either (unary u.LogicNot (v "e")) (later (to "r") (plain 0))
+    (either (unary u.LogicNot (v "d")) (later (to "r") (plain 1)) (later (to "r") (bit "v" (plain 0))))) ∷ []) ∷ [])
+    (codes "m") (record { name = codes "e"; high = false } ∷ record { name = codes "d"; high = false } ∷ []) [] ≡ refused_at 317 3 "ca"
+unfolding keyword_of is_left_out
+second_reset_is_read = refl
+
+-- with the reset e: always @(negedge ca or posedge e) if (!e) r <= 0; else r <= d; has a falling clock, which has the lesser number
+falling_clock : h_reset (reg None "r" ∷ always (event.Edges (on edge.Neg "ca" ∷ on edge.Pos "e" ∷ [])) (either (unary u.LogicNot (v "e")) (later (to "r") (plain 0)) (later (to "r") (v "d"))) ∷ [])
+    ≡ refused_at 316 3 "ca"
+unfolding keyword_of is_left_out
+falling_clock = refl
+
+-- reg [3:0] r = 5; assign q = r[0]; no process assigns r, which has its start value
+constant_register : h (reg_with (down_to_zero 3) "r" (plain 5) ∷ assign (to "q") (bit "r" (plain 0)) ∷ [])
+    ≡ good (record {
+      signals = one_bit "ca" 1 Input ∷ one_bit "cb" 1 Input ∷ one_bit "d" 1 Input ∷ one_bit "e" 1 Input ∷ ranged "v" 1 3 Input
+          ∷ one_bit "q" 1 Wire ∷ ranged "o" 1 7 Wire ∷ ranged "r" 2 3 Wire ∷ [];
+      assigns = (f.Whole 5, f.Read 7 0 1) ∷ (f.Whole 7, f.Number 4 5) ∷ [];
+      combs = [];
+      clocked = [];
+      outputs = 5 ∷ 6 ∷ [];
+    })
+unfolding keyword_of is_left_out
+constant_register = refl
+
+-- reg r = 1; always @* r = d; assign q = r; one that a process assigns hasn't
+started_wire : h (reg_with None "r" (plain 1) ∷ of_wires (blocking (to "r") (v "d")) ∷ assign (to "q") (v "r") ∷ [])
+    ≡ h (reg None "r" ∷ of_wires (blocking (to "r") (v "d")) ∷ assign (to "q") (v "r") ∷ [])
+unfolding keyword_of is_left_out
+started_wire = refl
+
 -- with the reset e: reg x, hold; always @(posedge ca or negedge e) if (!e) hold <= 0; else x <= d; assign q = hold;
 reset_drives_nothing : h_reset (reg None "x" ∷ reg None "hold"
     ∷ at_clock_or "ca" (on edge.Neg "e") (either (unary u.LogicNot (v "e")) (later (to "hold") (plain 0)) (later (to "x") (v "d")))
@@ -569,11 +618,17 @@ read_and_write_front : top_m (a_module "m" [] (input "c" ∷ input "d" ∷ port 
 unfolding keyword_of is_left_out digits
 read_and_write_front = refl
 
--- with the reset e: if (!e) {M[d], x} <= 0; has a variable index in the target of its first branch
+-- with the reset e: if (!e) M[d] <= 0; has a variable index in the target of its first branch
 reset_at_variable_index : h_reset (memory None "M" (range (plain 0) (plain 1)) ∷ reg None "x"
-    ∷ at_clock "ca" (either (unary u.LogicNot (v "e")) (later (to_pair (to_bit "M" (v "d")) (to "x")) (plain 0)) (later (to "x") (v "d"))) ∷ []) ≡ refused_at 317 4 "ca"
+    ∷ at_clock "ca" (either (unary u.LogicNot (v "e")) (later (to_bit "M" (v "d")) (plain 0)) (later (to "x") (v "d"))) ∷ []) ≡ refused_at 317 4 "ca"
 unfolding keyword_of is_left_out digits
 reset_at_variable_index = refl
+
+-- in {M[d], x} <= 0 such a word breaks a rule of the item, which comes before
+reset_in_concatenation : h_reset (memory None "M" (range (plain 0) (plain 1)) ∷ reg None "x"
+    ∷ at_clock "ca" (either (unary u.LogicNot (v "e")) (later (to_pair (to_bit "M" (v "d")) (to "x")) (plain 0)) (later (to "x") (v "d"))) ∷ []) ≡ refused_at 319 4 "M"
+unfolding keyword_of is_left_out digits
+reset_in_concatenation = refl
 
 -- ---- instances
 

@@ -14,6 +14,7 @@ pub mod Aims
 pub mod Stmts
 pub mod Grown
 pub mod Free
+pub mod Constants
 pub mod Stages
 pub mod Declared
 pub mod Ports

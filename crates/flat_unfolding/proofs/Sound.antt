@@ -4,11 +4,11 @@ use Rattle.std.specs.Prelude.{◌≢◌, slice_get, All}
 use Rattle.std.specs.List.{list_any}
 use Rattle.std.specs.Option.{option_or}
 use Rattle.std.proofs.lemmas.Bool.{and_parts, or_parts}
-use Rattle.std.proofs.lemmas.List.Elements.{All-head, All-tail}
+use Rattle.std.proofs.lemmas.List.Elements.{All-head, All-tail, All-append}
 use Rattle.cdc_base.specs.declared.signal.Signal.{Signal}
 use Rattle.cdc_base.specs.declared.signal.SigKind.{SigKind}
 use Rattle.cdc_base.specs.declared.signal.SigKind.TheVariants.{Input, Register, Wire}
-use Rattle.flat_meaning.specs.Flat.{Expr, Target, Whole, Part, Pick, Group, Targets, no_targets, target, Stmt, assigns}
+use Rattle.flat_meaning.specs.Flat.{Expr, Number, Target, Whole, Part, Pick, Group, Targets, no_targets, target, Stmt, assigns}
 use Rattle.flat_meaning.specs.Assigned.{Done, is_within, surely, may_assign}
 use Rattle.flat_meaning.specs.Deps.{AllIn, none, span}
 use Rattle.flat_meaning.specs.Law.{MayBe, MayRead}
@@ -20,22 +20,22 @@ use Rattle.flat_unfolding.specs.Targets.{first_pick, first_pick_in}
 use Rattle.flat_form.specs.Uses.{stmt_reads}
 use Rattle.flat_unfolding.specs.Reads.{early, is_latch}
 use Rattle.flat_unfolding.specs.Design.{Design}
-use Rattle.flat_unfolding.specs.Signals.{is_register, with_free, kind_of, signals_from, flat_design}
+use Rattle.flat_unfolding.specs.Signals.{is_register, is_processed, constants_from, with_constants, with_free, kind_of, signals_from}
 use Rattle.flat_unfolding.specs.Drivers.{assigned_by, bodies, all_drivers, is_read, is_from_outside, driven_once}
 use Rattle.flat_unfolding.specs.Sized.{IsTargetSized, AreTargetsSized, IsStmtSized}
 use Rattle.flat_unfolding.specs.Laws.{SoundLaw, IsWellClocked, WellClockedLaw}
-use Rattle.flat_unfolding.proofs.Steps.{good_is, good_then}
 use Rattle.flat_unfolding.proofs.OneDriver.{one_driver}
 use Rattle.flat_unfolding.proofs.Known.{reg_at, top_at}
 use Rattle.flat_unfolding.proofs.Aims.{not_true}
 use Rattle.flat_unfolding.proofs.Grown.{is_declared_at, has_bits, all_on, expr_agrees, target_agrees, stmt_agrees}
 use Rattle.flat_unfolding.proofs.Stages.{IsEntry, words_of, drivable_at, IsAssignIn, IsCombIn, IsClockedIn, IsDesign}
 use Rattle.flat_unfolding.proofs.Alike.{either, no_latch_on}
-use Rattle.flat_unfolding.proofs.Fit.{fits, good as good_bits, stmt_fits, early_read, stmt_reads_in}
+use Rattle.flat_unfolding.proofs.Fit.{true_left, fits, good as good_bits, stmt_fits, early_read, stmt_reads_in}
 use Rattle.flat_unfolding.proofs.Driven.{assigned_is, never_timed, is_assigned, counted, registered, unregistered, among, any_front, all_and, all_swap, only, timed, clocked_counts, unclocked_counts, not_undriven, few_drivers, few_bodies, few_processes, one_clock}
 use Rattle.flat_unfolding.proofs.Apart.{HasClock}
 use Rattle.flat_unfolding.proofs.Free.{free_width, driven_top, assigned_driven, processed_driven}
-use Rattle.flat_unfolding.proofs.Visits.{flat_widths}
+use Rattle.flat_unfolding.proofs.Constants.{constants_hold, times_both, none_constant}
+use Rattle.flat_unfolding.proofs.Visits.{flattened, accepted, flat_widths}
 use Rattle.flat_unfolding.proofs.Visited.{flat_agrees, reached}
 
 -- ---- kinds
@@ -91,13 +91,20 @@ not_outside Wire e = refl
 both_false : (a b : Bool) → a ≡ false → b ≡ false → (a || b) ≡ false
 both_false a b h k = ap₂ (λ p q. p || q) h k
 
-module _ (named : List Text) (d : Design) (h : IsDesign d) (u : Unit {0}) (ok : driven_once (flat_design (with_free named d)) d.resets ≡ good u) where
+module _ (named : List Text) (d : Design) (h : IsDesign d) (u : Unit {0}) (ok : driven_once (flattened named d) d.resets ≡ good u) where
   abbrev f : Flat
-  f = flat_design (with_free named d)
+  f = flattened named d
 
-  -- the signals, of which the free ones come from outside
+  -- with free signals, which come from outside
+  abbrev freed : Design
+  freed = with_free named d
+
   abbrev signals : List Entry
-  signals = (with_free named d).entries
+  signals = freed.entries
+
+  -- what is assigned beside the design's own assignments
+  abbrev constants : List (Target × Expr)
+  constants = constants_from freed 0 signals
 
   abbrev wid : ℕ → ℕ
   wid = width_at d.entries
@@ -118,7 +125,7 @@ module _ (named : List Text) (d : Design) (h : IsDesign d) (u : Unit {0}) (ok : 
   varies : (s : ℕ) → 1 ≤ flat s → is_variable f s ≡ (is_register d s || top_at signals s)
   varies s l =
       let z : 0 + s ≡ s = omega arith in
-      signals_vary (with_free named d) 0 signals s (declared s (subst (λ w. 1 ≤ w) (same s) l)) ∙ ap (λ k. is_register d k || top_at signals s) z
+      signals_vary (with_constants freed) 0 signals s (declared s (subst (λ w. 1 ≤ w) (same s) l)) ∙ ap (λ k. is_register d k || top_at signals s) z
 
   -- ---- clocked processes
 
@@ -146,7 +153,7 @@ module _ (named : List Text) (d : Design) (h : IsDesign d) (u : Unit {0}) (ok : 
 
   -- ---- assignments
 
-  not_registered : (s i : ℕ) → i < flat s → 1 ≤ times_assigned flat s i d.assigns → is_register d s ≡ false
+  not_registered : (s i : ℕ) → i < flat s → 1 ≤ times_assigned flat s i f.assigns → is_register d s ≡ false
   not_registered s i l t = go (is_register d s) refl
     where
       go : (b : Bool) → is_register d s ≡ b → b ≡ false
@@ -210,17 +217,32 @@ module _ (named : List Text) (d : Design) (h : IsDesign d) (u : Unit {0}) (ok : 
         drives_wires (drivable_at d.entries) a.0 t k.1 (λ s i l n.
             let q = m s i in
             let y : 1 ≤ times_assigned flat s i d.assigns = omega (arith, n, q) in
+            let b = times_both flat s i d.assigns constants in
+            let z : 1 ≤ times_assigned flat s i f.assigns = omega (arith, y, b) in
             let inside = driven_top named d s (assigned_driven d s (is_assigned flat s i d.assigns y)) ∙ (not_top a.0 s i t n).0 in
-            varies s (let x : 1 ≤ flat s = omega (arith, l) in x) ∙ both_false (is_register d s) (top_at signals s) (not_registered s i l y) inside),
+            varies s (let x : 1 ≤ flat s = omega (arith, l) in x) ∙ both_false (is_register d s) (top_at signals s) (not_registered s i l z) inside),
       )
 
-  all_assigned : All (IsSoundAssign f) d.assigns
-  all_assigned =
+  own_assigned : All (IsSoundAssign f) d.assigns
+  own_assigned =
       let m = all_swap (λ (j : ℕ × ℕ) (a : Target × Expr). times_in flat j.0 j.1 a.0 ≤ times_assigned flat j.0 j.1 d.assigns) d.assigns (λ j. timed flat j.0 j.1 d.assigns) in
       all_on (λ (a : Target × Expr). IsAssignIn d.entries a × ((j : ℕ × ℕ) → times_in flat j.0 j.1 a.0 ≤ times_assigned flat j.0 j.1 d.assigns)) (IsSoundAssign f) d.assigns (λ a k. assign_sound a k.0 (λ s i. k.1 (s, i)))
       (all_and (IsAssignIn d.entries) (λ (a : Target × Expr). (j : ℕ × ℕ) → times_in flat j.0 j.1 a.0 ≤ times_assigned flat j.0 j.1 d.assigns) d.assigns h.assigns m)
 
-  -- nothing but processes drives what is declared as a register
+  -- what no process assigns is no register
+  constant_sound : (s t v : ℕ) → 0 + s ≡ t → is_processed freed t ≡ false → top_at signals s ≡ false → 1 ≤ width_at signals s → IsSoundAssign f (Whole t, Number (width_at signals s) v)
+  constant_sound s t v i p o l =
+      let z : s ≡ t = omega (arith, i) in
+      let m = subst (λ n. 1 ≤ flat n) z (subst (λ w. 1 ≤ w) (sym (same s ∙ sym (free_width named d s))) l) in
+      let q = or_parts (list_any (λ (b : Stmt). assigns b t) d.combs) _ p in
+      let r = or_parts (list_any (λ (b : Option ℕ × Stmt). assigns b.1 t) d.resets) (is_register d t) q.1 in
+      (tt, (varies t m ∙ both_false (is_register d t) (top_at signals t) r.1 (subst (λ n. top_at signals n ≡ false) z o), m))
+
+  all_assigned : All (IsSoundAssign f) f.assigns
+  all_assigned = All-append (IsSoundAssign f) d.assigns constants own_assigned
+      (constants_hold (IsSoundAssign f) freed 0 signals (λ s t v i p o l k. constant_sound s t v i p o l))
+
+  -- nothing but processes drives what is declared as a register and processes assign
   none_assigned : (s i : ℕ) → reg_at d.entries s ≡ true → (xs : List (Target × Expr)) → All (IsAssignIn d.entries) xs → times_assigned flat s i xs ≡ 0
   none_assigned s i r [] k = refl
   none_assigned s i r (a ∷ xs) k =
@@ -302,7 +324,9 @@ module _ (named : List Text) (d : Design) (h : IsDesign d) (u : Unit {0}) (ok : 
             let p = few_processes f d.resets u ok s t.1 in
             let z = unclocked_counts f s (unregistered d.clocked s (comb_unregistered s e)) in
             let y = none_assigned s i t.0 d.assigns h.assigns in
-            m.alone s i (let q : assigned_by d.combs s ≤ 1 = omega (arith, p) in q) (let q : 1 ≤ times_processed flat s i d.combs = omega (arith, a, z, y) in q) e
+            let c = none_constant flat s i freed 0 signals (true_left (list_any (λ (c : Stmt). assigns c s) d.combs) _ (m.assigned s 0 e)) in
+            let o = times_both flat s i d.assigns constants in
+            m.alone s i (let q : assigned_by d.combs s ≤ 1 = omega (arith, p) in q) (let q : 1 ≤ times_processed flat s i d.combs = omega (arith, a, z, y, c, o) in q) e
 
     none_early : (s i : ℕ) → assigns b s ≡ true → early flat b none s i ≡ false
     none_early s i e = go (early flat b none s i) refl
@@ -369,11 +393,11 @@ module _ (named : List Text) (d : Design) (h : IsDesign d) (u : Unit {0}) (ok : 
       (any_assigned s ps (All-tail (IsClockedIn d.entries) p ps k))
 
   register_size : (s : ℕ) → kind_in f.signals s ≡ Register → 1 ≤ flat s
-  register_size s e = subst (λ w. 1 ≤ w) (sym (same s ∙ sym (free_width named d s))) (has_bits signals s (register_kind (with_free named d) 0 signals s e).0)
+  register_size s e = subst (λ w. 1 ≤ w) (sym (same s ∙ sym (free_width named d s))) (has_bits signals s (register_kind (with_constants freed) 0 signals s e).0)
 
   registers_assigned : (s : ℕ) → kind_in f.signals s ≡ Register → 1 ≤ assigned_by (bodies f) s
   registers_assigned s e =
-      let r = (register_kind (with_free named d) 0 signals s e).1 in
+      let r = (register_kind (with_constants freed) 0 signals s e).1 in
       registered d.clocked s (subst (λ n. is_register d n ≡ true) (let z : 0 + s ≡ s = omega arith in z) r)
 
   others_none : (s : ℕ) → kind_in f.signals s ≢ Register → assigned_by (bodies f) s ≡ 0
@@ -383,7 +407,7 @@ module _ (named : List Text) (d : Design) (h : IsDesign d) (u : Unit {0}) (ok : 
       go false e = refl
       go true e =
           let l = declared s (any_assigned s d.clocked h.clocked e) in
-          absurd (n (kind_register (with_free named d) 0 signals s l (subst (λ k. is_register d k ≡ true) (let z : s ≡ 0 + s = omega arith in z) e)))
+          absurd (n (kind_register (with_constants freed) 0 signals s l (subst (λ k. is_register d k ≡ true) (let z : s ≡ 0 + s = omega arith in z) e)))
 
   registers_clock : (s : ℕ) → kind_in f.signals s ≡ Register → All (λ (p : ℕ × Stmt). All (λ (q : ℕ × Stmt). assigns p.1 s ≡ true → assigns q.1 s ≡ true → p.0 ≡ q.0) d.clocked) d.clocked
   registers_clock s e =
@@ -405,13 +429,11 @@ module _ (named : List Text) (d : Design) (h : IsDesign d) (u : Unit {0}) (ok : 
 pub sound_law : SoundLaw
 sound_law modules formed top resets named f e =
     let r = reached modules formed top resets named f e in
-    let c = flat_design (with_free named r.0) in
-    let g = good_then (driven_once c r.0.resets) (λ u. good c) f r.2 in
-    subst IsSound (good_is c f g.2) (sound named r.0 r.1 g.0 g.1)
+    let a = accepted named r.0 f r.2 in
+    subst IsSound a.2 (sound named r.0 r.1 a.0 a.1)
 
 pub well_clocked_law : WellClockedLaw
 well_clocked_law modules formed top resets named f e =
     let r = reached modules formed top resets named f e in
-    let c = flat_design (with_free named r.0) in
-    let g = good_then (driven_once c r.0.resets) (λ u. good c) f r.2 in
-    subst IsWellClocked (good_is c f g.2) (well_clocked named r.0 r.1 g.0 g.1)
+    let a = accepted named r.0 f r.2 in
+    subst IsWellClocked a.2 (well_clocked named r.0 r.1 a.0 a.1)

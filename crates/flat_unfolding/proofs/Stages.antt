@@ -24,8 +24,9 @@ use Rattle.flat_unfolding.specs.Expressions.{Term, is_sound, joined, read}
 use Rattle.flat_unfolding.specs.Targets.{is_input, of_wires, takes, first_pick, wire_aim, driven}
 use Rattle.flat_unfolding.specs.Statements.{of_wires as wires, clocked, neither, done, done_all}
 use Rattle.flat_unfolding.specs.Reads.{is_latch, latch_rule}
+use Rattle.flat_unfolding.specs.Mentions.{names_in, read_names}
 use Rattle.flat_unfolding.specs.Resets.{peeled, peeled_rows, reset_signals, tested_signals, ResetForm, branch_given, form_with, form_in, reset_form}
-use Rattle.flat_unfolding.specs.Processes.{delay_rules, later_rules, counts_as_star, has_form, first_edge, meant_edge, edge_rules, meant_signal, edge_signal, is_wide, names_reset, clock_of, is_clock_falling, event_rules, edge_kind, form_of, pair_rules, body_without, wires_process, clocked_process, always_item}
+use Rattle.flat_unfolding.specs.Processes.{delay_rules, later_rules, counts_as_star, has_form, first_edge, meant_edge, edge_rules, meant_signal, edge_signal, is_wide, names_reset, clock_of, event_rules, edge_kind, form_of, body_without, wires_process, clocked_process, always_item}
 use Rattle.flat_unfolding.specs.Starts.{Starts, with_starts, start_of}
 use Rattle.flat_unfolding.specs.Wires.{assign_item, has_terminals, gate_op, is_inverted, gate_value, output_rule, input_rules, count_rule, gate_item}
 use Rattle.flat_unfolding.specs.Design.{Design, Stage, look_of, with_design, assigned}
@@ -287,6 +288,7 @@ module _ (s : Stage) (h : IsStage s) where
 
       go : (o : Option (List ℕ)) → option_map (λ ss. record {
         signals = ss;
+        reads = names_in c ++ read_names y;
         branch = x;
         given = branch_given (look_of s) x;
         rest = cond (is_some (reset_signals (look_of s) c)) y all;
@@ -344,19 +346,16 @@ module _ (s : Stage) (h : IsStage s) where
   clock_one : (edges : List Edge) → event_rules (look_of s) edges ≡ []
       → (has_form edges ≡ true) × (width_at es (unwrap_or (clock_of (look_of s) edges) 0) ≡ 1)
   clock_one edges e =
-      let wrong = list_any (is_wide (look_of s)) edges || is_clock_falling (look_of s) edges in
+      let wide = list_any (is_wide (look_of s)) edges in
       let p = none_of_both (flat_map (edge_rules (look_of s) (first_edge edges)) edges) _ e in
-      let a = neither_holds (not (has_form edges)) wrong (not_broken (not (has_form edges) || wrong) 316 _ p.1) in
-      let b = neither_holds (list_any (is_wide (look_of s)) edges) (is_clock_falling (look_of s) edges) a.1 in
+      let a = neither_holds (not (has_form edges)) wide (not_broken (not (has_form edges) || wide) 316 _ p.1) in
       let f = not_true (has_form edges) a.0 in
-      (f, edges_one (first_edge edges) edges f p.0 b.0)
+      (f, edges_one (first_edge edges) edges f p.0 a.1)
 
   clocked_next : (p : Place) (edges : List Edge) (body : StmtTree) (t : Stage) → IsStmtFormed body → clocked_process s p edges body ≡ good t → IsNext s t
   clocked_next p edges body t f = judged_next by_number p _ s _ t (λ b.
       let look = look_of s in
-      let o = none_of_both (event_rules look edges ++ (done look (edge_kind look edges) body).broken ++ delay_rules body ++ pair_rules look edges) _ b in
-      let u = none_of_both (event_rules look edges ++ (done look (edge_kind look edges) body).broken ++ delay_rules body) (pair_rules look edges) o.0 in
-      let q = none_of_both (event_rules look edges ++ (done look (edge_kind look edges) body).broken) (delay_rules body) u.0 in
+      let q = none_of_both (event_rules look edges ++ (done look (edge_kind look edges) body).broken) (delay_rules body) b in
       let r = none_of_both (event_rules look edges) (done look (edge_kind look edges) body).broken q.0 in
       let c = clock_one edges r.0 in
       let i : (done look clocked body).broken ≡ [] = ap (λ b. (done look (cond b clocked neither) body).broken) (sym c.0) ∙ r.1 in

@@ -1,5 +1,5 @@
 -- What visits make of a design that is well sized, and the flat design that comes of it.
-use Rattle.std.proofs.Common.{◌≡◌, ℕ, zero, suc, ◌≤◌, Bool, true, false, cond, List, [], ◌∷◌, ◌++◌, length, map, Option, Some, None, refl, sym, subst, rules, find, bytes_eq}
+use Rattle.std.proofs.Common.{◌≡◌, ℕ, zero, suc, ◌+◌, ◌≤◌, Bool, true, false, cond, List, [], ◌∷◌, ◌++◌, length, map, Option, Some, None, refl, sym, subst, ◌∙◌, arith, rules, find, bytes_eq}
 use Rattle.std.specs.Prelude.{All, codes, flat_map, filter_map}
 use Rattle.std.specs.List.{cons_option, list_any}
 use Rattle.std.proofs.lemmas.List.Elements.{All-head, All-cons, All-nil, All-tail, All-push, All-append}
@@ -16,8 +16,7 @@ use Rattle.flat_unfolding.specs.Parameters.{Override, Overrides, parameter, para
 use Rattle.flat_unfolding.specs.Declarations.{header_of, header_decls, declarations}
 use Rattle.flat_unfolding.specs.Instances.{override_rules, overrides_of, connection_rules, links_of, connected, leaning_of, is_short}
 use Rattle.flat_unfolding.specs.Design.{Design, no_design, Stage, look_of}
-use Rattle.flat_unfolding.specs.Drivers.{driven_once}
-use Rattle.flat_unfolding.specs.Signals.{with_free, signal_of, signals_from, flat_design}
+use Rattle.flat_unfolding.specs.Signals.{constants_from, with_constants, with_free, signal_of, signals_from}
 use Rattle.flat_unfolding.specs.Starts.{initial_starts, so_far}
 use Rattle.flat_unfolding.specs.Unfolding.{module_named, declared_value, Visit, instance_of, instance_item, item_of, item, header_values, with_resets, visit, top_ports, modules_differ, finished, from_top, unfolded}
 use Rattle.flat_unfolding.specs.Formed.{IsParamFormed, IsDeclFormed, IsPortFormed, IsBodyFormed, IsModuleFormed, IsSourceFormed}
@@ -32,7 +31,8 @@ use Rattle.flat_unfolding.proofs.Declared.{IsDeclaring, AreWide, parameter_decla
 use Rattle.flat_unfolding.proofs.Directed.{declarations_know_ports}
 use Rattle.flat_unfolding.proofs.Ports.{links_fine, overrides_fine, OpensPorts, resets_declare, connected_opens, top_opens}
 use Rattle.flat_unfolding.proofs.Free.{free_width}
-use Rattle.flat_unfolding.proofs.Visits.{flat_widths}
+use Rattle.flat_unfolding.proofs.Constants.{constants_hold}
+use Rattle.flat_unfolding.proofs.Visits.{flattened, accepted, flat_widths}
 
 -- ---- steps over what is well formed
 
@@ -182,7 +182,7 @@ reached modules formed top resets named f e =
 
 -- ---- the flat design
 
-pub flat_agrees : (named : List Text) (d : Design) (s : ℕ) → 1 ≤ width_at d.entries s → size_in (flat_design (with_free named d)) s ≡ width_at d.entries s
+pub flat_agrees : (named : List Text) (d : Design) (s : ℕ) → 1 ≤ width_at d.entries s → size_in (flattened named d) s ≡ width_at d.entries s
 flat_agrees named d s h = flat_widths named d s
 
 signals_sized : (d : Design) (n : ℕ) (es : List Entry) → ((s : ℕ) → width_at es s ≤ 64)
@@ -192,20 +192,30 @@ signals_sized d n (e ∷ es) h =
     All-cons (λ (x : Signal). (1 ≤ x.width) × (x.width ≤ 64)) (signal_of d n e) (signals_from d (suc n) es) (width_some e.range, h 0)
     (signals_sized d (suc n) es (λ s. h (suc s)))
 
-pub flat_sized : (named : List Text) (d : Design) → IsDesign d → IsSizedFlat (flat_design (with_free named d))
+abbrev IsAssignSized : (ℕ → ℕ) → Target × Expr → Type 0
+IsAssignSized wid a = IsTargetSized wid any a.0 × IsSized wid a.1
+
+pub flat_sized : (named : List Text) (d : Design) → IsDesign d → IsSizedFlat (flattened named d)
 flat_sized named d h =
-    let wid = width_at d.entries in let c = with_free named d in let flat = size_in (flat_design c) in let agree = flat_agrees named d in
+    let wid = width_at d.entries in let c = with_free named d in let flat = size_in (flattened named d) in let agree = flat_agrees named d in
     record {
-      signals = signals_sized c 0 c.entries (λ s. subst (λ w. w ≤ 64) (sym (free_width named d s)) (words_of d.entries h.entries s));
-      assigns = all_on (IsAssignIn d.entries) (λ (a : Target × Expr). IsTargetSized flat any a.0 × IsSized flat a.1) d.assigns
-          (λ a k. (target_agrees wid flat agree (drivable_at d.entries) any (λ s l e. refl) a.0 k.0, expr_agrees wid flat agree a.1 k.2)) h.assigns;
+      signals = signals_sized (with_constants c) 0 c.entries narrow;
+      assigns = All-append (IsAssignSized flat) d.assigns (constants_from c 0 c.entries)
+          (all_on (IsAssignIn d.entries) (IsAssignSized flat) d.assigns (λ a k. (target_agrees wid flat agree (drivable_at d.entries) any (λ s l e. refl) a.0 k.0, expr_agrees wid flat agree a.1 k.2)) h.assigns)
+          (constants_hold (IsAssignSized flat) c 0 c.entries (λ s t v i p o l m. ((refl, some s t i l), (l, narrow s, m))));
       combs = all_on (IsCombIn d.entries) (IsStmtSized flat any) d.combs (λ body k. stmt_agrees wid flat agree (reg_at d.entries) any (λ s l e. refl) body k.0) h.combs;
       clocked = all_on (IsClockedIn d.entries) (λ (p : ℕ × Stmt). IsStmtSized flat any p.1) d.clocked (λ p k. stmt_agrees wid flat agree (reg_at d.entries) any (λ s l e. refl) p.1 k.1) h.clocked;
     }
+  where
+    narrow : (s : ℕ) → width_at (with_free named d).entries s ≤ 64
+    narrow s = subst (λ w. w ≤ 64) (sym (free_width named d s)) (words_of d.entries h.entries s)
+
+    some : (s t : ℕ) → 0 + s ≡ t → 1 ≤ width_at (with_free named d).entries s → 1 ≤ size_in (flattened named d) t
+    some s t i l =
+        let z : s ≡ t = omega (arith, i) in
+        subst (λ n. 1 ≤ size_in (flattened named d) n) z (subst (λ w. 1 ≤ w) (sym (flat_widths named d s ∙ sym (free_width named d s))) l)
 
 pub sizes_law : SizesLaw
 sizes_law modules formed top resets named f e =
     let r = reached modules formed top resets named f e in
-    let c = flat_design (with_free named r.0) in
-    let g = good_then (driven_once c r.0.resets) (λ u. good c) f r.2 in
-    subst IsSizedFlat (good_is c f g.2) (flat_sized named r.0 r.1)
+    subst IsSizedFlat (accepted named r.0 f r.2).2 (flat_sized named r.0 r.1)

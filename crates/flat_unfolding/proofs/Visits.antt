@@ -29,19 +29,28 @@ use Rattle.flat_unfolding.specs.Parameters.{range_read, Overrides, parameter_ord
 use Rattle.flat_unfolding.specs.Declarations.{is_plain_port, declaration_order, Site, again, range_rule, array_read, declaration_rules, entry, declared_again, add_declared, declaration, header_of, header_decls, sites, header_twice, has_direction, directed, declarations}
 use Rattle.flat_unfolding.specs.Instances.{override_rules, overrides_of, Link, into, out_of, connection_rules, links_of, resolving_to, into_port, out_of_port, connect_one, connect_all, connected, leaning_of, is_short}
 use Rattle.flat_unfolding.specs.Drivers.{driven_once}
-use Rattle.flat_unfolding.specs.Signals.{from_outside, with_free, signals_from, flat_design}
-use Rattle.flat_unfolding.specs.Unfolding.{module_named, value_item, declared_value, Visit, instance_of, instance_item, item_of, item, header_values, declared_reset, with_resets, visit, directed_port, top_port, top_ports, modules_differ, finished, from_top}
+use Rattle.flat_unfolding.specs.Signals.{from_outside, with_constants, with_free, signals_from, flat_design}
+use Rattle.flat_unfolding.specs.Unfolding.{module_named, value_item, declared_value, Visit, instance_of, instance_item, item_of, item, header_values, declared_reset, with_resets, visit, directed_port, top_port, top_ports, modules_differ, checked, finished, from_top}
 use Rattle.flat_unfolding.specs.Laws.{OneDriverLaw, LimitsLaw, NumbersLaw}
 use Rattle.flat_unfolding.proofs.Steps.{good_is, good_then, judged_is, none_of_both, each_keeps}
 use Rattle.flat_unfolding.proofs.Entries.{Fine, change_keeps, none_are_fine, from_keeps, range_narrow, narrow_entries, Sound, sound_itself, change_sound, added_sound}
 use Rattle.flat_unfolding.proofs.OneDriver.{one_driver}
 use Rattle.flat_unfolding.proofs.Free.{free_keeps, free_width}
 
--- a design that is accepted had its drivers tried
-pub tried : (named : List Text) (d : Design) (f : Flat) → finished named d ≡ good f → (u : Unit {0}) × (driven_once f d.resets ≡ good u)
-tried named d f e =
-    let g = good_then (driven_once (flat_design (with_free named d)) d.resets) (λ u. good (flat_design (with_free named d))) f e in
-    (g.0, subst (λ x. driven_once x d.resets ≡ good g.0) (good_is _ f g.2) g.1)
+-- the flat design that comes of a design
+abbrev pub flattened : List Text → Design → Flat
+flattened named d = flat_design (with_constants (with_free named d))
+
+-- where it is accepted its drivers were tried
+pub accepted : (named : List Text) (d : Design) (f : Flat) → finished named d ≡ good f → (u : Unit {0}) × (driven_once (flattened named d) d.resets ≡ good u) × (flattened named d ≡ f)
+accepted named d f e =
+    let c = flattened named d in
+    let l = good_then d.late (λ u. checked c d.resets) f e in
+    let g = good_then (driven_once c d.resets) (λ u. good c) f l.2 in
+    (g.0, g.1, good_is c f g.2)
+
+tried : (named : List Text) (d : Design) (f : Flat) → finished named d ≡ good f → (u : Unit {0}) × (driven_once f d.resets ≡ good u)
+tried named d f e = let a = accepted named d f e in (a.0, subst (λ x. driven_once x d.resets ≡ good a.0) a.2 a.1)
 
 from_top_tried : (modules : List ModuleTree) (resets : List ResetPin) (named : List Text) (top : Text) (o : Option ModuleTree) (f : Flat)
     → from_top modules resets named top o ≡ good f
@@ -216,8 +225,8 @@ signal_widths d n [] s = refl
 signal_widths d n (e ∷ es) zero = refl
 signal_widths d n (e ∷ es) (suc s) = signal_widths d (suc n) es s
 
-pub flat_widths : (named : List Text) (d : Design) (s : ℕ) → size_in (flat_design (with_free named d)) s ≡ width_at d.entries s
-flat_widths named d s = signal_widths (with_free named d) 0 (with_free named d).entries s ∙ free_width named d s
+pub flat_widths : (named : List Text) (d : Design) (s : ℕ) → size_in (flattened named d) s ≡ width_at d.entries s
+flat_widths named d s = signal_widths (with_constants (with_free named d)) 0 (with_free named d).entries s ∙ free_width named d s
 
 signal_count : (d : Design) (n : ℕ) (es : List Entry) → length (signals_from d n es) ≡ length es
 signal_count d n [] = refl
@@ -228,10 +237,9 @@ IsLimited f = AreWords (size_in f) × (length f.signals ≤ 1048576)
 
 limited : (named : List Text) (d : Design) (f : Flat) → finished named d ≡ good f → Fine d.entries → IsLimited f
 limited named d f e h =
-    let c = with_free named d in
-    let g = good_then (driven_once (flat_design c) d.resets) (λ u. good (flat_design c)) f e in
+    let c = with_constants (with_free named d) in
     let k = free_keeps Fine (λ n es. change_keeps from_outside (λ x. refl) n es) named d h in
-    subst IsLimited (good_is (flat_design c) f g.2)
+    subst IsLimited (accepted named d f e).2
     ((λ s. subst (λ w. w ≤ 64) (sym (signal_widths c 0 c.entries s)) (k.narrow s)), subst (λ n. n ≤ 1048576) (sym (signal_count c 0 c.entries)) k.few)
 
 top_limited : (modules : List ModuleTree) (resets : List ResetPin) (named : List Text) (top : Text) (o : Option ModuleTree) (f : Flat)

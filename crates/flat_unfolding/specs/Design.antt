@@ -2,6 +2,7 @@
 use Rattle.std.specs.Prelude.{ℕ, zero, suc, false, List, [], ◌∷◌, ◌++◌, Option}
 use Rattle.cdc_base.specs.declared.signal.ResetPin.{ResetPin}
 use Rattle.flat_meaning.specs.Flat.{Expr, Target, Stmt}
+use Rattle.flat_unfolding.specs.Outcome.{Outcome, good}
 use Rattle.flat_unfolding.specs.Names.{Names, Entry, Look}
 
 -- a start value of a whole register, by a declaration or by `initial`
@@ -28,9 +29,11 @@ pub record Design : Type 0 where
   pub outputs : List ℕ
   pub starts : List Start
   pub givens : List Given
+  -- the first process, in the order of the visits, whose resets break a rule: it is refused behind all items
+  pub late : Outcome (Unit {0})
 
 abbrev pub no_design : List ResetPin → Design
-no_design resets = record { pins = resets; entries = []; assigns = []; combs = []; clocked = []; resets = []; outputs = []; starts = []; givens = [] }
+no_design resets = record { pins = resets; entries = []; assigns = []; combs = []; clocked = []; resets = []; outputs = []; starts = []; givens = []; late = good (tt {0}) }
 
 -- a module that is visited: its names, and the design so far
 pub record Stage : Type 0 where

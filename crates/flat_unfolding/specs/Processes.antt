@@ -10,7 +10,7 @@ use Rattle.verilog_ast.specs.declared.Event.{Event}
 use Rattle.verilog_ast.specs.declared.Event.TheVariants as event
 use Rattle.verilog_reading.specs.StmtTree.{StmtTree}
 use Rattle.flat_meaning.specs.Flat.{Stmt, Null}
-use Rattle.flat_unfolding.specs.Outcome.{Text, Broken, breaks, breaks_if, Outcome, judged, by_number}
+use Rattle.flat_unfolding.specs.Outcome.{Text, Broken, breaks, breaks_if, Outcome, then_, judged, by_number}
 use Rattle.flat_unfolding.specs.Names.{Meaning, a_param, a_signal, a_memory, Look, meaning, width_at, unknown}
 use Rattle.flat_unfolding.specs.Mentions.{unlisted, first_mixed}
 use Rattle.flat_unfolding.specs.Delays.{first_clash}
@@ -108,10 +108,10 @@ module _ (look : Look) where
   abbrev pub is_clock_falling : List Edge → Bool
   is_clock_falling edges = is_some (reset_edge edges) && option_map_or (λ (c : Edge). not (is_rising c.kind)) (clock_edge edges) false
 
-  -- E316: the event has its form, its edges have one bit, and the clock's rises
+  -- E316: the event has its form, and its edges have one bit
   abbrev pub event_rules : List Edge → List Broken
   event_rules edges = flat_map (edge_rules (first_edge edges)) edges
-      ++ breaks_if (not (has_form edges) || (list_any is_wide edges || is_clock_falling edges)) 316 (first_edge edges)
+      ++ breaks_if (not (has_form edges) || list_any is_wide edges) 316 (first_edge edges)
 
   -- a process whose event has no form is no clocked one
   abbrev pub edge_kind : List Edge → Kind
@@ -120,13 +120,16 @@ module _ (look : Look) where
   abbrev pub form_of : List Edge → StmtTree → Option ResetForm
   form_of edges body = cond (has_form edges) (reset_form look body) None
 
-  -- E317: of two edges one alone is a reset's
-  abbrev pub pair_rules : List Edge → List Broken
-  pair_rules edges = breaks_if (has_form edges && (are_two edges && is_none (reset_edge edges))) 317 (first_edge edges)
-
   abbrev pub clocked_rules : List Edge → StmtTree → List Broken
-  clocked_rules edges body = event_rules edges ++ (done look (edge_kind edges) body).broken ++ delay_rules body ++ pair_rules edges
-      ++ reset_rules look (first_edge edges) (reset_edge edges) (form_of edges body)
+  clocked_rules edges body = event_rules edges ++ (done look (edge_kind edges) body).broken ++ delay_rules body
+
+  -- E317: of two edges one alone is a reset's. E316: the other one is the clock's, which rises
+  abbrev pub pair_rules : List Edge → List Broken
+  pair_rules edges = breaks_if (are_two edges && is_none (reset_edge edges)) 317 (first_edge edges) ++ breaks_if (is_clock_falling edges) 316 (first_edge edges)
+
+  -- the rules of resets, which are tried behind all items
+  abbrev pub taking_rules : List Edge → StmtTree → List Broken
+  taking_rules edges body = pair_rules edges ++ reset_rules look (first_edge edges) (reset_edge edges) (form_of edges body)
 
   -- what reset form leaves, else the whole
   abbrev pub body_without : StmtTree → Option ResetForm → Stmt
@@ -165,6 +168,7 @@ clocked_process s p edges body = let look = look_of s in
       clocked = s.design.clocked ++ ((unwrap_or (clock_of look edges) 0, clocked_body look edges body) ∷ []);
       resets = s.design.resets ++ (reset_of look edges body ∷ []);
       givens = s.design.givens ++ reset_gives look (form_of look edges body);
+      late = then_ s.design.late (λ u. judged by_number p (taking_rules look edges body) (tt {0}));
     }))
 
 abbrev pub always_item : Stage → Place → Event → StmtTree → Outcome Stage

@@ -1,7 +1,7 @@
 -- Resets of clocked processes: the form `if (reset) constants else rest`, or `if (reset || clear) constants else rest`.
 use Rattle.std.specs.Prelude.{ℕ, ◌^◌, ◌/◌, ◌%◌, Bool, true, false, cond, not, ◌&&◌, ◌||◌, ◌==◌, List, [], ◌∷◌, ◌++◌, Option, Some, None, is_some, is_none, option_map}
 use Rattle.std.specs.Option.{option_map_or, option_or}
-use Rattle.std.specs.List.{list_all}
+use Rattle.std.specs.List.{list_all, list_any}
 use Rattle.cdc_base.specs.declared.signal.ResetPin.{ResetPin}
 use Rattle.verilog_ast.specs.declared.BinaryOp.{BinaryOp}
 use Rattle.verilog_ast.specs.declared.BinaryOp.TheVariants as op
@@ -17,7 +17,7 @@ use Rattle.flat_unfolding.specs.Constants.{own_value, assigned_value, both}
 use Rattle.flat_unfolding.specs.Expressions.{Term, is_sound, read}
 use Rattle.flat_unfolding.specs.Targets.{of_registers, aim}
 use Rattle.flat_unfolding.specs.Design.{Given}
-use Rattle.flat_unfolding.specs.Mentions.{names_in}
+use Rattle.flat_unfolding.specs.Mentions.{names_in, read_names}
 
 -- a statement without the blocks of one statement around it
 abbrev mutual
@@ -129,16 +129,18 @@ module _ (look : Look) where
   branch_given (block rows) = rows_given rows
   branch_given s = row_given s
 
--- a process in reset form: the signals of its resets, its first branch, what that gives where it has its form, and what is left of it
+-- a process in reset form: the signals of its resets, the names in its condition and its other branch, its first branch, what that gives where
+-- it has its form, and what is left of it
 pub record ResetForm : Type 0 where
   pub signals : List ℕ
+  pub reads : List Text
   pub branch : StmtTree
   pub given : Option (List Given)
   pub rest : StmtTree
 
 -- the `else` is left where the condition tests resets alone, and all of the `if` where it tests something beside them
 abbrev pub form_with : Look → ExprTree → (branch other all : StmtTree) → Option ResetForm
-form_with look c s z all = option_map (λ ss. record { signals = ss; branch = s; given = branch_given look s; rest = cond (is_some (reset_signals look c)) z all }) (tested_signals look c)
+form_with look c s z all = option_map (λ ss. record { signals = ss; reads = names_in c ++ read_names z; branch = s; given = branch_given look s; rest = cond (is_some (reset_signals look c)) z all }) (tested_signals look c)
 
 abbrev pub form_in : Look → StmtTree → Option ResetForm
 form_in look (when c s) = form_with look c s null (when c s)
@@ -162,9 +164,21 @@ is_edge_of look signals e = go (meaning look e.name)
     go (Some (a_signal s)) = option_map_or (is_active_edge e.kind) (reset_at look.entries s) false && list_all (λ t. t == s) signals
     go m = false
 
--- E317: a reset's edge wants reset form for its signal, and reset form wants a first branch of constants
+-- one of the names is that of a reset beside these signals
+abbrev pub reads_other : Look → (signals : List ℕ) → (reads : List Text) → Bool
+reads_other look signals reads = list_any (λ x. go (meaning look x)) reads
+  where
+    go : Option Meaning → Bool
+    go (Some (a_signal s)) = is_reset look s && not (list_any (λ t. t == s) signals)
+    go m = false
+
+-- the first branch hasn't its form, or another reset is read beside it
+abbrev pub is_malformed : Look → ResetForm → Bool
+is_malformed look f = is_none f.given || reads_other look f.signals f.reads
+
+-- E317: a reset's edge wants reset form for its signal, and reset form wants a first branch of constants and no other reset beside its own
 abbrev pub reset_rules : Look → (first : Text) → Option Edge → Option ResetForm → List Broken
 reset_rules look first None None = []
 reset_rules look first (Some e) None = breaks_if true 317 first
-reset_rules look first None (Some f) = breaks_if (is_none f.given) 317 first
-reset_rules look first (Some e) (Some f) = breaks_if (not (is_edge_of look f.signals e) || is_none f.given) 317 first
+reset_rules look first None (Some f) = breaks_if (is_malformed look f) 317 first
+reset_rules look first (Some e) (Some f) = breaks_if (not (is_edge_of look f.signals e) || is_malformed look f) 317 first

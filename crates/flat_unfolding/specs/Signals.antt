@@ -1,5 +1,5 @@
 -- The flat design once all modules are visited: free signals, the signals' kinds and start values.
-use Rattle.std.specs.Prelude.{ℕ, zero, suc, Bool, true, false, cond, not, ◌&&◌, ◌||◌, List, [], ◌∷◌, length, Option, is_some, unwrap_or, slice_get, bytes_eq}
+use Rattle.std.specs.Prelude.{ℕ, zero, suc, ◌^◌, ◌%◌, Bool, true, false, cond, not, ◌&&◌, ◌||◌, List, [], ◌∷◌, ◌++◌, length, Option, Some, None, is_some, unwrap_or, slice_get, bytes_eq}
 use Rattle.std.specs.List.{list_any}
 use Rattle.std.specs.Option.{option_map_or}
 use Rattle.cdc_base.specs.declared.signal.ResetPin.{ResetPin}
@@ -8,16 +8,39 @@ use Rattle.cdc_base.specs.declared.signal.SigKind.{SigKind}
 use Rattle.cdc_base.specs.declared.signal.SigKind.TheVariants.{Input, Register, Wire}
 use Rattle.cdc_base.specs.Words.{is_in}
 use Rattle.cell_graph.specs.Tree.{number}
-use Rattle.flat_meaning.specs.Flat.{Expr, Target, Stmt, is_target, assigns}
+use Rattle.flat_meaning.specs.Flat.{Expr, Number, Target, Whole, Stmt, is_target, assigns}
 use Rattle.flat_meaning.specs.Design.{Flat}
 use Rattle.flat_unfolding.specs.Outcome.{Text}
 use Rattle.flat_unfolding.specs.Names.{Range, Entry, width_of}
-use Rattle.flat_unfolding.specs.Starts.{starts_with, known_bit}
+use Rattle.flat_unfolding.specs.Starts.{starts_with, first_start, known_bit}
 use Rattle.flat_unfolding.specs.Design.{Design, change_entry}
 
 -- a register is what a clocked process assigns
 abbrev pub is_register : Design → ℕ → Bool
 is_register d s = list_any (λ (p : ℕ × Stmt). assigns p.1 s) d.clocked
+
+-- ---- registers that no process assigns
+
+-- a process assigns the signal
+abbrev pub is_processed : Design → ℕ → Bool
+is_processed d s = list_any (λ body. assigns body s) d.combs || (list_any (λ (r : Option ℕ × Stmt). assigns r.1 s) d.resets || is_register d s)
+
+-- the start value of a signal that has one and that no process assigns is assigned to it; what comes from outside has none
+abbrev pub constant_of : Design → ℕ → Entry → List (Target × Expr)
+constant_of d s e = let w = width_of e.range in go w (cond (is_processed d s || e.is_top_input) None (first_start d.starts s))
+  where
+    go : (w : ℕ) → Option ℕ → List (Target × Expr)
+    go w None = []
+    go w (Some n) = (Whole s, Number w (n % 2 ^ w)) ∷ []
+
+abbrev pub constants_from : Design → ℕ → List Entry → List (Target × Expr)
+constants_from d n [] = []
+constants_from d n (e ∷ rest) = constant_of d n e ++ constants_from d (suc n) rest
+
+abbrev pub with_constants : Design → Design
+with_constants d = record d { assigns = d.assigns ++ constants_from d 0 d.entries }
+
+-- ---- free signals
 
 -- an assignment or a process assigns the signal, or it has a start value
 abbrev pub is_driven : Design → ℕ → Bool

@@ -23,6 +23,11 @@ pub record Starts : Type 0 where
 abbrev pub starts_with : List Start → ℕ → Bool
 starts_with starts s = list_any (λ (a : Start). a.sig == s) starts
 
+-- the first start value of a register
+abbrev pub first_start : List Start → ℕ → Option ℕ
+first_start [] s = None
+first_start (b ∷ rest) s = cond (b.sig == s) (Some b.value) (first_start rest s)
+
 -- E309: a register has a start value twice; it stands at the register's declaration
 abbrev pub twice_rule : List Entry → List Start → ℕ → List Broken
 twice_rule entries starts s = cond (starts_with starts s) (go (slice_get entries s)) []

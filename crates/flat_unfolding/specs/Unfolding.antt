@@ -24,7 +24,7 @@ use Rattle.flat_unfolding.specs.Processes.{always_item}
 use Rattle.flat_unfolding.specs.Starts.{declared_start, initial_item}
 use Rattle.flat_unfolding.specs.Instances.{override_rules, overrides_of, connection_rules, links_of, connected, leaning_of, is_short}
 use Rattle.flat_unfolding.specs.Drivers.{driven_once}
-use Rattle.flat_unfolding.specs.Signals.{from_outside, with_free, flat_design}
+use Rattle.flat_unfolding.specs.Signals.{from_outside, with_free, with_constants, flat_design}
 use Rattle.flat_unfolding.specs.Design.{Design, no_design, Stage, look_of, with_design, change_entry, change_from}
 
 abbrev pub module_named : Text → List ModuleTree → Option ModuleTree
@@ -122,9 +122,9 @@ modules_differ modules = go (module_twice [] modules)
 abbrev pub checked : Flat → List (Option ℕ × Stmt) → Outcome Flat
 checked f resets = then_ (driven_once f resets) (λ u. good f)
 
--- `named` are the names that the constraints have beside their resets'
+-- the rules of resets, then the drivers. `named` are the names that the constraints have beside their resets'
 abbrev pub finished : (named : List Text) → Design → Outcome Flat
-finished named d = checked (flat_design (with_free named d)) d.resets
+finished named d = then_ d.late (λ u. checked (flat_design (with_constants (with_free named d))) d.resets)
 
 abbrev pub from_top : List ModuleTree → List ResetPin → (named : List Text) → (top : Text) → Option ModuleTree → Outcome Flat
 from_top modules resets named top None = refused 301 None top

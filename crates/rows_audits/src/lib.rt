@@ -4,6 +4,8 @@
 #[cfg(test)]
 mod audits;
 #[cfg(test)]
+mod constants;
+#[cfg(test)]
 mod cuts;
 #[cfg(test)]
 mod fifos;

@@ -45,7 +45,12 @@ fn resets_that_registers_make(rt: HostRuntime) -> Result<(), Fail> {
     let root = ("rst_n", "low");
     let ra_n = ("ra_n", "low");
     let rb = ("rb", "high");
-    let rows: [(&[(&str, &str)], &str); 5] = [
+    let ub_r2 = ("ub.r2", "low");
+    let rows: [(&[(&str, &str)], &str); 9] = [
+        (&[root, ra_n, ub_r2], covered),
+        (&[root, ("ua.r2", "low"), ub_r2], covered),
+        (&[root, ("ua.rst_out_n", "low"), ub_r2], covered),
+        (&[root, ra_n, ("rb_n", "low")], covered),
         (&[root, ra_n, rb], covered),
         (&[root, ra_n, ("uf.rst", "high")], covered),
         (&[root, ra_n], "error E317: reset form at 9:3: clk\n3"),
@@ -71,6 +76,91 @@ fn resets_that_registers_make(rt: HostRuntime) -> Result<(), Fail> {
         let con = format!(in alloc; "{declared}[[static]]\nname = \"{more}\"\n")?;
         let answer = audited(alloc, CHIP.as_bytes(), con.as_str())?;
         assert_eq!(&rt; answer.as_str(), wanted, "{more}");
+    }
+    Ok(())
+}
+
+/// Signals that are made of the reset `e`, which is active low, and some that aren't reset nets.
+#[test]
+fn nets_of_resets(rt: HostRuntime) -> Result<(), Fail> {
+    let alloc = rt.alloc();
+    let clean = "clean crossings=0\n0";
+    let con = with_resets(alloc, "d v", &[("e", "low")])?;
+    let rises = "always @(posedge ca or posedge n) if (n) r <= 0; else r <= d;";
+    let falls = "always @(posedge ca or negedge n) if (!n) r <= 0; else r <= d;";
+    for (process, net, wanted) in [
+        (rises, "wire n = ~e;", clean),
+        (rises, "wire n; assign n = e ? 0 : 1;", clean),
+        (rises, "wire n; nand (n, e, e);", clean),
+        (rises, "wire n = ~e & ~e;", clean),
+        (falls, "wire [0:0] n = e;", clean),
+        (falls, "wire n = k, k = ~l, l = ~e;", clean),
+        (
+            falls,
+            "wire k, l, n; assign n = k; assign k = ~l; assign l = ~e;",
+            clean,
+        ),
+        (
+            falls,
+            "wire n = ~e;",
+            "error E317: reset form at 1:66: ca\n3",
+        ),
+        (
+            "always @(posedge ca or negedge e) if (n) r <= 0; else r <= d;",
+            "wire n = ~e;",
+            "error E317: reset form at 1:66: ca\n3",
+        ),
+        (
+            "always @(posedge ca or negedge e) if (!e) r <= 0; else r <= n;",
+            "wire n = ~e;",
+            "error E317: reset form at 1:66: ca\n3",
+        ),
+        (
+            "always @(posedge ca or negedge e) if (!e) r <= 0; else r <= n;",
+            "wire n = d | ~e;",
+            clean,
+        ),
+        (
+            rises,
+            "wire n; assign {n} = ~e;",
+            "error E317: reset form at 1:78: ca\n3",
+        ),
+        (
+            rises,
+            "reg n; always @* n = ~e;",
+            "error E317: reset form at 1:78: ca\n3",
+        ),
+        (
+            rises,
+            "wire n = e & ~e;",
+            "error E317: reset form at 1:70: ca\n3",
+        ),
+        (
+            rises,
+            "wire n = ~1'b0;",
+            "error E317: reset form at 1:69: ca\n3",
+        ),
+        (
+            rises,
+            "wire n = ~e | d;",
+            "error E317: reset form at 1:70: ca\n3",
+        ),
+        (
+            falls,
+            "wire n = n & e;",
+            "error E317: reset form at 1:69: ca\n3",
+        ),
+        (
+            rises,
+            "wire n; assign n = ~e, n = ~e;",
+            "error E317: reset form at 1:84: ca\n3",
+        ),
+    ] {
+        let text = format!(in alloc;
+            "module m(input ca, cb, d, e, input [3:0] v); reg r; {net} {process} endmodule"
+        )?;
+        let answer = audited(alloc, text.as_bytes(), con.as_str())?;
+        assert_eq!(&rt; answer.as_str(), wanted, "{net}");
     }
     Ok(())
 }
@@ -121,6 +211,18 @@ fn forms_of_resets(rt: HostRuntime) -> Result<(), Fail> {
         ),
         ("always @(posedge ca) if (!e & d) r <= d;", clean),
         (
+            "always @(posedge ca or negedge e) if (!e) r <= 0; else r <= e;",
+            clean,
+        ),
+        (
+            "always @(posedge ca) if (!e) r <= d; wire w = z;",
+            "error E305: unknown name at 1:90: z\n3",
+        ),
+        (
+            "always @(posedge ca) if (!e) r <= d; wire w, x = w;",
+            "error E317: reset form at 1:53: ca\n3",
+        ),
+        (
             "always @(posedge ca) if (!e) ;",
             "error E317: reset form at 1:53: ca\n3",
         ),
@@ -155,6 +257,18 @@ fn forms_of_two_resets(rt: HostRuntime) -> Result<(), Fail> {
         ),
         (
             "always @(posedge ca or negedge e) if (!d || !e) r <= 0; else r <= v;",
+            "error E317: reset form at 1:41: ca\n3",
+        ),
+        (
+            "always @(posedge ca) if (!e) r <= 0; else if (!d) r <= 1; else r <= v;",
+            "error E317: reset form at 1:41: ca\n3",
+        ),
+        (
+            "reg f, s; always @(posedge ca) if (!e) {s, r} <= 0; else {s, r} <= {f, d}; always @(posedge ca) f <= v;",
+            "error E317: reset form at 1:51: ca\n3",
+        ),
+        (
+            "always @(posedge ca) if (!e || d) r <= 0; else r <= v;",
             "error E317: reset form at 1:41: ca\n3",
         ),
         (

@@ -28,12 +28,12 @@ use Rattle.flat_unfolding.specs.Processes.{counts_as_star, wires_process, clocke
 use Rattle.flat_unfolding.specs.Parameters.{bounds_read, range_read, Overrides, parameter_order, parameter, params_of, parameters}
 use Rattle.flat_unfolding.specs.Declarations.{is_plain_port, declaration_order, Site, taken_names, again, range_rule, array_read, count_rules, declaration_rules, entry, declared_again, add_declared, declaration, header_of, header_decls, item_decls, decl_in, sites, header_twice, has_direction, directed, declarations}
 use Rattle.flat_unfolding.specs.Instances.{override_rules, overrides_of, Link, into, out_of, connection_rules, links_of, resolving_to, into_port, out_of_port, connect_one, connect_all, connected, leaning_of, is_short}
-use Rattle.flat_unfolding.specs.Drivers.{driven_once}
-use Rattle.flat_unfolding.specs.Signals.{from_outside, with_free, signals_from, flat_design}
+use Rattle.flat_unfolding.specs.Signals.{from_outside, with_constants, with_free, signals_from}
 use Rattle.flat_unfolding.specs.Unfolding.{module_named, value_item, declared_value, Visit, instance_of, instance_item, item_of, item, header_values, declared_reset, with_resets, visit, directed_port, top_port, top_ports, modules_differ, finished, from_top}
 use Rattle.flat_unfolding.proofs.Steps.{some_is, good_is, good_then, judged_is, not_refused, not_broken, none_of_both, each_keeps}
 use Rattle.flat_unfolding.proofs.Entries.{from_keeps}
 use Rattle.flat_unfolding.proofs.Free.{free_keeps}
+use Rattle.flat_unfolding.proofs.Visits.{accepted}
 use Rattle.signal_names.specs.Paths.{is_visible, prefix_text, path_text, IsPrinted}
 use Rattle.signal_names.specs.Laws.{IsNamedVisibly, IsModuleVisible, IsSourceVisible, AreDifferent, names_in, AreNames, NamesDiffer}
 use Rattle.signal_names.proofs.Cuts.{in_a_row}
@@ -401,9 +401,8 @@ module _ (modules : List ModuleTree) (visible : IsSourceVisible modules) where
       → Grows [] (no_design resets) d → AreNames (names_in f)
   finished_named resets named d f e h =
       let c = with_free named d in
-      let g = good_then (driven_once (flat_design c) d.resets) (λ u. good (flat_design c)) f e in
-      subst (λ x. AreNames (names_in x)) (good_is (flat_design c) f g.2)
-      (subst AreNames (sym (signal_names c 0 c.entries ∙ free_printed named d ∙ h.printed)) (record { printed = h.names; differ = h.differ }))
+      subst (λ x. AreNames (names_in x)) (accepted named d f e).2
+      (subst AreNames (sym (signal_names (with_constants c) 0 c.entries ∙ free_printed named d ∙ h.printed)) (record { printed = h.names; differ = h.differ }))
 
   top_named : (resets : List ResetPin) (named : List Text) (top : Text) (o : Option ModuleTree) → ((m : ModuleTree) → o ≡ Some m → IsModuleVisible m)
       → (f : Flat) → from_top modules resets named top o ≡ good f → AreNames (names_in f)

@@ -15,7 +15,7 @@ use Rattle.described_design.proofs.design.elaborated.Goals as goal
 
 pub returns-in_err-flat-clause-of_files : goal.returns-in_err-flat-clause-of_files
 returns-in_err-flat-clause-of_files c =
-    let refused : IfErr c.or_refused.result IsOfFiles = c.or_refused.ensures.ended unfolding_numbers refl c.flatten-flat.ensures.numbered in
+    let refused : IfErr c.or_refused.result IsOfFiles = c.or_refused.ensures.ended unfolding_numbers refl c.design-flat.ensures.numbered in
     search rules
 
 pub returns-clause-of_files : goal.returns-clause-of_files
@@ -37,9 +37,9 @@ pub returns-clause-unfolded : goal.returns-clause-unfolded
 returns-clause-unfolded c = λ formed.
     let modules = source_of c.args.source.now in
     let constraints = c.args.constraints.now in
-    let unfolds = rw (c.as_slice-named.ensures ∙ c.in_ok-names.ensures) at (rw c.as_slice-resets.ensures at (c.flatten-flat.ensures.exact formed)) in
+    let unfolds = rw (c.as_slice-named.ensures ∙ c.in_ok-names.ensures) at (rw c.as_slice-resets.ensures at (c.design-flat.ensures.exact formed)) in
     let flat = given_holds (IsFlatOfModules modules constraints) _ (Ok c.in_ok-flat.flat) c.in_ok-flat.ensures.given
-    (flat_of_modules modules constraints formed _ unfolds (c.flatten-flat.ensures.sizes formed)) in
+    (flat_of_modules modules constraints formed _ unfolds (c.design-flat.ensures.sizes formed)) in
     given_holds (IsNetOfModules modules constraints) _ _ c.or_refused-2.ensures.given
     (net_of_modules modules constraints c.in_ok-flat.flat flat _ c.elaborate.ensures.unfolds c.elaborate.ensures.accepted c.elaborate.ensures.signals)
 
@@ -47,7 +47,7 @@ pub returns-in_err-flat-clause-refused : goal.returns-in_err-flat-clause-refused
 returns-in_err-flat-clause-refused c = λ formed.
     let modules = source_of c.args.source.now in
     let constraints = c.args.constraints.now in
-    let unfolds = rw (c.as_slice-named.ensures ∙ c.in_ok-names.ensures) at (rw c.as_slice-resets.ensures at (c.flatten-flat.ensures.exact formed)) in
+    let unfolds = rw (c.as_slice-named.ensures ∙ c.in_ok-names.ensures) at (rw c.as_slice-resets.ensures at (c.design-flat.ensures.exact formed)) in
     let refused : IfErr c.or_refused.result (HasCause (λ status fault. IsDesignRefused modules constraints fault status))
     = caused (λ status fault. IsDesignRefused modules constraints fault status) _ _ _ c.or_refused.ensures.exact (unfolding_cause modules constraints _ unfolds) in
     search rules
@@ -56,8 +56,8 @@ pub returns-clause-refused : goal.returns-clause-refused
 returns-clause-refused c = λ formed.
     let modules = source_of c.args.source.now in
     let constraints = c.args.constraints.now in
-    let unfolds = rw (c.as_slice-named.ensures ∙ c.in_ok-names.ensures) at (rw c.as_slice-resets.ensures at (c.flatten-flat.ensures.exact formed)) in
+    let unfolds = rw (c.as_slice-named.ensures ∙ c.in_ok-names.ensures) at (rw c.as_slice-resets.ensures at (c.design-flat.ensures.exact formed)) in
     let flat = given_holds (IsFlatOfModules modules constraints) _ (Ok c.in_ok-flat.flat) c.in_ok-flat.ensures.given
-    (flat_of_modules modules constraints formed _ unfolds (c.flatten-flat.ensures.sizes formed)) in
+    (flat_of_modules modules constraints formed _ unfolds (c.design-flat.ensures.sizes formed)) in
     caused (λ status fault. IsDesignRefused modules constraints fault status) _ _ _ c.or_refused-2.ensures.exact
     (cells_cause modules constraints c.in_ok-flat.flat flat _ c.elaborate.ensures.refused)

@@ -27,5 +27,5 @@ returns c = λ s.
     ∙ ap (λ (v : List FlatClocked). is_assigned_in (assigned_in d.assigns.items) (wires_in d.combs.items) (map reset_of d.resets.items)
     (clocked_in v) s) c.as_slice-4.ensures.value)
     ∙ ap (λ v. option_map (mark_if (is_assigned_at d s)) (slice_get v s)) c.in_ok-marks.ensures
-    ∙ all-marked (is_assigned_at d) c.as_slice-6.result.now s
+    ∙ all-marked (λ (x : Entry). is_some x.start) (is_assigned_at d) c.as_slice-6.result.now s
     ∙ ap (λ (v : List Entry). option_map (λ (x : Entry). is_some x.start || is_assigned_at d s) (slice_get v s)) c.as_slice-6.ensures.value

@@ -19,14 +19,14 @@ use Rattle.flat_design.proofs.visit.add_instance.Goals as goal
 
 pub returns-in_err-number-clause-exact : goal.returns-in_err-number-clause-exact
 returns-in_err-number-clause-exact c = λ pins frames f d lib pinned formed h part params ports.
-    let modules = c.args.library.now.modules.now in let i = c.args.instance.now in let o = c.args.outer in let now = c.args.visit.now in
+    let modules = c.args.library.now.modules.now in let wires = c.args.library.now.wires_only in let i = c.args.instance.now in let o = c.args.outer in let now = c.args.visit.now in
     let s : Stage = record { names = f.names; design = d } in
     let gs = conns_of i.params.now in let cs = conns_of i.ports.now in
     let st = stage-shown pins modules lib.distinct now.open.items o now.is_open.items now.design f frames d h in
     let e = c.in_err-number.field-0.0 in
     let failed : c.from_residual.result ≡ Err e = search rules in
-    subst (λ r. Goes pins modules (next_of (map module_of modules) f frames d (instance_tree i)) r now) (sym failed)
-    (not-found pins modules f frames d i.place i.module.now i.name.now gs cs now e (c.in_err-number.ensures.exact (visited (f ∷ frames)) s lib h.marks_are st.0.names))
+    subst (λ r. Goes wires pins modules (next_of wires (map module_of modules) f frames d (instance_tree i)) r now) (sym failed)
+    (not-found wires pins modules f frames d i.place i.module.now i.name.now gs cs now e (c.in_err-number.ensures.exact (visited (f ∷ frames)) s lib h.marks_are st.0.names))
 
 pub returns-in_default-clause-exact : goal.returns-in_default-clause-exact
 returns-in_default-clause-exact c = λ pins frames f d lib pinned formed h part params ports.
@@ -39,7 +39,7 @@ returns-in_default-clause-exact c = λ pins frames f d lib pinned formed h part 
 
 pub returns-in_err-overridden-clause-exact : goal.returns-in_err-overridden-clause-exact
 returns-in_err-overridden-clause-exact c = λ pins frames f d lib pinned formed h part params ports.
-    let modules = c.args.library.now.modules.now in let i = c.args.instance.now in let o = c.args.outer in let now = c.args.visit.now in
+    let modules = c.args.library.now.modules.now in let wires = c.args.library.now.wires_only in let i = c.args.instance.now in let o = c.args.outer in let now = c.args.visit.now in
     let s : Stage = record { names = f.names; design = d } in
     let gs = conns_of i.params.now in let cs = conns_of i.ports.now in
     let st = stage-shown pins modules lib.distinct now.open.items o now.is_open.items now.design f frames d h in
@@ -47,16 +47,16 @@ returns-in_err-overridden-clause-exact c = λ pins frames f d lib pinned formed 
     let finds = c.in_ok-number.ensures.exact (visited (f ∷ frames)) s lib h.marks_are st.0.names in
     let k = c.in-Some.module.now in
     let at : slice_get modules number ≡ Some k = sym c.in-Some.ensures in
-    let found = found-is pins modules f frames d i.place i.module.now i.name.now gs cs number k at finds in
+    let found = found-is wires pins modules f frames d i.place i.module.now i.name.now gs cs number k at finds in
     let e = c.in_err-overridden.field-0.0 in
     let failed : c.from_residual-in_err-overridden.result ≡ Err e = search rules in
-    subst (λ r. Goes pins modules (next_of (map module_of modules) f frames d (instance_tree i)) r now) (sym failed)
-    (not-joined pins modules f frames d i.place i.module.now i.name.now gs cs number k found (BuildHasherDefault FoldHasher) c.in_ok-ports.ports now e
+    subst (λ r. Goes wires pins modules (next_of wires (map module_of modules) f frames d (instance_tree i)) r now) (sym failed)
+    (not-joined wires pins modules f frames d i.place i.module.now i.name.now gs cs number k found (BuildHasherDefault FoldHasher) c.in_ok-ports.ports now e
     (c.in_err-overridden.ensures.exact pins s st.0 st.1 c.in_ok-ports.ensures (sym found.name) params ports))
 
 pub returns-in_err-names-clause-exact : goal.returns-in_err-names-clause-exact
 returns-in_err-names-clause-exact c = λ pins frames f d lib pinned formed h part params ports.
-    let modules = c.args.library.now.modules.now in let i = c.args.instance.now in let o = c.args.outer in let now = c.args.visit.now in
+    let modules = c.args.library.now.modules.now in let wires = c.args.library.now.wires_only in let i = c.args.instance.now in let o = c.args.outer in let now = c.args.visit.now in
     let s : Stage = record { names = f.names; design = d } in
     let gs = conns_of i.params.now in let cs = conns_of i.ports.now in
     let st = stage-shown pins modules lib.distinct now.open.items o now.is_open.items now.design f frames d h in
@@ -64,7 +64,7 @@ returns-in_err-names-clause-exact c = λ pins frames f d lib pinned formed h par
     let finds = c.in_ok-number.ensures.exact (visited (f ∷ frames)) s lib h.marks_are st.0.names in
     let k = c.in-Some.module.now in
     let at : slice_get modules number ≡ Some k = sym c.in-Some.ensures in
-    let found = found-is pins modules f frames d i.place i.module.now i.name.now gs cs number k at finds in
+    let found = found-is wires pins modules f frames d i.place i.module.now i.name.now gs cs number k at finds in
     let ends = c.in_ok-overridden.ensures.exact pins s st.0 st.1 c.in_ok-ports.ensures (sym found.name) params ports in
     let fine = overrides-fit (look_of s) st.1 (module_of k) gs params (none_of_both (override_rules (look_of s) (module_of k) gs) (connection_rules (look_of s) (module_of k) cs) ends.0).0 in
     let names = c.define.new.names in
@@ -77,12 +77,12 @@ returns-in_err-names-clause-exact c = λ pins frames f d lib pinned formed h par
     let new = c.begin.new.visit in
     let entry = subst (λ (os : List Open). Begins {S = BuildHasherDefault FoldHasher} pins (begun given (prefix_of modules os) (module_of k) d) (Err e) new.design) c.in_ok-push.ensures.pushed
     (c.in_err-names.ensures.exact pins k given d at well pinned h.design h.fit ends.1.0 fine) in
-    subst (λ r. Goes pins modules (next_of (map module_of modules) f frames d (instance_tree i)) r new) (sym failed)
-    (not-begun pins modules f frames d i.place i.module.now i.name.now gs cs number k found lib.distinct now.open.items o now.is_open.items now.design h part names shows ends.0 (BuildHasherDefault FoldHasher) new e new.design entry)
+    subst (λ r. Goes wires pins modules (next_of wires (map module_of modules) f frames d (instance_tree i)) r new) (sym failed)
+    (not-begun wires pins modules f frames d i.place i.module.now i.name.now gs cs number k found lib.distinct now.open.items o now.is_open.items now.design h part names shows ends.0 (BuildHasherDefault FoldHasher) new e new.design entry)
 
 pub returns-clause-exact : goal.returns-clause-exact
 returns-clause-exact c = λ pins frames f d lib pinned formed h part params ports.
-    let modules = c.args.library.now.modules.now in let i = c.args.instance.now in let o = c.args.outer in let now = c.args.visit.now in
+    let modules = c.args.library.now.modules.now in let wires = c.args.library.now.wires_only in let i = c.args.instance.now in let o = c.args.outer in let now = c.args.visit.now in
     let s : Stage = record { names = f.names; design = d } in
     let gs = conns_of i.params.now in let cs = conns_of i.ports.now in
     let st = stage-shown pins modules lib.distinct now.open.items o now.is_open.items now.design f frames d h in
@@ -90,7 +90,7 @@ returns-clause-exact c = λ pins frames f d lib pinned formed h part params port
     let finds = c.in_ok-number.ensures.exact (visited (f ∷ frames)) s lib h.marks_are st.0.names in
     let k = c.in-Some.module.now in
     let at : slice_get modules number ≡ Some k = sym c.in-Some.ensures in
-    let found = found-is pins modules f frames d i.place i.module.now i.name.now gs cs number k at finds in
+    let found = found-is wires pins modules f frames d i.place i.module.now i.name.now gs cs number k at finds in
     let ends = c.in_ok-overridden.ensures.exact pins s st.0 st.1 c.in_ok-ports.ensures (sym found.name) params ports in
     let fine = overrides-fit (look_of s) st.1 (module_of k) gs params (none_of_both (override_rules (look_of s) (module_of k) gs) (connection_rules (look_of s) (module_of k) cs) ends.0).0 in
     let names = c.define.new.names in
@@ -102,7 +102,7 @@ returns-clause-exact c = λ pins frames f d lib pinned formed h part params port
     let entry = subst (λ (os : List Open). Begins pins (begun given (prefix_of modules os) (module_of k) d) (Ok c.in_ok-names.names) new.design) c.in_ok-push.ensures.pushed
     (c.in_ok-names.ensures.exact pins k given d at well pinned h.design h.fit ends.1.0 fine) in
     let given_in : Given = record { place = Some i.place; params = c.in_ok-overridden.overridden.leaning; ports = c.in_ok-overridden.connected.leaning } in
-    goes-in pins modules f frames d i.place i.module.now i.name.now gs cs number k found lib.distinct now.open.items o now.is_open.items now.design h part names shows ends.0
+    goes-in wires pins modules f frames d i.place i.module.now i.name.now gs cs number k found lib.distinct now.open.items o now.is_open.items now.design h part names shows ends.0
     entry.0 entry.1 entry.3 c.in_ok-names.names given_in new c.enter_module.new.visit c.enter_module.result (ap₂ (λ a b. a ++ b) ends.1.1 ends.2.1) refl
     (ap (λ v. v.items) c.in_ok-names.ensures.stack ∙ c.in_ok-push.ensures.pushed) (ap (λ v. v.items) c.in_ok-names.ensures.marks)
     (c.enter_module.ensures.exact pins k entry.0 (links_of (look_of s) (module_of k) cs) at well entry.2 entry.3 ends.2.0)

@@ -8,10 +8,10 @@ use Rattle.flat_design.proofs.visit.add_next.Goals as goal
 
 pub returns-in-Instance-clause-exact : goal.returns-in-Instance-clause-exact
 returns-in-Instance-clause-exact c = λ pins frames f d lib pinned formed visiting before.
-    let modules = c.args.library.now.modules.now in let item = c.args.item.now in
+    let modules = c.args.library.now.modules.now in let wires = c.args.library.now.wires_only in let item = c.args.item.now in
     let body = item-formed modules c.args.outer.module (c.args.outer.next - 1) item formed before in
     let conns = subst (λ (z : ItemBody). IsBodyFormed (body_of z)) c.in-Instance.is body in
-    subst (λ (z : ItemBody). Goes pins modules (next_of (map module_of modules) f frames d (record { place = item.place; body = body_of z })) c.add_instance.result c.add_instance.new.visit) (sym c.in-Instance.is)
+    subst (λ (z : ItemBody). Goes wires pins modules (next_of wires (map module_of modules) f frames d (record { place = item.place; body = body_of z })) c.add_instance.result c.add_instance.new.visit) (sym c.in-Instance.is)
     (c.add_instance.ensures.exact pins frames f d lib pinned formed visiting (ap part_in before ∙ ap named_part c.in-Instance.is) conns.0 conns.1)
 
 pub returns-clause-exact : goal.returns-clause-exact

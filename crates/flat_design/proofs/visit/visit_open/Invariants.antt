@@ -11,4 +11,4 @@ abbrev pub invariant-loop : goal.invariant-loop
 invariant-loop l = (pins : List ResetPin) (frames : List Frame) (d : Design) → IsLibrary l.library.modules.now l.library.by_name → ShowsPins l.library.pins pins
     → All IsModuleFormed (map module_of l.library.modules.now)
     → IsVisiting pins l.library.modules.now l.initial.visit.open.items l.initial.visit.is_open.items l.initial.visit.design frames d
-    → Goes pins l.library.modules.now (rest_of (map module_of l.library.modules.now) frames d) (Ok tt) l.visit
+    → Goes l.library.wires_only pins l.library.modules.now (rest_of l.library.wires_only (map module_of l.library.modules.now) frames d) (Ok tt) l.visit
