@@ -1,5 +1,4 @@
 pub mod Choices
-pub mod Conditions
 pub mod Decides
 pub mod Fed
 pub mod GuardLists

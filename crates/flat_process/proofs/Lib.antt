@@ -10,4 +10,3 @@ pub mod PlainAims
 pub mod ResetRows
 pub mod Processes
 pub mod LevelLists
-pub mod KeptRows

@@ -2,4 +2,3 @@ pub mod Assigns
 pub mod Starts
 pub mod Resets
 pub mod Processes
-pub mod Kept

@@ -3,7 +3,6 @@
 
 pub mod always;
 pub mod assign;
-mod kept;
 mod others;
 mod reset;
 mod sensitivity;
