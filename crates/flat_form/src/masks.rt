@@ -33,6 +33,13 @@ impl Masks {
         self.by_signal.get(&sig).copied().unwrap_or(0)
     }
 
+    /// Whether the set has an entry for the signal, be it of no bits.
+    pub fn has(&self, sig: u32) -> bool
+        ensures { result ≡ has_signal self.now sig }
+    {
+        self.by_signal.contains_key(&sig)
+    }
+
     /// Adds bits of a signal.
     pub fn add(&mut self, sig: u32, mask: u64) -> Result<(), NoMemory>
         ensures added { IfOk result (λ _. Adds self.old self.new (λ s i. (s == sig) && bit_at mask i)) }

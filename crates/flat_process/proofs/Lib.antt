@@ -10,3 +10,4 @@ pub mod PlainAims
 pub mod ResetRows
 pub mod Processes
 pub mod LevelLists
+pub mod KeptRows

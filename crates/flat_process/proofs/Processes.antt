@@ -11,17 +11,18 @@ use Rattle.verilog_ast.specs.declared.Stmt.TheVariants as vs
 use Rattle.verilog_reading.specs.ExprTree.{ExprTree, tree_of}
 use Rattle.verilog_reading.specs.StmtTree.{StmtTree, null, set, when, either, switch, switch_else, block, StmtTrees, no_rows, and_rows, stmt_tree_of}
 use Rattle.flat_meaning.specs.Flat.{Stmt}
-use Rattle.flat_form.specs.View.{reset_of}
+use Rattle.flat_form.specs.View.{stmt_of, reset_of}
 use Rattle.flat_form.specs.declared.flat.FStmt.{FStmt}
 use Rattle.flat_form.specs.declared.flat.FStmt.TheVariants as form
 use Rattle.flat_unfolding.specs.Outcome.{Text, Broken, breaks, breaks_if}
 use Rattle.flat_unfolding.specs.Names.{Meaning, a_param, a_signal, a_memory, no_value, Look, meaning, width_at, reset_at}
 use Rattle.flat_unfolding.specs.Expressions.{read}
+use Rattle.flat_unfolding.specs.Widths.{stmt_keeps_sizes}
 use Rattle.flat_unfolding.specs.Statements.{Kind, clocked, neither, done, done_all}
 use Rattle.flat_unfolding.specs.Resets as q
 use Rattle.flat_unfolding.specs.Mentions.{names_in, read_names}
 use Rattle.flat_unfolding.specs.Resets.{peeled, peeled_rows, tested_signals, branch_given, form_with, form_in, reset_form, reads_other, is_malformed, reset_rules, is_edge_of, is_active_edge}
-use Rattle.flat_unfolding.specs.Processes.{delay_rules, has_form, first_edge, edge_rules, meant_signal, edge_signal, is_wide, reset_edge, reset_signal, event_rules, pair_rules, body_without, reset_branch, reset_gives}
+use Rattle.flat_unfolding.specs.Processes.{delay_rules, has_form, first_edge, edge_rules, meant_signal, edge_signal, is_wide, reset_edge, reset_signal, event_rules, pair_rules, with_kept, body_with, reset_branch, reset_gives}
 use Rattle.flat_unfolding.specs.Formed.{IsFormed, IsStmtFormed, AreRowsFormed}
 use Rattle.flat_unfolding.specs.Design as u
 use Rattle.flat_unfolding.proofs.Steps.{none_of_both, some_is}
@@ -127,10 +128,10 @@ module _ (l : Look) where
   -- a body without reset form stays whole
   pub whole-body : (c : ℕ) (edge : Option ℕ) (t : StmtTree) (p : Clocked) → p.clock ≡ c → p.reset ≡ (record { edge = edge; branch = form.Null }) → p.given.items ≡ []
       → IsDone (done l clocked t) p.body → IsFormIf l (reset_form l t) None
-      → IsClocked (length l.entries) c (body_without l t (reset_form l t)) (reset_with l edge t) (reset_gives l (reset_form l t)) (done l clocked t).broken p
+      → IsClocked (length l.entries) c (body_with l t (reset_form l t)) (reset_with l edge t) (reset_gives l (reset_form l t)) (done l clocked t).broken p
   whole-body c edge t p e r g d h = go (reset_form l t) h
     where
-      go : (o : Option q.ResetForm) → IsFormIf l o None → IsClocked (length l.entries) c (body_without l t o) (edge, reset_branch l o) (reset_gives l o) (done l clocked t).broken p
+      go : (o : Option q.ResetForm) → IsFormIf l o None → IsClocked (length l.entries) c (body_with l t o) (edge, reset_branch l o) (reset_gives l o) (done l clocked t).broken p
       go None h = record { clock = e; body = done-body l clocked t p.body d; reset = λ k. ap reset_of r ∙ ap (λ (x : Stmt). (edge, x)) ((done-null l clocked).stmt refl); given = subst (AreGiven (length l.entries) []) (sym g) tt }
       go (Some f) h = absurd h
 
@@ -146,16 +147,20 @@ module _ (l : Look) where
   items-or (Some z) x y e h = ap (λ (v : Vec Given Global). v.items) e
 
   -- of one with reset form the rest is left
-  pub rest-body : (c : ℕ) (edge : Option ℕ) (t : StmtTree) (r : ResetForm) (p : Clocked) → p.clock ≡ c → p.body ≡ r.rest → p.reset ≡ (record { edge = edge; branch = r.branch })
+  pub rest-body : (c : ℕ) (edge : Option ℕ) (t : StmtTree) (r : ResetForm) (p : Clocked) → p.clock ≡ c
+      → stmt_of p.body ≡ with_kept (width_at l.entries) (stmt_of r.rest) (stmt_of r.branch) → (stmt_keeps_sizes r.rest ≡ true → stmt_keeps_sizes p.body ≡ true) → p.reset ≡ (record { edge = edge; branch = r.branch })
       → p.given.items ≡ unwrap_or (option_map (λ (v : Vec Given Global). v.items) r.given) [] → IsFormIf l (reset_form l t) (Some r)
-      → IsClocked (length l.entries) c (body_without l t (reset_form l t)) (reset_with l edge t) (reset_gives l (reset_form l t)) (done l clocked t).broken p
-  rest-body c edge t r p e b s g h = go (reset_form l t) refl h
+      → IsClocked (length l.entries) c (body_with l t (reset_form l t)) (reset_with l edge t) (reset_gives l (reset_form l t)) (done l clocked t).broken p
+  rest-body c edge t r p e b z s g h = go (reset_form l t) refl h
     where
-      go : (o : Option q.ResetForm) → reset_form l t ≡ o → IsFormIf l o (Some r) → IsClocked (length l.entries) c (body_without l t o) (edge, reset_branch l o) (reset_gives l o) (done l clocked t).broken p
+      go : (o : Option q.ResetForm) → reset_form l t ≡ o → IsFormIf l o (Some r) → IsClocked (length l.entries) c (body_with l t o) (edge, reset_branch l o) (reset_gives l o) (done l clocked t).broken p
       go None i h = absurd h
       go (Some f) i h = record {
         clock = e;
-        body = subst (λ x. IsBody (done l clocked f.rest).stmt (done l clocked t).broken x) (sym b) (record { stmt = λ k. h.rest.stmt (both-clean t f i k).1; sizes = λ k. h.rest.sizes (both-clean t f i k).1 });
+        body = record {
+          stmt = λ k. let w = both-clean t f i k in b ∙ ap₂ (with_kept (width_at l.entries)) (h.rest.stmt w.1) (h.branch.stmt w.0);
+          sizes = λ k. z (h.rest.sizes (both-clean t f i k).1);
+        };
         reset = λ k. ap reset_of s ∙ ap (λ (x : Stmt). (edge, x)) (h.branch.stmt (both-clean t f i k).0);
         given = subst (AreGiven (length l.entries) (unwrap_or f.given [])) (sym g) (given-or f.given (option_map (λ (v : Vec Given Global). v.items) r.given) h.given);
       }
@@ -319,17 +324,17 @@ module _ (l : Look) (edges : List Edge) (t : StmtTree) where
 
   -- a process with what it notes
   abbrev IsProcess : ℕ → (f f' g g' : Noted) → Clocked → Bool → Type 0
-  IsProcess c f f' g g' p b = IsClocked (length l.entries) c (body_without l t (cond b (reset_form l t) None)) (reset_if b) (reset_gives l (cond b (reset_form l t) None)) (rules_at b) p
+  IsProcess c f f' g g' p b = IsClocked (length l.entries) c (body_with l t (cond b (reset_form l t) None)) (reset_if b) (reset_gives l (cond b (reset_form l t) None)) (rules_at b) p
       × (f' ≡ all_noted f (rules_at b)) × (g' ≡ all_noted g (taking_at b))
 
   -- an event with its form, and one without it
   pub formed-process : (c m : ℕ) (f g h i j k : Noted) (p : Clocked) → m ≡ c → has_form edges ≡ true → g ≡ all_noted f (event_rules l edges) → j ≡ all_noted i (pair_rules l edges)
-      → IsClocked (length l.entries) m (body_without l t (reset_form l t)) (reset_with l (reset_signal l edges) t) (reset_gives l (reset_form l t)) (done l clocked t).broken p
+      → IsClocked (length l.entries) m (body_with l t (reset_form l t)) (reset_with l (reset_signal l edges) t) (reset_gives l (reset_form l t)) (done l clocked t).broken p
       → h ≡ all_noted g ((done l clocked t).broken ++ delay_rules t) → k ≡ all_noted j (reset_breaks (reset_form l t)) → IsProcess c f h i k p (has_form edges)
   formed-process c m f g h i j k p same e events pair is body resets =
       let event = event_rules l edges in
       let broken = (done l clocked t).broken in
-      let x = body_without l t (reset_form l t) in
+      let x = body_with l t (reset_form l t) in
       subst (IsProcess c f h i k p) (sym e) (
         clocked-amid (length l.entries) c m x (reset_with l (reset_signal l edges) t) (reset_gives l (reset_form l t)) event broken (delay_rules t) p same is,
         then-noted f g h event (broken ++ delay_rules t) events body ∙ ap (all_noted f) (sym (append_assoc event broken (delay_rules t))),

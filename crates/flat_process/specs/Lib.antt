@@ -2,3 +2,4 @@ pub mod Assigns
 pub mod Starts
 pub mod Resets
 pub mod Processes
+pub mod Kept

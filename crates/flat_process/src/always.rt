@@ -16,7 +16,7 @@ ghost use Rattle.flat_unfolding.specs.Resets.{reset_form as reset_form_of, reset
 ghost use Rattle.flat_unfolding.specs.Design as u;
 ghost use Rattle.flat_unfolding.specs.Design.{Stage, look_of};
 ghost use Rattle.flat_unfolding.specs.Processes as w;
-ghost use Rattle.flat_unfolding.specs.Processes.{always_item, edge_rules, event_rules, clocked_rules, pair_rules, taking_rules, clocked_body, body_without, reset_of, reset_gives, form_of};
+ghost use Rattle.flat_unfolding.specs.Processes.{always_item, edge_rules, event_rules, clocked_rules, pair_rules, taking_rules, clocked_body, body_with, reset_of, reset_gives, form_of};
 ghost use Rattle.flat_unfolding.specs.Formed.{IsFormed, IsStmtFormed};
 ghost use Rattle.flat_names.specs.Noting.{all_noted};
 ghost use Rattle.flat_names.specs.Looks.{Shows, IsFit};
@@ -26,6 +26,7 @@ ghost use Rattle.flat_process.specs.Assigns.{fresh};
 ghost use Rattle.flat_process.specs.Resets.{ArePins};
 ghost use Rattle.flat_process.specs.Processes.{process_at, lacks_reset, IsBody, reset_with, IsClocked, other_tree, left_tree, IsForm, IsFormIf, has_rule};
 
+use crate::kept::with_kept;
 use crate::others::reads_other;
 use crate::reset::{
     Given, is_reset, keep_given, peeled, reset_branch, reset_signals, tested_signals,
@@ -442,7 +443,7 @@ fn process_with_form(
     late: &mut Faults,
 ) -> Result<Clocked, NoMemory>
     ensures { (pins : List ResetPin) (l : n.Look) → Shows look.now l → IsFit l → ArePins pins look.now l → IsStmtFormed (stmt_tree_of body.now)
-        → IfOk result (λ p. IsClocked (length l.entries) clock (body_without l (stmt_tree_of body.now) (reset_form_of l (stmt_tree_of body.now))) (reset_with l (w.reset_signal l edges.now) (stmt_tree_of body.now))
+        → IfOk result (λ p. IsClocked (length l.entries) clock (body_with l (stmt_tree_of body.now) (reset_form_of l (stmt_tree_of body.now))) (reset_with l (w.reset_signal l edges.now) (stmt_tree_of body.now))
         (reset_gives l (reset_form_of l (stmt_tree_of body.now))) (done l clocked_kind (stmt_tree_of body.now)).broken p
         × (faults.new ≡ all_noted faults.old ((done l clocked_kind (stmt_tree_of body.now)).broken ++ w.delay_rules (stmt_tree_of body.now)))
         × (late.new ≡ all_noted late.old (reset_rules l (w.first_edge edges.now) (w.reset_edge l edges.now) (reset_form_of l (stmt_tree_of body.now))))) }
@@ -451,7 +452,7 @@ fn process_with_form(
     let form = reset_form(look, body)?;
     note_reset(look, edges, &form, late)?;
     let edge = reset_signal(look, edges);
-    Ok(with_reset(look.alloc, clock, edge, whole, form))
+    with_reset(look, clock, edge, whole, form)
 }
 
 /// A body in reset form: the signals of its resets, whether it reads another reset in its condition or its other branch,
@@ -642,35 +643,39 @@ fn is_active_edge(kind: EdgeKind, reset: Reset) -> bool
     }
 }
 
-/// The process of a body, which keeps what reset form leaves of it.
+/// The process of a body: what reset form leaves of it, behind what the first branch keeps.
 fn with_reset(
-    alloc: Global,
+    look: &Look,
     clock: u32,
     edge: Option<u32>,
     whole: FStmt,
     form: Option<ResetForm>,
-) -> Clocked
-    ensures { (l : n.Look) (body : StmtTree) → IsDone (done l clocked_kind body) whole → IsFormIf l (reset_form_of l body) form
-        → IsClocked (length l.entries) clock (body_without l body (reset_form_of l body)) (reset_with l edge body) (reset_gives l (reset_form_of l body)) (done l clocked_kind body).broken result }
+) -> Result<Clocked, NoMemory>
+    ensures { (l : n.Look) (body : StmtTree) → Shows look.now l → IsDone (done l clocked_kind body) whole → IsFormIf l (reset_form_of l body) form
+        → IfOk result (λ p. IsClocked (length l.entries) clock (body_with l body (reset_form_of l body)) (reset_with l edge body) (reset_gives l (reset_form_of l body)) (done l clocked_kind body).broken p) }
 {
     match form {
-        Some(form) => Clocked {
-            clock,
-            body: form.rest,
-            reset: FlatReset {
-                edge,
-                branch: form.branch,
-            },
-            given: form.given.unwrap_or(Vec::new(alloc)),
-        },
-        None => Clocked {
+        Some(form) => {
+            let rest = form.rest;
+            let body = with_kept(look, &form.branch, rest)?;
+            Ok(Clocked {
+                clock,
+                body,
+                reset: FlatReset {
+                    edge,
+                    branch: form.branch,
+                },
+                given: form.given.unwrap_or(Vec::new(look.alloc)),
+            })
+        }
+        None => Ok(Clocked {
             clock,
             body: whole,
             reset: FlatReset {
                 edge,
                 branch: FStmt::Null,
             },
-            given: Vec::new(alloc),
-        },
+            given: Vec::new(look.alloc),
+        }),
     }
 }

@@ -3,6 +3,7 @@
 
 pub mod always;
 pub mod assign;
+mod kept;
 mod others;
 mod reset;
 mod sensitivity;

@@ -449,11 +449,36 @@ unfolding keyword_of is_left_out
 started_wire = refl
 
 -- with the reset e: reg x, hold; always @(posedge ca or negedge e) if (!e) hold <= 0; else x <= d; assign q = hold;
-reset_drives_nothing : h_reset (reg None "x" ∷ reg None "hold"
+-- what the first branch alone assigns keeps the value that the reset gives it
+kept_by_reset : h_reset (reg None "x" ∷ reg None "hold"
     ∷ at_clock_or "ca" (on edge.Neg "e") (either (unary u.LogicNot (v "e")) (later (to "hold") (plain 0)) (later (to "x") (v "d")))
-    ∷ assign (to "q") (v "hold") ∷ []) ≡ refused_at 310 3 "hold"
+    ∷ assign (to "q") (v "hold") ∷ [])
+    ≡ good (record {
+      signals = one_bit "ca" 1 Input ∷ one_bit "cb" 1 Input ∷ one_bit "d" 1 Input ∷ one_bit "e" 1 Input ∷ ranged "v" 1 3 Input
+          ∷ one_bit "q" 1 Wire ∷ ranged "o" 1 7 Wire ∷ one_bit "x" 2 Register ∷ starts_as 1 0 (one_bit "hold" 3 Register) ∷ [];
+      assigns = (f.Whole 5, f.Read 8 0 1) ∷ [];
+      combs = [];
+      clocked = (0, f.Block (f.stmt (f.Set false (f.Whole 8) (f.Read 8 0 1)) (f.stmt (f.Set false (f.Whole 7) (f.Read 2 0 1)) f.no_stmts))) ∷ [];
+      outputs = 5 ∷ 6 ∷ [];
+    })
 unfolding keyword_of is_left_out
-reset_drives_nothing = refl
+kept_by_reset = refl
+
+-- with the reset e: reg x; reg [1:0] r = 2; always @(posedge ca) if (!e) r[0] <= 1'b1; else x <= d; assign q = r[0];
+-- the bits that it doesn't assign keep their start values too
+kept_in_part : h_reset (reg None "x" ∷ reg_with (down_to_zero 1) "r" (plain 2)
+    ∷ at_clock "ca" (either (unary u.LogicNot (v "e")) (later (to_bit "r" (plain 0)) (sized 1 1)) (later (to "x") (v "d")))
+    ∷ assign (to "q") (bit "r" (plain 0)) ∷ [])
+    ≡ good (record {
+      signals = one_bit "ca" 1 Input ∷ one_bit "cb" 1 Input ∷ one_bit "d" 1 Input ∷ one_bit "e" 1 Input ∷ ranged "v" 1 3 Input
+          ∷ one_bit "q" 1 Wire ∷ ranged "o" 1 7 Wire ∷ one_bit "x" 2 Register ∷ starts_as 3 3 (ranged "r" 3 1 Register) ∷ [];
+      assigns = (f.Whole 5, f.Read 8 0 1) ∷ [];
+      combs = [];
+      clocked = (0, f.Block (f.stmt (f.Set false (f.Part 8 0 1) (f.Read 8 0 1)) (f.stmt (f.Set false (f.Whole 7) (f.Read 2 0 1)) f.no_stmts))) ∷ [];
+      outputs = 5 ∷ 6 ∷ [];
+    })
+unfolding keyword_of is_left_out
+kept_in_part = refl
 
 -- with the reset e: reg [3:0] r = 5; always @(posedge ca or negedge e) begin if (!e) r[3] <= 1'b1; else r <= v; end assign q = r[0] & e;
 -- the reset's value wins over the declaration's, bit by bit; elsewhere the reset reads as 1

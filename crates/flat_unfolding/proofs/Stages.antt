@@ -1,5 +1,5 @@
 -- Designs that are well sized as they grow, and what the items of a module make of them.
-use Rattle.std.proofs.Common.{◌≡◌, ℕ, zero, suc, ◌<◌, ◌≤◌, Bool, true, false, cond, not, ◌&&◌, ◌||◌, ◌==◌, List, [], ◌∷◌, ◌++◌, length, map, Option, Some, None, refl, sym, ap, ap₂, subst, ◌∙◌, arith, rules, eqb-true}
+use Rattle.std.proofs.Common.{◌≡◌, ℕ, zero, suc, ◌+◌, ◌<◌, ◌≤◌, Bool, true, false, cond, not, ◌&&◌, ◌||◌, ◌==◌, List, [], ◌∷◌, ◌++◌, length, map, Option, Some, None, refl, sym, ap, ap₂, subst, ◌∙◌, arith, rules, eqb-true}
 use Rattle.std.specs.Prelude.{slice_get, All, is_some, is_none, flat_map, unwrap_or, option_map}
 use Rattle.std.specs.Option.{option_map_or}
 use Rattle.std.specs.List.{list_any}
@@ -15,7 +15,7 @@ use Rattle.verilog_ast.specs.declared.GateKind.{GateKind}
 use Rattle.verilog_ast.specs.declared.GateKind.TheVariants as g
 use Rattle.verilog_reading.specs.ExprTree.{ExprTree, TargetTree, whole}
 use Rattle.verilog_reading.specs.StmtTree.{StmtTree, null, set, when, either, switch, switch_else, block, StmtTrees, no_rows, and_rows}
-use Rattle.flat_meaning.specs.Flat.{Expr, Gate, Unary, complement, size, largest, Target, Stmt}
+use Rattle.flat_meaning.specs.Flat.{Expr, Gate, Unary, complement, size, largest, Target, Whole, Part, Pick, Group, Targets, no_targets, target, Stmt, Null, Set, If, Case, Block, Stmts, no_stmts, stmt, assigns}
 use Rattle.flat_meaning.specs.Fits.{is_gate}
 use Rattle.flat_meaning.specs.Law.{AreWords}
 use Rattle.flat_unfolding.specs.Outcome.{Text, Broken, good, Order, by_number, judged}
@@ -26,13 +26,13 @@ use Rattle.flat_unfolding.specs.Statements.{of_wires as wires, clocked, neither,
 use Rattle.flat_unfolding.specs.Reads.{is_latch, latch_rule}
 use Rattle.flat_unfolding.specs.Mentions.{names_in, read_names}
 use Rattle.flat_unfolding.specs.Resets.{peeled, peeled_rows, reset_signals, tested_signals, ResetForm, branch_given, form_with, form_in, reset_form}
-use Rattle.flat_unfolding.specs.Processes.{delay_rules, later_rules, counts_as_star, has_form, first_edge, meant_edge, edge_rules, meant_signal, edge_signal, is_wide, names_reset, clock_of, event_rules, edge_kind, form_of, body_without, wires_process, clocked_process, always_item}
+use Rattle.flat_unfolding.specs.Processes.{delay_rules, later_rules, counts_as_star, has_form, first_edge, meant_edge, edge_rules, meant_signal, edge_signal, is_wide, names_reset, clock_of, event_rules, edge_kind, form_of, as_one, kept, all_kept, branch_kept, rows_kept, with_kept, body_without, reset_branch, body_with, wires_process, clocked_process, always_item}
 use Rattle.flat_unfolding.specs.Starts.{Starts, with_starts, start_of}
 use Rattle.flat_unfolding.specs.Wires.{assign_item, has_terminals, gate_op, is_inverted, gate_value, output_rule, input_rules, count_rule, gate_item}
 use Rattle.flat_unfolding.specs.Design.{Design, Stage, look_of, with_design, assigned}
 use Rattle.flat_unfolding.specs.Unfolding.{value_item}
 use Rattle.flat_unfolding.specs.Formed.{IsFormed, IsFormedIf, IsTargetFormed, IsStmtFormed, AreRowsFormed}
-use Rattle.flat_unfolding.specs.Sized.{IsSized, AreSized, IsTargetSized, IsStmtSized}
+use Rattle.flat_unfolding.specs.Sized.{IsSized, AreSized, IsTargetSized, AreTargetsSized, IsStmtSized, AreStmtsSized}
 use Rattle.flat_unfolding.proofs.Steps.{good_is, judged_is, not_broken, none_of_both, some_is}
 use Rattle.flat_unfolding.proofs.Known.{reg_at, top_at, StandsIf, AreNamed, stands}
 use Rattle.flat_unfolding.proofs.Terms.{sound_is, not_one, sized}
@@ -40,6 +40,45 @@ use Rattle.flat_unfolding.proofs.Aims.{not_true, wire_sized, driven_sized}
 use Rattle.flat_unfolding.proofs.Stmts.{done_sized}
 use Rattle.flat_unfolding.proofs.Alike.{no_latch_on, no_latches}
 use Rattle.flat_unfolding.proofs.Grown.{expr_agrees, target_agrees, stmt_agrees, Grows, grows_itself, all_on}
+
+-- ---- what the first branch of reset form keeps
+
+module _ (wid : ℕ → ℕ) (may : ℕ → Bool) where
+  as_one_sized : (ss : Stmts) → AreStmtsSized wid may ss → IsStmtSized wid may (as_one ss)
+  as_one_sized no_stmts h = h
+  as_one_sized (stmt s no_stmts) h = h.0
+  as_one_sized (stmt s (stmt x ss)) h = h
+
+  module _ (body : Stmt) where
+    unless_sized : (b : Bool) (x : Stmt) (rest : Stmts) → IsStmtSized wid may x → AreStmtsSized wid may rest → AreStmtsSized wid may (cond b rest (stmt x rest))
+    unless_sized true x rest h k = k
+    unless_sized false x rest h k = (h, k)
+
+    mutual
+      kept_sized : (t : Target) (rest : Stmts) → IsTargetSized wid may t → AreStmtsSized wid may rest → AreStmtsSized wid may (kept wid body t rest)
+      kept_sized (Whole s) rest h k = unless_sized (assigns body s) _ rest (h, (h.1, let l : 0 + wid s ≤ wid s = omega arith in l)) k
+      kept_sized (Part s at w) rest h k = unless_sized (assigns body s) _ rest (h, (h.1, h.2)) k
+      kept_sized (Pick s e) rest h k = k
+      kept_sized (Group ts) rest h k = all_kept_sized ts rest h.2 k
+
+      all_kept_sized : (ts : Targets) (rest : Stmts) → AreTargetsSized wid may ts → AreStmtsSized wid may rest → AreStmtsSized wid may (all_kept wid body ts rest)
+      all_kept_sized no_targets rest h k = k
+      all_kept_sized (target t ts) rest h k = kept_sized t (all_kept wid body ts rest) h.0 (all_kept_sized ts rest h.1 k)
+
+    mutual
+      branch_kept_sized : (x : Stmt) (rest : Stmts) → IsStmtSized wid may x → AreStmtsSized wid may rest → AreStmtsSized wid may (branch_kept wid body x rest)
+      branch_kept_sized Null rest h k = k
+      branch_kept_sized (Set b t e) rest h k = kept_sized t rest h.0 k
+      branch_kept_sized (If c x y) rest h k = k
+      branch_kept_sized (Case e is) rest h k = k
+      branch_kept_sized (Block ss) rest h k = rows_kept_sized ss rest h k
+
+      rows_kept_sized : (ss : Stmts) (rest : Stmts) → AreStmtsSized wid may ss → AreStmtsSized wid may rest → AreStmtsSized wid may (rows_kept wid body ss rest)
+      rows_kept_sized no_stmts rest h k = k
+      rows_kept_sized (stmt s ss) rest h k = branch_kept_sized s (rows_kept wid body ss rest) h.0 (rows_kept_sized ss rest h.1 k)
+
+    with_kept_sized : (branch : Stmt) → IsStmtSized wid may body → IsStmtSized wid may branch → IsStmtSized wid may (with_kept wid body branch)
+    with_kept_sized branch h k = as_one_sized _ (branch_kept_sized branch (stmt body no_stmts) k (h, tt))
 
 -- ---- what is known of a design
 
@@ -277,10 +316,13 @@ module _ (s : Stage) (h : IsStage s) where
     rows_fine (and_rows x no_rows) f e = peeled_fine x (f.0, (none_of_both (done (look_of s) clocked x).broken [] e).0)
     rows_fine (and_rows x (and_rows y rest)) f e = (f, e)
 
-  -- the rest of reset form
-  form_fine : (c : ExprTree) (x y all : StmtTree) → IsFine y → IsFine all → (r : ResetForm)
-      → form_with (look_of s) c x y all ≡ Some r → IsFine r.rest
-  form_fine c x y all f g r e = go (tested_signals (look_of s) c) e
+  -- the first branch and the rest of reset form
+  abbrev IsFineForm : ResetForm → Type 0
+  IsFineForm r = IsFine r.branch × IsFine r.rest
+
+  form_fine : (c : ExprTree) (x y all : StmtTree) → IsFine x → IsFine y → IsFine all → (r : ResetForm)
+      → form_with (look_of s) c x y all ≡ Some r → IsFineForm r
+  form_fine c x y all d f g r e = go (tested_signals (look_of s) c) e
     where
       rest_is : (b : Bool) → IsFine (cond b y all)
       rest_is true = f
@@ -292,20 +334,28 @@ module _ (s : Stage) (h : IsStage s) where
         branch = x;
         given = branch_given (look_of s) x;
         rest = cond (is_some (reset_signals (look_of s) c)) y all;
-      }) o ≡ Some r → IsFine r.rest
+      }) o ≡ Some r → IsFineForm r
       go None e = absurd (search (rules, e))
-      go (Some ss) e = subst (λ (q : ResetForm). IsFine q.rest) (some_is _ r e) (rest_is (is_some (reset_signals (look_of s) c)))
+      go (Some ss) e = subst IsFineForm (some_is _ r e) (d, rest_is (is_some (reset_signals (look_of s) c)))
 
-  rest_fine : (body : StmtTree) → IsFine body → (r : ResetForm) → form_in (look_of s) body ≡ Some r → IsFine r.rest
-  rest_fine (when c x) f r e = form_fine c x null (when c x) (tt, refl) f r e
-  rest_fine (either c x y) f r e =
+  parts_fine : (body : StmtTree) → IsFine body → (r : ResetForm) → form_in (look_of s) body ≡ Some r → IsFineForm r
+  parts_fine (when c x) f r e =
+      let p = none_of_both (read (look_of s) c).broken (done (look_of s) clocked x).broken f.1 in
+      form_fine c x null (when c x) (f.0.1, p.1) (tt, refl) f r e
+  parts_fine (either c x y) f r e =
       let p = none_of_both ((read (look_of s) c).broken ++ (done (look_of s) clocked x).broken) (done (look_of s) clocked y).broken f.1 in
-      form_fine c x y (either c x y) (f.0.2, p.1) f r e
-  rest_fine body f r e = absurd (search (rules, e))
+      let q = none_of_both (read (look_of s) c).broken (done (look_of s) clocked x).broken p.0 in
+      form_fine c x y (either c x y) (f.0.1, q.1) (f.0.2, p.1) f r e
+  parts_fine body f r e = absurd (search (rules, e))
 
-  body_sized : (body : StmtTree) → IsFine body → (o : Option ResetForm) → ((r : ResetForm) → o ≡ Some r → IsFine r.rest) → IsStmtSized (width_at es) (reg_at es) (body_without (look_of s) body o)
-  body_sized body f None r = done_sized (look_of s) words known clocked body f.0 f.1
-  body_sized body f (Some q) r = let i = r q refl in done_sized (look_of s) words known clocked q.rest i.0 i.1
+  fine_sized : (body : StmtTree) → IsFine body → IsStmtSized (width_at es) (reg_at es) (done (look_of s) clocked body).stmt
+  fine_sized body f = done_sized (look_of s) words known clocked body f.0 f.1
+
+  body_sized : (body : StmtTree) → IsFine body → (o : Option ResetForm) → ((r : ResetForm) → o ≡ Some r → IsFineForm r)
+      → IsStmtSized (width_at es) (reg_at es) (body_with (look_of s) body o)
+  body_sized body f None r = with_kept_sized (width_at es) (reg_at es) _ Null (fine_sized body f) tt
+  body_sized body f (Some q) r = let i = r q refl in
+      with_kept_sized (width_at es) (reg_at es) _ (done (look_of s) clocked q.branch).stmt (fine_sized q.rest i.1) (fine_sized q.branch i.0)
 
   neither_holds : (a b : Bool) → (a || b) ≡ false → (a ≡ false) × (b ≡ false)
   neither_holds false b e = (refl, e)
@@ -367,18 +417,18 @@ module _ (s : Stage) (h : IsStage s) where
             entries = h.design.entries;
             assigns = h.design.assigns;
             combs = h.design.combs;
-            clocked = All-push (IsClockedIn es) s.design.clocked _ h.design.clocked (c.1, body_sized body fine (form_of look edges body) (formed_rest edges body fine));
+            clocked = All-push (IsClockedIn es) s.design.clocked _ h.design.clocked (c.1, body_sized body fine (form_of look edges body) (formed_parts edges body fine));
             outputs = h.design.outputs;
           };
         };
         grows = grows_itself es;
       })
     where
-      formed_rest : (edges : List Edge) (body : StmtTree) → IsFine body → (r : ResetForm) → form_of (look_of s) edges body ≡ Some r → IsFine r.rest
-      formed_rest edges body fine r = go (has_form edges)
+      formed_parts : (edges : List Edge) (body : StmtTree) → IsFine body → (r : ResetForm) → form_of (look_of s) edges body ≡ Some r → IsFineForm r
+      formed_parts edges body fine r = go (has_form edges)
         where
-          go : (b : Bool) → cond b (reset_form (look_of s) body) None ≡ Some r → IsFine r.rest
-          go true e = rest_fine (peeled body) (peeled_fine body fine) r e
+          go : (b : Bool) → cond b (reset_form (look_of s) body) None ≡ Some r → IsFineForm r
+          go true e = parts_fine (peeled body) (peeled_fine body fine) r e
           go false e = absurd (search (rules, e))
 
   pub always_next : (p : Place) (e : Event) (body : StmtTree) (t : Stage) → IsStmtFormed body → always_item s p e body ≡ good t → IsNext s t

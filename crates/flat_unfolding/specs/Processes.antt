@@ -9,7 +9,7 @@ use Rattle.verilog_ast.specs.declared.EdgeKind.TheVariants as edge
 use Rattle.verilog_ast.specs.declared.Event.{Event}
 use Rattle.verilog_ast.specs.declared.Event.TheVariants as event
 use Rattle.verilog_reading.specs.StmtTree.{StmtTree}
-use Rattle.flat_meaning.specs.Flat.{Stmt, Null}
+use Rattle.flat_meaning.specs.Flat.{Read, Target, Whole, Part, Pick, Group, Targets, no_targets, target, Stmt, Null, Set, If, Case, Block, Stmts, no_stmts, stmt, assigns}
 use Rattle.flat_unfolding.specs.Outcome.{Text, Broken, breaks, breaks_if, Outcome, then_, judged, by_number}
 use Rattle.flat_unfolding.specs.Names.{Meaning, a_param, a_signal, a_memory, Look, meaning, width_at, unknown}
 use Rattle.flat_unfolding.specs.Mentions.{unlisted, first_mixed}
@@ -53,6 +53,43 @@ first_edge (e ∷ rest) = e.name
 abbrev pub are_two : List Edge → Bool
 are_two (c ∷ e ∷ []) = true
 are_two edges = false
+
+-- ---- registers that the first branch of reset form alone assigns keep their values
+
+-- some statements as one
+abbrev pub as_one : Stmts → Stmt
+as_one (stmt s no_stmts) = s
+as_one rows = Block rows
+
+module _ (wid : ℕ → ℕ) (body : Stmt) where
+  -- in front of further statements, what a target of the branch keeps: where the body assigns nothing of its signal, it gets its own value
+  abbrev mutual
+    pub kept : Target → Stmts → Stmts
+    kept (Whole s) rest = cond (assigns body s) rest (stmt (Set false (Whole s) (Read s 0 (wid s))) rest)
+    kept (Part s at w) rest = cond (assigns body s) rest (stmt (Set false (Part s at w) (Read s at w)) rest)
+    kept (Pick s e) rest = rest
+    kept (Group ts) rest = all_kept ts rest
+
+    pub all_kept : Targets → Stmts → Stmts
+    all_kept no_targets rest = rest
+    all_kept (target t ts) rest = kept t (all_kept ts rest)
+
+  -- the branch is an assignment or a block of these
+  abbrev mutual
+    pub branch_kept : Stmt → Stmts → Stmts
+    branch_kept Null rest = rest
+    branch_kept (Set b t e) rest = kept t rest
+    branch_kept (If c x y) rest = rest
+    branch_kept (Case e is) rest = rest
+    branch_kept (Block ss) rest = rows_kept ss rest
+
+    pub rows_kept : Stmts → Stmts → Stmts
+    rows_kept no_stmts rest = rest
+    rows_kept (stmt s ss) rest = branch_kept s (rows_kept ss rest)
+
+  -- the body behind what the branch keeps
+  abbrev pub with_kept : (branch : Stmt) → Stmt
+  with_kept branch = as_one (branch_kept branch (stmt body no_stmts))
 
 module _ (look : Look) where
   -- E305, and E316: the name of an edge is that of a signal
@@ -136,18 +173,23 @@ module _ (look : Look) where
   body_without body None = (done look clocked body).stmt
   body_without body (Some f) = (done look clocked f.rest).stmt
 
-  abbrev pub clocked_body : List Edge → StmtTree → Stmt
-  clocked_body edges body = body_without body (form_of edges body)
-
   abbrev pub reset_gives : Option ResetForm → List Given
   reset_gives None = []
   reset_gives (Some f) = unwrap_or f.given []
 
-  -- what drivers need to know of the reset: the signal of its edge, and the first branch
+  -- the first branch
   abbrev pub reset_branch : Option ResetForm → Stmt
   reset_branch None = Null
   reset_branch (Some f) = (done look clocked f.branch).stmt
 
+  -- what is left of a body, and what its first branch keeps
+  abbrev pub body_with : StmtTree → Option ResetForm → Stmt
+  body_with body form = with_kept (width_at look.entries) (body_without body form) (reset_branch form)
+
+  abbrev pub clocked_body : List Edge → StmtTree → Stmt
+  clocked_body edges body = body_with body (form_of edges body)
+
+  -- what drivers need to know of the reset: the signal of its edge, and the first branch
   abbrev pub reset_signal : List Edge → Option ℕ
   reset_signal edges = option_and_then edge_signal (reset_edge edges)
 

@@ -282,3 +282,19 @@ fn forms_of_two_resets(rt: HostRuntime) -> Result<(), Fail> {
     }
     Ok(())
 }
+
+/// Registers that the first branch of the reset `e` alone assigns.
+#[test]
+fn registers_that_a_reset_alone_assigns(rt: HostRuntime) -> Result<(), Fail> {
+    let alloc = rt.alloc();
+    let con = with_resets(alloc, "d", &[("e", "low")])?;
+    for items in [
+        "reg x, hold; always @(posedge ca or negedge e) if (!e) hold <= 0; else x <= d; assign q = hold;",
+        "reg x, r = 1; always @(posedge ca) if (!e) r <= 0; else x <= d; assign q = r;",
+    ] {
+        let net = format!(in alloc; "module m(input ca, cb, d, e, output q); {items} endmodule")?;
+        let answer = audited(alloc, net.as_bytes(), con.as_str())?;
+        assert_eq!(&rt; answer.as_str(), "clean crossings=0\n0", "{items}");
+    }
+    Ok(())
+}
