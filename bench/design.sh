@@ -9,6 +9,7 @@
 #   design.sh doublings      a wire that is the exclusive or of the one before with itself, 64 times over, in trees of 2^64 leaves
 #   design.sh handshake      a handshake that carries two bits, 10 register bits in all
 #   design.sh record N       a record of N steps of it, or of channels, in each of which both clocks tick
+#   design.sh testbench N    a module that drives channels or FIFOs for N steps: which clocks tick, and the inputs, are drawn as in a campaign
 #   design.sh constraints    two clocks, and the inputs `send` and `d`
 #   design.sh hostile KIND   a netlist that asks for trouble, of 256 MiB or a million of something: see below
 #   design.sh waivers N      the constraints with N waivers by patterns, and `many_inputs N` with N inputs
@@ -174,6 +175,29 @@ V
 # The same with a pop that isn't gated, so that none of them is recognised.
 no_fifos() {
     fifos "$1" | sed -e 's/ & ~empty//' -e 's/ && !empty//'
+}
+
+testbench() {
+    cat <<V
+module bench;
+  reg ca = 0, cb = 0, send = 0;
+  reg [7:0] d = 0;
+  reg [1:0] ticks;
+  integer step;
+  m chip(ca, cb, send, d);
+  initial begin
+    for (step = 1; step <= $1; step = step + 1) begin
+      ticks = step % 4 == 0 ? 2'd3 : \$urandom;
+      if (ticks == 0) ticks = 1;
+      {cb, ca} = ticks;
+      #1 if (ticks[0]) begin send = \$urandom; d = \$urandom; end
+      {cb, ca} = 0;
+      #1;
+    end
+    \$finish;
+  end
+endmodule
+V
 }
 
 record() {

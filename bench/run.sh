@@ -3,6 +3,7 @@
 # Where iverilog is installed, its own reading of the same netlist (-g2005 -t null) stands beside it, for two minutes at most.
 #   run.sh [PROGRAM]             the designs
 #   run.sh [PROGRAM] fifos       those with FIFOs alone, and the same without
+#   run.sh [PROGRAM] campaign    a replay and a campaign of 500 channels, beside a simulation by iverilog's vvp
 #   run.sh [PROGRAM] hostile     the texts that ask for trouble
 set -eu
 cd "$(dirname "${BASH_SOURCE[0]}")"
@@ -24,7 +25,7 @@ with open(output, "rb") as said:
     said.seek(max(0, os.path.getsize(output) - 200))
     lines = said.read().decode(errors="replace").splitlines()
 print("%-34s %8.2f s %7.0f MiB  %s" % (name, took, used.ru_maxrss / 1024, lines[-1][:70] if lines else ""), flush=True)
-if "updates" in os.environ:
+if "updates" in os.environ and os.waitstatus_to_exitcode(status) < 2:
     print("%-34s %8.2f million a second" % ("  register-bit updates", int(os.environ["updates"]) / took / 1e6), flush=True)
 P
 }
@@ -56,11 +57,31 @@ fifos() {
     done
 }
 
+# A campaign of that many steps of 500 channels: eight runs, in which ca ticks in 13 of 16 steps on average and cb in 10, each the clock of
+# half of the register bits. Beside it one run of a simulator, with clocks and inputs drawn in the same way.
+campaign() {
+    ./design.sh channels 500 >"$room/net.v"
+    local ticking=$((12000 * $1 * 23 / 32))
+    updates=$((8 * ticking)) timed "campaign of $1 steps of channels" "$program" campaign "$1" 1 "$room/net.v" "$room/con.toml"
+    if command -v iverilog >/dev/null && command -v vvp >/dev/null; then
+        ./design.sh testbench "$1" >"$room/bench.v"
+        iverilog -g2005 -s bench -o "$room/bench.vvp" "$room/bench.v" "$room/net.v"
+        updates=$ticking timed "  one run by vvp" timeout 600 vvp -n "$room/bench.vvp"
+    fi
+}
+
 ./design.sh constraints >"$room/con.toml"
-if [ "${2:-}" = fifos ]; then
+case ${2:-} in
+fifos)
     fifos
     exit
-fi
+    ;;
+campaign)
+    replay 10000 12000 channels 500
+    campaign 10000
+    exit
+    ;;
+esac
 if [ "${2:-}" = hostile ]; then
     for kind in identifier parentheses comment spaces ports labels drivers wires deep; do
         ./design.sh hostile "$kind" >"$room/net.v"
@@ -91,3 +112,4 @@ audit gates 1000000
 audit doublings
 replay 100000 10 handshake
 replay 10000 12000 channels 500
+campaign 10000

@@ -17,6 +17,9 @@ use Rattle.described_design.specs.SameConstraints.{HaveSameConstraints}
 use Rattle.described_design.proofs.SameConstraints.{same_design, same_refusal}
 use Rattle.audit_command.specs.Audits.{IsAuditOf}
 use Rattle.audit_command.specs.Refused.{IsAuditRefused, texts, verdict}
+use Rattle.campaign_command.specs.Campaigns.{IsCampaignOf}
+use Rattle.campaign_command.specs.Refused.{IsCampaignRefused}
+use Rattle.campaign_command.specs.Refused as campaign
 use Rattle.certify_command.specs.Certifies.{IsCertifyOf}
 use Rattle.certify_command.specs.Refused.{IsCertifyRefused}
 use Rattle.certify_command.specs.Refused as certify
@@ -110,6 +113,26 @@ module _ (net word con other_word other_con : List ℕ) (also : HaveSameConstrai
     status_is = a.status_is;
     answer_is = a.answer_is;
   }
+
+  pub same_campaign : (steps seed : ℕ) (status : Status) (text : List ℕ) → IsCampaignOf steps seed word net con status text
+      → IsCampaignOf steps seed other_word net other_con status text
+  same_campaign steps seed status text a = record {
+    constraints = a.constraints;
+    net = a.net;
+    domains = a.domains;
+    design = same a.constraints a.net a.domains a.design;
+    few = a.few;
+    found = a.found;
+    first = a.first;
+    shows = a.shows;
+    status_is = a.status_is;
+    answer_is = a.answer_is;
+  }
+
+  pub same_campaign_refusal : (fault : Fault) (status : Status) → IsCampaignRefused word net con fault status → IsCampaignRefused other_word net other_con fault status
+  same_campaign_refusal fault status (campaign.texts h) = campaign.texts (same_refusal net word con other_word other_con also fault status h)
+  same_campaign_refusal fault status (campaign.crossings c made domains design h) =
+      campaign.crossings c made domains (same c made domains design) h
 
   pub same_certify_refusal : (fault : Fault) (status : Status) → IsCertifyRefused word net con fault status → IsCertifyRefused other_word net other_con fault status
   same_certify_refusal fault status (certify.texts h) = certify.texts (same_refusal net word con other_word other_con also fault status h)

@@ -7,9 +7,11 @@ use Rattle.command_files.specs.declared.status.Status.TheVariants.{Done}
 use Rattle.command_files.specs.Endings.{IsCausedBy, IsCausedByAny}
 use Rattle.command_files.specs.Files.{Seen, Text, AreAllTold, AreTold}
 use Rattle.command_files.specs.Statuses.{IsEnd, IsOfStatus}
-use Rattle.command_line.specs.Asked.{Asked, audit, replay, selftest, certify, check, shown}
+use Rattle.command_line.specs.Asked.{Asked, audit, replay, selftest, certify, check, campaign, shown}
 use Rattle.audit_command.specs.Audits.{IsAuditOf}
 use Rattle.audit_command.specs.Refused.{IsAuditRefused}
+use Rattle.campaign_command.specs.Campaigns.{IsCampaignOf}
+use Rattle.campaign_command.specs.Refused.{IsCampaignRefused}
 use Rattle.certify_command.specs.Certifies.{IsCertifyOf}
 use Rattle.certify_command.specs.Refused.{IsCertifyRefused}
 use Rattle.check_command.specs.Checks.{IsCheckOf}
@@ -46,4 +48,5 @@ IsAnsweredTo (replay net con run) now status text = IsAnsweredAll (IsReplayDone 
 IsAnsweredTo (selftest channels) now status text = IsAnswered (IsSelftestOf channels) (IsSelftestRefused channels) status text
 IsAnsweredTo (certify net con) now status text = IsAnsweredBoth (IsCertifyOf con) (IsCertifyRefused con) now net con status text
 IsAnsweredTo (check net con cert) now status text = IsAnsweredAll (IsCheckOf con) (IsCheckRefused con) now net con cert status text
+IsAnsweredTo (campaign steps seed net con) now status text = IsAnsweredBoth (IsCampaignOf steps seed con) (IsCampaignRefused con) now net con status text
 IsAnsweredTo (shown page) now status text = (status ≡ Done) × (text ≡ page_text page)

@@ -7,22 +7,24 @@ unfoldable pub help_lines : List (List ℕ)
 help_lines =
     codes "usage: cdcaudit COMMAND WORDS"
     ∷ []
-    ∷ codes "  audit [--json] NET CON  the verdict on all crossings, as text or as JSON"
-    ∷ codes "  replay NET CON RUN      the run that a record fixes"
-    ∷ codes "  selftest N              audit of the generated design of N channels"
-    ∷ codes "  certify NET CON         a certificate of a clean design"
-    ∷ codes "  check NET CON CERT      does the certificate hold?"
-    ∷ codes "  help, --help, -h        this page"
-    ∷ codes "  version, --version, -V  name and version"
+    ∷ codes "  audit [--json] NET CON       the verdict on all crossings, as text or as JSON"
+    ∷ codes "  replay NET CON RUN           the run that a record fixes"
+    ∷ codes "  selftest N                   audit of the generated design of N channels"
+    ∷ codes "  certify NET CON              a certificate of a clean design"
+    ∷ codes "  check NET CON CERT           does the certificate hold?"
+    ∷ codes "  campaign STEPS SEED NET CON  eight random runs in search of a bad capture"
+    ∷ codes "  help, --help, -h             this page"
+    ∷ codes "  version, --version, -V       name and version"
     ∷ []
-    ∷ codes "  NET   a netlist in Verilog"
-    ∷ codes "  CON   clock constraints in TOML, or in SDC where the word ends in .sdc"
-    ∷ codes "  RUN   a run record in JSON"
-    ∷ codes "  CERT  a certificate"
-    ∷ codes "  N     a number from 1 to 10000"
+    ∷ codes "  NET       a netlist in Verilog"
+    ∷ codes "  CON       clock constraints in TOML, or in SDC where the word ends in .sdc"
+    ∷ codes "  RUN       a run record in JSON"
+    ∷ codes "  CERT      a certificate"
+    ∷ codes "  N, STEPS  a number from 1 to 10000"
+    ∷ codes "  SEED      a number from 0 to 4294967295"
     ∷ []
     ∷ codes "status 0  clean, or done"
-    ∷ codes "status 1  a finding without a waiver, or a certificate that fails"
+    ∷ codes "status 1  a finding without a waiver, a certificate that fails, or a capture"
     ∷ codes "status 2  the words are refused"
     ∷ codes "status 3  NET is refused"
     ∷ codes "status 4  CON is refused"
@@ -52,4 +54,4 @@ page_text page = text_of_lines (lines_of page)
 
 -- the line for words that are refused
 abbrev pub usage_line : List ℕ
-usage_line = codes "usage: cdcaudit audit [--json] NET CON | replay NET CON RUN | selftest N | certify NET CON | check NET CON CERT | help" ++ 10 ∷ []
+usage_line = codes "usage: cdcaudit audit [--json] NET CON | replay NET CON RUN | selftest N | certify NET CON | check NET CON CERT | campaign STEPS SEED NET CON | help" ++ 10 ∷ []

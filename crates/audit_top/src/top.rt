@@ -8,6 +8,7 @@ ghost use Rattle.audit_top.specs.Runs.{Output, AsksByWords, IsAnswer, IsRun, IsU
 use crate::output::write_lines;
 use crate::page;
 use audit_command::audit;
+use campaign_command::campaign;
 use cdc_base::{Files, List, NoMemory, Sink, SinkFault};
 use certify_command::certify;
 use check_command::check;
@@ -18,7 +19,7 @@ use selftest_command::selftest;
 use std::alloc::Global;
 
 const USAGE: &str =
-    "usage: cdcaudit audit [--json] NET CON | replay NET CON RUN | selftest N | certify NET CON | check NET CON CERT | help\n";
+    "usage: cdcaudit audit [--json] NET CON | replay NET CON RUN | selftest N | certify NET CON | check NET CON CERT | campaign STEPS SEED NET CON | help\n";
 
 fn usage(alloc: Global) -> Result<Answer, NoMemory>
     ensures { IfOk result IsUsage }
@@ -51,6 +52,12 @@ fn answer_request<F: Files>(
         Request::Selftest { channels } => answer_of(alloc, selftest(alloc, channels)),
         Request::Certify { net, con } => answer_of(alloc, certify(alloc, files, net, con)),
         Request::Check { net, con, cert } => answer_of(alloc, check(alloc, files, net, con, cert)),
+        Request::Campaign {
+            steps,
+            seed,
+            net,
+            con,
+        } => answer_of(alloc, campaign(alloc, files, steps, seed, net, con)),
         Request::Show(page) => page::show(alloc, page),
     }
 }

@@ -27,9 +27,9 @@ use Rattle.clap.specs.declared.parser.matches.ArgMatches.{ArgMatches}
 use Rattle.clap.specs.declared.parser.matches.ArgMatches.TheViews.{out-ArgMatches, out-SubCommand}
 use Rattle.clap.specs.declared.parser.matches.SubCommand.{SubCommand}
 use Rattle.clap.proofs.ValueTestLemmas.{accepts-Accepts}
-use Rattle.command_line.specs.Cli.{cli, HasNumber, IsTaken, digits_of, audit_app, replay_app, selftest_app, certify_app, check_app}
+use Rattle.command_line.specs.Cli.{cli, HasNumber, IsCommand, IsTaken, digits_of, audit_app, replay_app, selftest_app, certify_app, check_app, campaign_app}
 use Rattle.command_line.proofs.Numbers.{written}
-use Rattle.command_line.proofs.Rows.{Each, found_each, help_keeps, level_one, or_empty, own_keeps}
+use Rattle.command_line.proofs.Rows.{Each, found_each, help_keeps, level_one, or_empty, other_keeps, own_keeps}
 
 checked_by : (b x r y : Bool) → r ≡ true → check_kinds (not b && x) (not b && r) y ≡ [] → b ≡ true
 checked_by true x r y required e = refl
@@ -110,14 +110,32 @@ number_there low high id rows t is passes =
       most = subst (λ (ds : Text). digits_value 10 ds ≤ high) digits w.most;
     }
 
+-- a subcommand that has no number
+numberless : (name : Text) (rows : List Row) → IsCommand name → bytes_eq name name ≡ true → bytes_eq name (codes "selftest") ≡ false → bytes_eq name (codes "campaign") ≡ false → IsTaken name rows
+numberless name rows command same no_test no_campaign = record {
+  command = command;
+  channels = λ e. absurd (other_name name (codes "selftest") same no_test e);
+  steps = λ e. absurd (other_name name (codes "campaign") same no_campaign e);
+  seed = λ e. absurd (other_name name (codes "campaign") same no_campaign e);
+}
+
 audit_takes : TakesOwn (sub audit_app)
-audit_takes ws none = record { command = inl refl; channels = λ e. absurd (other_name (codes "audit") (codes "selftest") refl refl e) }
+audit_takes ws none = numberless (codes "audit") (rows_after (sub audit_app).rules [] ws) (inl refl) refl refl refl
 
 replay_takes : TakesOwn (sub replay_app)
-replay_takes ws none = record { command = inr (inl refl); channels = λ e. absurd (other_name (codes "replay") (codes "selftest") refl refl e) }
+replay_takes ws none = numberless (codes "replay") (rows_after (sub replay_app).rules [] ws) (inr (inl refl)) refl refl refl
+
+certify_takes : TakesOwn (sub certify_app)
+certify_takes ws none = numberless (codes "certify") (rows_after (sub certify_app).rules [] ws) (inr (inr (inr (inl refl)))) refl refl refl
+
+check_takes : TakesOwn (sub check_app)
+check_takes ws none = numberless (codes "check") (rows_after (sub check_app).rules [] ws) (inr (inr (inr (inr (inl refl))))) refl refl refl
 
 abbrev channels_parser : Option ValueParser
 channels_parser = Some (vp.Signed (pos 1) (pos 10000))
+
+abbrev seed_parser : Option ValueParser
+seed_parser = Some (vp.Signed (pos 0) (pos 4294967295))
 
 selftest_takes : TakesOwn (sub selftest_app)
 selftest_takes ws none =
@@ -127,16 +145,52 @@ selftest_takes ws none =
     record {
       command = inr (inr (inl refl));
       channels = λ e. number_there 1 10000 (codes "N") (rows_after (sub selftest_app).rules [] ws) t is passes;
+      steps = λ e. absurd (other_name (codes "selftest") (codes "campaign") refl refl e);
+      seed = λ e. absurd (other_name (codes "selftest") (codes "campaign") refl refl e);
     }
 
-certify_takes : TakesOwn (sub certify_app)
-certify_takes ws none = record { command = inr (inr (inr (inl refl))); channels = λ e. absurd (other_name (codes "certify") (codes "selftest") refl refl e) }
+campaign_steps : (ws : List Text) → level_fault (sub campaign_app) [] nothing_held ws false [] ≡ [] → HasNumber 1 10000 (codes "STEPS") (rows_after (sub campaign_app).rules [] ws)
+campaign_steps ws none =
+    let id = codes "STEPS" in
+    let (t, is, passes) = level_one id reading.WithoutMinus (accepts false (vp.Signed (pos 1) (pos 10000))) (sub campaign_app).rules (
+      own_keeps id channels_parser 1,
+      (
+        other_keeps id channels_parser (codes "SEED") seed_parser 2 refl,
+        (
+          other_keeps id channels_parser (codes "NET") None 3 refl,
+          (other_keeps id channels_parser (codes "CON") None 4 refl, (help_keeps id channels_parser 5, tt)),
+        ),
+      ),
+    ) (sub campaign_app) refl refl ws none
+    (λ e. given (is_given id (rows_after (sub campaign_app).rules [] ws)) (all_given (sub campaign_app) (rows_after (sub campaign_app).rules [] ws) refl e).0) in
+    number_there 1 10000 id (rows_after (sub campaign_app).rules [] ws) t is passes
 
-check_takes : TakesOwn (sub check_app)
-check_takes ws none = record { command = inr (inr (inr (inr refl))); channels = λ e. absurd (other_name (codes "check") (codes "selftest") refl refl e) }
+campaign_seed : (ws : List Text) → level_fault (sub campaign_app) [] nothing_held ws false [] ≡ [] → HasNumber 0 4294967295 (codes "SEED") (rows_after (sub campaign_app).rules [] ws)
+campaign_seed ws none =
+    let id = codes "SEED" in
+    let (t, is, passes) = level_one id reading.WithoutMinus (accepts false (vp.Signed (pos 0) (pos 4294967295))) (sub campaign_app).rules (
+      other_keeps id seed_parser (codes "STEPS") channels_parser 1 refl,
+      (
+        own_keeps id seed_parser 2,
+        (
+          other_keeps id seed_parser (codes "NET") None 3 refl,
+          (other_keeps id seed_parser (codes "CON") None 4 refl, (help_keeps id seed_parser 5, tt)),
+        ),
+      ),
+    ) (sub campaign_app) refl refl ws none
+    (λ e. given (is_given id (rows_after (sub campaign_app).rules [] ws)) (all_given (sub campaign_app) (rows_after (sub campaign_app).rules [] ws) refl e).1.0) in
+    number_there 0 4294967295 id (rows_after (sub campaign_app).rules [] ws) t is passes
+
+campaign_takes : TakesOwn (sub campaign_app)
+campaign_takes ws none = record {
+  command = inr (inr (inr (inr (inr refl))));
+  channels = λ e. absurd (other_name (codes "campaign") (codes "selftest") refl refl e);
+  steps = λ e. campaign_steps ws none;
+  seed = λ e. campaign_seed ws none;
+}
 
 all_take : Each TakesOwn (built cli).subs
-all_take = (audit_takes, (replay_takes, (selftest_takes, (certify_takes, (check_takes, tt)))))
+all_take = (audit_takes, (replay_takes, (selftest_takes, (certify_takes, (check_takes, (campaign_takes, tt))))))
 
 entered_one : (stop : Option (Text × List Text)) → is_some (entered (built cli) stop) ≡ true → entered_fault (built cli) stop ≡ [] → IsTakenOne (entered (built cli) stop)
 entered_one None e none = cc

@@ -9,9 +9,9 @@ use Rattle.clap.specs.Words.{first_of, one_of, fault_of, subcommand_of}
 use Rattle.clap.specs.Simple.{on_top}
 use Rattle.clap.specs.declared.builder.action.ArgAction.TheVariants.{SetTrue}
 use Rattle.clap.specs.declared.builder.value_parser.ValueParser.TheVariants as vp
-use Rattle.command_line.specs.Asked.{Asked, audit, replay, selftest, certify, check, shown}
+use Rattle.command_line.specs.Asked.{Asked, audit, replay, selftest, certify, check, campaign, shown}
 use Rattle.command_line.specs.declared.Request.{Request}
-use Rattle.command_line.specs.declared.Request.TheVariants.{Audit, Replay, Selftest, Certify, Check, Show}
+use Rattle.command_line.specs.declared.Request.TheVariants.{Audit, Replay, Selftest, Certify, Check, Campaign, Show}
 use Rattle.command_line.specs.declared.Page.{Page}
 use Rattle.command_line.specs.declared.Page.TheVariants.{Help, Version}
 
@@ -50,14 +50,21 @@ abbrev pub check_app : App
 check_app = with_rule (with_rule (with_rule (new_app (codes "check")) (required_rule (codes "NET")))
     (required_rule (codes "CON"))) (required_rule (codes "CERT"))
 
+-- `campaign STEPS SEED NET CON`, first without the files
+abbrev pub numbered_app : App
+numbered_app = with_rule (with_rule (new_app (codes "campaign")) (number_rule (codes "STEPS") 1 10000)) (number_rule (codes "SEED") 0 4294967295)
+
+abbrev pub campaign_app : App
+campaign_app = with_rule (with_rule numbered_app (required_rule (codes "NET"))) (required_rule (codes "CON"))
+
 -- the command takes no word for the program's name and wants a subcommand
 abbrev pub cli_head : App
 cli_head = on_top (λ s. record s { no_binary_name = true; subcommand_required = true; disable_help_subcommand = true }) (new_app (codes "cdcaudit"))
 
 -- it has these subcommands
 abbrev pub cli : App
-cli = with_subcommand (with_subcommand (with_subcommand (with_subcommand (with_subcommand cli_head
-    audit_app.top) replay_app.top) selftest_app.top) certify_app.top) check_app.top
+cli = with_subcommand (with_subcommand (with_subcommand (with_subcommand (with_subcommand (with_subcommand cli_head
+    audit_app.top) replay_app.top) selftest_app.top) certify_app.top) check_app.top) campaign_app.top
 
 -- the words for a page, which stand alone
 abbrev pub pages : List (Text × Page)
@@ -109,7 +116,8 @@ asked_by name rows =
     else (if bytes_eq name (codes "selftest") then Some (selftest (number_of (codes "N") rows))
     else (if bytes_eq name (codes "certify") then Some (certify (text_of (codes "NET") rows) (text_of (codes "CON") rows))
     else (if bytes_eq name (codes "check") then Some (check (text_of (codes "NET") rows) (text_of (codes "CON") rows) (text_of (codes "CERT") rows))
-    else None))))
+    else (if bytes_eq name (codes "campaign") then Some (campaign (number_of (codes "STEPS") rows) (number_of (codes "SEED") rows) (text_of (codes "NET") rows) (text_of (codes "CON") rows))
+    else None)))))
 
 abbrev pub asked_from : Option Page → Option (Text × List Row) → Option Asked
 asked_from (Some page) found = Some (shown page)
@@ -125,9 +133,10 @@ pub record AsksFor (words : List Text) (asked : Asked) : Type 0 where
   pub accepted : IsAccepted words
   pub asks : asked_in words ≡ Some asked
 
--- counts of channels are from 1 to 10,000
+-- counts of channels and of steps are from 1 to 10,000, and a seed is below 2^32
 abbrev pub IsInRange : Asked → Type 0
 IsInRange (selftest channels) = (1 ≤ channels) × (channels ≤ 10000)
+IsInRange (campaign steps seed net con) = (1 ≤ steps) × (steps ≤ 10000) × (seed ≤ 4294967295)
 IsInRange _ = Unit {0}
 
 -- the files that it names, in the order of the words
@@ -137,6 +146,7 @@ named_files (replay net con run) = net ∷ con ∷ run ∷ []
 named_files (selftest channels) = []
 named_files (certify net con) = net ∷ con ∷ []
 named_files (check net con cert) = net ∷ con ∷ cert ∷ []
+named_files (campaign steps seed net con) = net ∷ con ∷ []
 named_files (shown page) = []
 
 -- the files that the words name
@@ -150,13 +160,17 @@ asked_of (Replay net con run) = replay net.now con.now run.now
 asked_of (Selftest channels) = selftest channels
 asked_of (Certify net con) = certify net.now con.now
 asked_of (Check net con cert) = check net.now con.now cert.now
+asked_of (Campaign steps seed net con) = campaign steps seed net.now con.now
 asked_of (Show page) = shown page
 
 -- a name of one of the subcommands
 abbrev pub IsCommand : Text → Type 0
-IsCommand name = (name ≡ codes "audit") ⊎ ((name ≡ codes "replay") ⊎ ((name ≡ codes "selftest") ⊎ ((name ≡ codes "certify") ⊎ (name ≡ codes "check"))))
+IsCommand name = (name ≡ codes "audit") ⊎ ((name ≡ codes "replay") ⊎ ((name ≡ codes "selftest") ⊎ ((name ≡ codes "certify")
+    ⊎ ((name ≡ codes "check") ⊎ (name ≡ codes "campaign")))))
 
--- a subcommand with the values that it has where the command takes the words: its number is there and in its range
+-- a subcommand with the values that it has where the command takes the words: its numbers are there and in their ranges
 pub record IsTaken (name : Text) (rows : List Row) : Type 0 where
   pub command : IsCommand name
   pub channels : name ≡ codes "selftest" → HasNumber 1 10000 (codes "N") rows
+  pub steps : name ≡ codes "campaign" → HasNumber 1 10000 (codes "STEPS") rows
+  pub seed : name ≡ codes "campaign" → HasNumber 0 4294967295 (codes "SEED") rows

@@ -5,7 +5,7 @@ ghost use Rattle.std.specs.Prelude.{◌≡◌, ◌≢◌, [], None, Option, IfOk
 ghost use Rattle.std.specs.Prelude.{codes};
 ghost use Rattle.clap.specs.Words.{app_of, fault_of, subcommand_of, subcommand_rows_of, rows_of, found_of, with_subcommand};
 ghost use Rattle.clap.specs.declared.builder.command.Command.TheViews.{out-Command};
-ghost use Rattle.command_line.specs.Cli.{audit_app, replay_app, selftest_app, certify_app, check_app, cli_head, cli};
+ghost use Rattle.command_line.specs.Cli.{audit_app, replay_app, selftest_app, certify_app, check_app, numbered_app, campaign_app, cli_head, cli};
 ghost use Rattle.command_line.specs.Cli.{page_named as named_page, page_of as asked_page, text_of, number_of, HasNumber, IsTaken};
 ghost use Rattle.command_line.specs.Cli.{asked_by, asked_from, asked_of, AsksFor, HasReading, IsAccepted, IsInRange};
 
@@ -14,7 +14,8 @@ use clap::{Arg, ArgAction, ArgMatches, Command};
 use std::alloc::{AllocError, Global};
 
 /// What the words ask for. `net`, `con`, `run` and `cert` are the names of the netlist, the constraint file, the record of
-/// a run and the certificate; `channels` counts the channels of the generated design, 1 to 10,000.
+/// a run and the certificate; `channels` counts the channels of the generated design, 1 to 10,000, and `steps` those of a
+/// campaign, 1 to 10,000.
 pub enum Request<'a> {
     Audit {
         json: bool,
@@ -37,6 +38,12 @@ pub enum Request<'a> {
         net: &'a str,
         con: &'a str,
         cert: &'a str,
+    },
+    Campaign {
+        steps: u32,
+        seed: u32,
+        net: &'a str,
+        con: &'a str,
     },
     Show(Page),
 }
@@ -111,6 +118,27 @@ fn check_command<'a>(alloc: Global) -> Result<Command<'a>, AllocError>
     Command::new(alloc, "check").arg(net)?.arg(con)?.arg(cert)
 }
 
+/// The command of a campaign with its numbers.
+fn numbered_command<'a>(alloc: Global) -> Result<Command<'a>, AllocError>
+    ensures { IfOk result (λ c. (app_of c ≡ numbered_app) × ((out-Command c).has_globals ≡ false)) }
+{
+    let steps = Arg::new(alloc, "STEPS")
+        .required(true)
+        .value_parser(clap::value_parser!(u32).range(1..=10_000));
+    let seed = Arg::new(alloc, "SEED")
+        .required(true)
+        .value_parser(clap::value_parser!(u32));
+    Command::new(alloc, "campaign").arg(steps)?.arg(seed)
+}
+
+fn campaign_command<'a>(alloc: Global) -> Result<Command<'a>, AllocError>
+    ensures { IfOk result (λ c. (app_of c ≡ campaign_app) × ((out-Command c).has_globals ≡ false)) }
+{
+    let net = Arg::new(alloc, "NET").required(true);
+    let con = Arg::new(alloc, "CON").required(true);
+    numbered_command(alloc)?.arg(net)?.arg(con)
+}
+
 /// The command without its subcommands.
 fn bare_command<'a>(alloc: Global) -> Command<'a>
     ensures { (app_of result ≡ cli_head) × ((out-Command result).has_globals ≡ false) }
@@ -137,7 +165,8 @@ fn command<'a>(alloc: Global) -> Result<Command<'a>, AllocError>
     let command = with_command(command, replay_command(alloc)?)?;
     let command = with_command(command, selftest_command(alloc)?)?;
     let command = with_command(command, certify_command(alloc)?)?;
-    with_command(command, check_command(alloc)?)
+    let command = with_command(command, check_command(alloc)?)?;
+    with_command(command, campaign_command(alloc)?)
 }
 
 fn matches<'a>(alloc: Global, words: &'a [String]) -> Result<ArgMatches<'a>, Refusal>
@@ -167,6 +196,18 @@ fn number(found: &ArgMatches, id: &str) -> u32
     found.get_one::<u32>(id).unwrap_or(0)
 }
 
+fn read_campaign<'a>(found: &ArgMatches<'a>) -> Request<'a>
+    requires { IsTaken (codes "campaign") (rows_of (found_of found.now)) }
+    ensures { (asked_by (codes "campaign") (rows_of (found_of found.now)) ≡ Some (asked_of result)) × IsInRange (asked_of result) }
+{
+    Request::Campaign {
+        steps: number(found, "STEPS"),
+        seed: number(found, "SEED"),
+        net: text(found, "NET"),
+        con: text(found, "CON"),
+    }
+}
+
 fn read_request<'a>(name: &str, found: &ArgMatches<'a>) -> Request<'a>
     requires { IsTaken name.now (rows_of (found_of found.now)) }
     ensures { (asked_by name.now (rows_of (found_of found.now)) ≡ Some (asked_of result)) × IsInRange (asked_of result) }
@@ -189,11 +230,12 @@ fn read_request<'a>(name: &str, found: &ArgMatches<'a>) -> Request<'a>
             net: text(found, "NET"),
             con: text(found, "CON"),
         },
-        _ => Request::Check {
+        "check" => Request::Check {
             net: text(found, "NET"),
             con: text(found, "CON"),
             cert: text(found, "CERT"),
         },
+        _ => read_campaign(found),
     }
 }
 

@@ -76,6 +76,9 @@ runs net is next = record {
   registers = λ r i. next r.sig r.next (next_is net.regs r (net_ascends net is) i);
 }
 
+pub can_open : (net : Net) (domains : Domains) → CanReplay net domains → CanOpen net domains
+can_open net domains can = record { cells = runs net can.is_net can.next_cells; fit = can.fit; numbered = can.read.signals; starts = can.starts }
+
 -- ---- the answer
 
 module _ (net : Net) (domains : Domains) (bytes : List ℕ) where
@@ -97,13 +100,10 @@ module _ (net : Net) (domains : Domains) (bytes : List ℕ) where
   pub run_of : CanReplay net domains → (r : RunRecord) → IsMeaning net domains bytes r → FitsNet net domains r → (answer : Result (List ℕ) Stop)
       → (IsPrintable net domains → CanOpen net domains → AreStarts net domains r.start → AreSteps net domains r.steps → IsRunText net domains r answer)
       → IsReplayOf net domains bytes (ended_with Record answer)
-  run_of can r means fits answer told = ended answer (told printable opens fits.starts steps)
+  run_of can r means fits answer told = ended answer (told printable (can_open net domains can) fits.starts steps)
     where
       printable : IsPrintable net domains
       printable = record { numbered = can.read.signals; statics = can.read.statics }
-
-      opens : CanOpen net domains
-      opens = record { cells = runs net can.is_net can.next_cells; fit = can.fit; numbered = can.read.signals; starts = can.starts }
 
       steps : AreSteps net domains r.steps
       steps = record { numbered = (let l = fits.few in omega arith); fit = fits.steps }

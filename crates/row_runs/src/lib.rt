@@ -99,3 +99,22 @@ pub fn replayed(alloc: Global, net: &str, con: &str, run: &str) -> Result<String
     };
     answered(alloc, "replay net.v con.toml run.json", &outside)
 }
+
+/// The answer to a campaign of so many steps with this seed, over files and an output that don't fail.
+pub fn campaigned(
+    alloc: Global,
+    net: &str,
+    con: &str,
+    steps: u32,
+    seed: u32,
+) -> Result<String, Fail> {
+    let outside = Outside {
+        net: net.as_bytes(),
+        con,
+        run: "",
+        reads: &[],
+        puts: &[],
+    };
+    let words = format!(in alloc; "campaign {steps} {seed} net.v con.toml")?;
+    answered(alloc, words.as_str(), &outside)
+}

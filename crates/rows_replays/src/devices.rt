@@ -7,7 +7,7 @@ use std::test::Fail;
 fn words_and_reads(rt: HostRuntime) -> Result<(), Fail> {
     let alloc = rt.alloc();
     let usage =
-        "usage: cdcaudit audit [--json] NET CON | replay NET CON RUN | selftest N | certify NET CON | check NET CON CERT | help\n2";
+        "usage: cdcaudit audit [--json] NET CON | replay NET CON RUN | selftest N | certify NET CON | check NET CON CERT | campaign STEPS SEED NET CON | help\n2";
     let json =
         "{\"clean\":true,\"covers\":[{\"from\":\"a\",\"n\":2,\"scheme\":\"two-flop\",\"to\":\"s1\"}],\"crossings\":1,\"findings\":[],\"gray\":[],\"rings\":[]}\n0";
     let con = constraints(alloc, "d")?;
@@ -15,12 +15,26 @@ fn words_and_reads(rt: HostRuntime) -> Result<(), Fail> {
         ("audit net.v", 0, usage),
         ("", 0, usage),
         ("selftest 10001", 0, usage),
+        ("campaign 0 1 net.v con.toml", 0, usage),
+        ("campaign 10001 1 net.v con.toml", 0, usage),
+        ("campaign 1 4294967296 net.v con.toml", 0, usage),
+        ("campaign 1 net.v con.toml", 0, usage),
         ("--help --help", 0, usage),
         ("version", 1, "cdcaudit 1.0\n0"),
         ("-V", 1, "cdcaudit 1.0\n0"),
         ("audit --json net.v con.toml", 0, json),
         (
             "audit net.v other.toml",
+            0,
+            "error E001: cannot read: other.toml\n6",
+        ),
+        (
+            "campaign 1 -- -0 net.v con.toml",
+            0,
+            "no loose capture in 8 runs of 1 steps\n0",
+        ),
+        (
+            "campaign 4 1 net.v other.toml",
             0,
             "error E001: cannot read: other.toml\n6",
         ),

@@ -3,7 +3,7 @@ use Rattle.clap.specs.declared.builder.command.Command.{Command}
 use Rattle.clap.specs.declared.builder.command.Command.TheViews.{out-Command}
 use Rattle.std.proofs.lemmas.Result.{IfOk-weaker}
 use Rattle.clap.specs.Words.{App, app_of, with_subcommand}
-use Rattle.command_line.specs.Cli.{audit_app, replay_app, selftest_app, certify_app, check_app, cli_head}
+use Rattle.command_line.specs.Cli.{audit_app, replay_app, selftest_app, certify_app, check_app, campaign_app, cli_head}
 use Rattle.command_line.proofs.command.Goals as goal
 
 -- the command is this one, and it has no argument for all levels
@@ -23,4 +23,5 @@ returns c =
     let two = one_more _ _ _ _ replay_app one c.in_ok-replay_command.ensures c.in_ok-command-2.ensures in
     let three = one_more _ _ _ _ selftest_app two c.in_ok-selftest_command.ensures c.in_ok-command-3.ensures in
     let four = one_more _ _ _ _ certify_app three c.in_ok-certify_command.ensures c.in_ok-command-4.ensures in
-    IfOk-weaker c.with_command-5.result _ _ (λ whole more. one_more whole _ _ _ check_app four c.in_ok-check_command.ensures more) c.with_command-5.ensures
+    let five = one_more _ _ _ _ check_app four c.in_ok-check_command.ensures c.in_ok-command-5.ensures in
+    IfOk-weaker c.with_command-6.result _ _ (λ whole more. one_more whole _ _ _ campaign_app five c.in_ok-campaign_command.ensures more) c.with_command-6.ensures

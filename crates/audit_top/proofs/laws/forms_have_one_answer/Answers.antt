@@ -1,5 +1,5 @@
 use Rattle.described_design.proofs.SameConstraints.{same_refusal}
-use Rattle.audit_top.proofs.SameAnswers.{same_audit, same_audit_refusal, same_certify, same_certify_refusal, same_check, same_check_refusal, same_replay}
+use Rattle.audit_top.proofs.SameAnswers.{same_audit, same_audit_refusal, same_campaign, same_campaign_refusal, same_certify, same_certify_refusal, same_check, same_check_refusal, same_replay}
 use Rattle.audit_top.proofs.laws.forms_have_one_answer.Goals as goal
 
 pub returns-clause-audited : goal.returns-clause-audited
@@ -13,6 +13,12 @@ returns-clause-certified c = same_certify
 
 pub returns-clause-checked : goal.returns-clause-checked
 returns-clause-checked c = same_check
+
+pub returns-clause-campaigned : goal.returns-clause-campaigned
+returns-clause-campaigned c = same_campaign
+
+pub returns-clause-campaign_refused : goal.returns-clause-campaign_refused
+returns-clause-campaign_refused c = same_campaign_refusal
 
 pub returns-clause-certify_refused : goal.returns-clause-certify_refused
 returns-clause-certify_refused c = same_certify_refusal

@@ -1,9 +1,11 @@
 use Rattle.std.proofs.Common.{refl, subst, ap}
 use Rattle.command_line.specs.Asked.{Asked}
 use Rattle.command_line.specs.Cli.{AsksFor, asked_of}
-use Rattle.command_line.specs.Asked.{audit, replay, selftest, certify, check, shown}
+use Rattle.command_line.specs.Asked.{audit, replay, selftest, certify, check, campaign, shown}
 use Rattle.audit_command.specs.Audits.{IsAuditOf}
 use Rattle.audit_command.specs.Refused.{IsAuditRefused}
+use Rattle.campaign_command.specs.Campaigns.{IsCampaignOf}
+use Rattle.campaign_command.specs.Refused.{IsCampaignRefused}
 use Rattle.certify_command.specs.Certifies.{IsCertifyOf}
 use Rattle.certify_command.specs.Refused.{IsCertifyRefused}
 use Rattle.check_command.specs.Checks.{IsCheckOf}
@@ -50,6 +52,16 @@ returns-in-Check-clause-answered g c = λ words asks.
     let cert = c.in-Check.cert.now in
     let here = subst (λ (x : Asked). AsksFor words x) (ap asked_of c.in-Check.is) asks in
     answered_all words _ _ (check net con cert) here (IsCheckOf con) (IsCheckRefused con) net con cert refl (λ s t h. h) _ _ c.check.ensures c.answer_of-in-Check.ensures
+
+pub returns-in-Campaign-clause-answered : goal.returns-in-Campaign-clause-answered
+returns-in-Campaign-clause-answered g c = λ words asks.
+    let steps = c.in-Campaign.steps in
+    let seed = c.in-Campaign.seed in
+    let net = c.in-Campaign.net.now in
+    let con = c.in-Campaign.con.now in
+    let here = subst (λ (x : Asked). AsksFor words x) (ap asked_of c.in-Campaign.is) asks in
+    answered_both words _ _ (campaign steps seed net con) here (IsCampaignOf steps seed con) (IsCampaignRefused con) net con refl (λ s t h. h) _ _ c.campaign.ensures
+    c.answer_of-in-Campaign.ensures
 
 pub returns-in-Show-clause-answered : goal.returns-in-Show-clause-answered
 returns-in-Show-clause-answered g c = λ words asks.

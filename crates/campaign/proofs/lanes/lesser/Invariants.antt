@@ -1,0 +1,5 @@
+use Rattle.std.proofs.Common.{◌≡◌, ℕ, ◌<◌, cond, nat_lt, get_or, length}
+use Rattle.campaign.proofs.lanes.lesser.Given as goal
+
+abbrev pub invariant-loop-i : goal.invariant-loop-i
+invariant-loop-i l = (length l.out ≡ 8) × ((k : ℕ) → k < l.i → get_or l.out k 0 ≡ cond (nat_lt (get_or l.a k 0) (get_or l.b k 0)) 1 0)

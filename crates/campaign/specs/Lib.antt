@@ -1,0 +1,17 @@
+pub mod Lanes
+pub mod Draws
+pub mod Numbers
+pub mod Edges
+pub mod Names
+pub mod Plan
+pub mod Planned
+pub mod Drawn
+pub mod Campaign
+pub mod Lines
+pub mod Tested
+pub mod Torn
+pub mod Room
+pub mod Run
+pub mod Rows
+pub mod Searched
+pub mod Shows

@@ -1,0 +1,4 @@
+pub mod Calm
+pub mod Campaigns
+pub mod Clean
+pub mod Once

@@ -1,0 +1,9 @@
+pub mod Lines
+pub mod ReadValues
+pub mod Shaped
+pub mod Orders
+pub mod Named
+pub mod Written
+pub mod Drawn
+pub mod Replayed
+pub mod Found
