@@ -11,4 +11,3 @@ pub mod ResetRows
 pub mod Processes
 pub mod LevelLists
 pub mod KeptRows
-pub mod TestedResets

@@ -5,34 +5,33 @@ ghost use Rattle.std.specs.List.{list_all, list_any};
 ghost use Rattle.refusals.specs.Numbers.{HasNumberIn, unfolding_numbers};
 ghost use Rattle.cdc_base.specs.declared.signal.ResetPin.{ResetPin};
 ghost use Rattle.verilog_reading.specs.ExprTree.{tree_of};
-ghost use Rattle.verilog_reading.specs.StmtTree.{StmtTree, subject_of, arms_of, stmt_tree_of};
+ghost use Rattle.verilog_reading.specs.StmtTree.{StmtTree, stmt_tree_of};
 ghost use Rattle.flat_meaning.specs.Flat.{Stmt as FlatStmt};
-ghost use Rattle.flat_form.specs.View.{stmt_of};
 ghost use Rattle.flat_unfolding.specs.Outcome.{Broken, breaks_if, then_, judged, by_number};
 ghost use Rattle.flat_unfolding.specs.Names as n;
 ghost use Rattle.flat_unfolding.specs.Statements.{clocked as clocked_kind, of_wires, done};
 ghost use Rattle.flat_unfolding.specs.Reads.{latch_rule};
 ghost use Rattle.flat_unfolding.specs.Resets as q;
-ghost use Rattle.flat_unfolding.specs.Resets.{left as left_of, other_branch as other_branch_of, form_with as form_with_of, items_form as items_form_of, reset_form as reset_form_of, reset_rules, is_edge_of as is_edge_of_reset, is_active_edge as is_active, is_malformed as is_malformed_of};
+ghost use Rattle.flat_unfolding.specs.Resets.{reset_form as reset_form_of, reset_rules, is_edge_of as is_edge_of_reset, is_active_edge as is_active, is_malformed as is_malformed_of};
 ghost use Rattle.flat_unfolding.specs.Design as u;
 ghost use Rattle.flat_unfolding.specs.Design.{Stage, look_of};
 ghost use Rattle.flat_unfolding.specs.Processes as w;
 ghost use Rattle.flat_unfolding.specs.Processes.{always_item, edge_rules, event_rules, clocked_rules, pair_rules, taking_rules, clocked_body, body_with, reset_of, reset_gives, form_of};
-ghost use Rattle.flat_unfolding.specs.Widths.{stmt_keeps_sizes};
-ghost use Rattle.flat_unfolding.specs.Formed.{IsFormed, IsStmtFormed, AreArmsFormed};
+ghost use Rattle.flat_unfolding.specs.Formed.{IsFormed, IsStmtFormed};
 ghost use Rattle.flat_names.specs.Noting.{all_noted};
 ghost use Rattle.flat_names.specs.Looks.{Shows, IsFit};
 ghost use Rattle.flat_names.specs.Designs.{IsPin, ShowsDesign, ShowsStage, Ends, Meets, signal_of};
-ghost use Rattle.flat_statements.specs.Statements.{kind_of, arm_tree_of, IsDone};
+ghost use Rattle.flat_statements.specs.Statements.{kind_of, IsDone};
 ghost use Rattle.flat_process.specs.Assigns.{fresh};
-ghost use Rattle.flat_process.specs.Resets.{ArePins, tested_of};
-ghost use Rattle.flat_process.specs.Processes.{process_at, lacks_reset, IsBody, reset_with, IsClocked, IsForm, IsFormIf, has_rule};
+ghost use Rattle.flat_process.specs.Resets.{ArePins};
+ghost use Rattle.flat_process.specs.Processes.{process_at, lacks_reset, IsBody, reset_with, IsClocked, other_tree, left_tree, IsForm, IsFormIf, has_rule};
 
 use crate::kept::with_kept;
 use crate::others::reads_other;
-use crate::reset::{Given, is_reset, keep_given, peeled, reset_branch};
+use crate::reset::{
+    Given, is_reset, keep_given, peeled, reset_branch, reset_signals, tested_signals,
+};
 use crate::sensitivity::counts_as_star;
-use crate::tested::{Tested, condition_tested, item_tested};
 use cdc_base::{Name, NoMemory, Place, Stop};
 use flat_form::flat::{FStmt, FlatClocked, FlatComb, FlatReset};
 use flat_form::memory::push;
@@ -44,7 +43,7 @@ use flat_statements::statement::{Mode, statement};
 use process_delays::first_clash;
 use process_names::first_mixed;
 use std::alloc::Global;
-use verilog_ast::{CaseItem, Edge, EdgeKind, Event, Expr, Stmt};
+use verilog_ast::{Edge, EdgeKind, Event, Expr, Stmt};
 
 /// `always`: a process of wires, or one with a clock.
 pub fn add_process(
@@ -456,8 +455,8 @@ fn process_with_form(
     with_reset(look, clock, edge, whole, form)
 }
 
-/// A body in reset form: the signals of its resets, whether it reads another reset, its first branch, what that gives
-/// where it has its form, and what is left of the body.
+/// A body in reset form: the signals of its resets, whether it reads another reset in its condition or its other branch,
+/// its first branch, what that gives where it has its form, and what is left of the body.
 #[derive(Drop)]
 struct ResetForm {
     signals: Vec<u32>,
@@ -468,66 +467,22 @@ struct ResetForm {
 }
 
 fn reset_form(look: &Look, body: &Stmt) -> Result<Option<ResetForm>, NoMemory>
-    ensures { (l : n.Look) → Shows look.now l → IsFit l → IsStmtFormed (stmt_tree_of body.now)
-        → IfOk result (λ o. IsFormIf l (done l clocked_kind (stmt_tree_of body.now)).broken (reset_form_of l (stmt_tree_of body.now)) o) }
+    ensures { (pins : List ResetPin) (l : n.Look) → Shows look.now l → IsFit l → ArePins pins look.now l → IsStmtFormed (stmt_tree_of body.now)
+        → IfOk result (λ o. IsFormIf l (reset_form_of l (stmt_tree_of body.now)) o) }
 {
     let stmt = peeled(body);
-    match stmt {
-        Stmt::If { cond, yes, .. } => {
-            let tested = condition_tested(look, cond)?;
-            form_with(look, tested, yes, stmt)
-        }
-        Stmt::Case {
-            masks,
-            subject,
-            items,
-            ..
-        } => items_form(look, *masks, subject, items.as_slice(), stmt),
-        _ => Ok(None),
-    }
-}
-
-/// The reset form of a `casez`, which stands for a chain of `if`s; a `case` has none.
-fn items_form(
-    look: &Look,
-    masks: bool,
-    subject: &Expr,
-    items: &[CaseItem],
-    all: &Stmt,
-) -> Result<Option<ResetForm>, NoMemory>
-    ensures { (l : n.Look) → Shows look.now l → IsFit l → IsFormed (tree_of subject.now) → AreArmsFormed (arms_of (map arm_tree_of items.now)) → IsStmtFormed (stmt_tree_of all.now)
-        → IfOk result (λ o. IsFormIf l (done l clocked_kind (stmt_tree_of all.now)).broken (items_form_of l (subject_of masks (tree_of subject.now)) (arms_of (map arm_tree_of items.now)) (stmt_tree_of all.now)) o) }
-{
-    if !masks {
-        return Ok(None);
-    }
-    let Some((first, _)) = items.split_first() else {
+    let Stmt::If { cond, yes, other } = stmt else {
         return Ok(None);
     };
-    let tested = item_tested(look, subject, items)?;
-    form_with(look, tested, &first.body, all)
-}
-
-/// The reset form of a statement with this first branch, whose condition tests resets.
-fn form_with(
-    look: &Look,
-    tested: Option<Tested>,
-    branch: &Stmt,
-    all: &Stmt,
-) -> Result<Option<ResetForm>, NoMemory>
-    ensures { (l : n.Look) → Shows look.now l → IsFit l → IsStmtFormed (stmt_tree_of branch.now) → IsStmtFormed (stmt_tree_of all.now)
-        → IfOk result (λ o. IsFormIf l (done l clocked_kind (stmt_tree_of all.now)).broken (form_with_of l (option_map tested_of tested) (stmt_tree_of branch.now) (stmt_tree_of all.now)) o) }
-{
-    let Some(tested) = tested else {
+    let Some(signals) = tested_signals(look, cond)? else {
         return Ok(None);
     };
-    let reads_other = reads_other(look, all, tested.signals.as_slice())?;
-    let given = reset_branch(look, branch)?;
-    let branch = branch_body(look, branch)?;
-    let whole = branch_body(look, all)?;
-    let rest = left(tested.is_alone, whole);
+    let reads_other = reads_other(look, cond, other, signals.as_slice())?;
+    let branch = branch_body(look, yes)?;
+    let given = reset_branch(look, yes)?;
+    let rest = rest_body(look, stmt, cond, other)?;
     Ok(Some(ResetForm {
-        signals: tested.signals,
+        signals,
         reads_other,
         branch,
         given,
@@ -535,26 +490,28 @@ fn form_with(
     }))
 }
 
-/// What reset form leaves: the other branch where the condition tests resets alone, else all.
-fn left(is_alone: bool, stmt: FStmt) -> FStmt
-    ensures same { stmt_of result ≡ left_of is_alone (stmt_of stmt) }
-    ensures sizes { stmt_keeps_sizes stmt ≡ true → stmt_keeps_sizes result ≡ true }
+/// What is left of a body in reset form: its other branch where the condition tests resets alone, else all of it.
+fn rest_body(
+    look: &Look,
+    stmt: &Stmt,
+    cond: &Expr,
+    other: &Option<Box<Stmt>>,
+) -> Result<FStmt, NoMemory>
+    ensures { (l : n.Look) → Shows look.now l → IsFit l → IsFormed (tree_of cond.now) → IsStmtFormed (stmt_tree_of stmt.now) → IsStmtFormed (other_tree other.now)
+        → IfOk result (λ r. IsDone (done l clocked_kind (left_tree l (tree_of cond.now) (other_tree other.now) (stmt_tree_of stmt.now))) r) }
 {
-    if is_alone { other_branch(stmt) } else { stmt }
+    match reset_signals(look, cond)? {
+        Some(_) => other_body(look, other),
+        None => branch_body(look, stmt),
+    }
 }
 
-/// What stands behind the first condition.
-fn other_branch(stmt: FStmt) -> FStmt
-    ensures same { stmt_of result ≡ other_branch_of (stmt_of stmt) }
-    ensures sizes { stmt_keeps_sizes stmt ≡ true → stmt_keeps_sizes result ≡ true }
+fn other_body(look: &Look, other: &Option<Box<Stmt>>) -> Result<FStmt, NoMemory>
+    ensures { (l : n.Look) → Shows look.now l → IsFit l → IsStmtFormed (other_tree other.now) → IfOk result (λ r. IsDone (done l clocked_kind (other_tree other.now)) r) }
 {
-    match stmt {
-        FStmt::If {
-            other: Some(other),
-            ..
-        } => Box::into_inner(other),
-        FStmt::If { .. } => FStmt::Null,
-        stmt => stmt,
+    match other {
+        Some(other) => branch_body(look, other),
+        None => Ok(FStmt::Null),
     }
 }
 
@@ -606,7 +563,7 @@ fn note_reset(
     form: &Option<ResetForm>,
     faults: &mut Faults,
 ) -> Result<(), NoMemory>
-    ensures { (pins : List ResetPin) (l : n.Look) (bs : List Broken) (f : Option q.ResetForm) → Shows look.now l → ArePins pins look.now l → IsFormIf l bs f form.now
+    ensures { (pins : List ResetPin) (l : n.Look) (f : Option q.ResetForm) → Shows look.now l → ArePins pins look.now l → IsFormIf l f form.now
         → IfOk result (λ _. faults.new ≡ all_noted faults.old (reset_rules l (w.first_edge edges.now) (w.reset_edge l edges.now) f)) }
 {
     if breaks_reset(look, edges, form) {
@@ -616,7 +573,7 @@ fn note_reset(
 }
 
 fn breaks_reset(look: &Look, edges: &[Edge], form: &Option<ResetForm>) -> bool
-    ensures { (pins : List ResetPin) (l : n.Look) (bs : List Broken) (f : Option q.ResetForm) → Shows look.now l → ArePins pins look.now l → IsFormIf l bs f form.now
+    ensures { (pins : List ResetPin) (l : n.Look) (f : Option q.ResetForm) → Shows look.now l → ArePins pins look.now l → IsFormIf l f form.now
         → breaks_if result 317 (w.first_edge edges.now) ≡ reset_rules l (w.first_edge edges.now) (w.reset_edge l edges.now) f }
 {
     match form {
@@ -626,14 +583,14 @@ fn breaks_reset(look: &Look, edges: &[Edge], form: &Option<ResetForm>) -> bool
 }
 
 fn breaks_form(look: &Look, edges: &[Edge], form: &ResetForm) -> bool
-    ensures { (pins : List ResetPin) (l : n.Look) (bs : List Broken) (f : q.ResetForm) → Shows look.now l → ArePins pins look.now l → IsForm l bs f form.now
+    ensures { (pins : List ResetPin) (l : n.Look) (f : q.ResetForm) → Shows look.now l → ArePins pins look.now l → IsForm l f form.now
         → result ≡ (not (option_map_or (is_edge_of_reset l f.signals) (w.reset_edge l edges.now) true) || is_malformed_of l f) }
 {
     !fits_edge(look, edges, form.signals.as_slice()) || is_malformed(form)
 }
 
 fn is_malformed(form: &ResetForm) -> bool
-    ensures { (l : n.Look) (bs : List Broken) (f : q.ResetForm) → IsForm l bs f form.now → result ≡ is_malformed_of l f }
+    ensures { (l : n.Look) (f : q.ResetForm) → IsForm l f form.now → result ≡ is_malformed_of l f }
 {
     form.given.is_none() || form.reads_other
 }
@@ -694,7 +651,7 @@ fn with_reset(
     whole: FStmt,
     form: Option<ResetForm>,
 ) -> Result<Clocked, NoMemory>
-    ensures { (l : n.Look) (body : StmtTree) → Shows look.now l → IsDone (done l clocked_kind body) whole → IsFormIf l (done l clocked_kind body).broken (reset_form_of l body) form
+    ensures { (l : n.Look) (body : StmtTree) → Shows look.now l → IsDone (done l clocked_kind body) whole → IsFormIf l (reset_form_of l body) form
         → IfOk result (λ p. IsClocked (length l.entries) clock (body_with l body (reset_form_of l body)) (reset_with l edge body) (reset_gives l (reset_form_of l body)) (done l clocked_kind body).broken p) }
 {
     match form {

@@ -8,4 +8,3 @@ mod others;
 mod reset;
 mod sensitivity;
 pub mod start;
-mod tested;

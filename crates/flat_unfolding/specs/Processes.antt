@@ -171,7 +171,7 @@ module _ (look : Look) where
   -- what reset form leaves, else the whole
   abbrev pub body_without : StmtTree → Option ResetForm → Stmt
   body_without body None = (done look clocked body).stmt
-  body_without body (Some f) = f.rest
+  body_without body (Some f) = (done look clocked f.rest).stmt
 
   abbrev pub reset_gives : Option ResetForm → List Given
   reset_gives None = []
