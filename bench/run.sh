@@ -3,6 +3,7 @@
 # Where iverilog is installed, its own reading of the same netlist (-g2005 -t null) stands beside it, for two minutes at most.
 #   run.sh [PROGRAM]             the designs
 #   run.sh [PROGRAM] fifos       those with FIFOs alone, and the same without
+#   run.sh [PROGRAM] certificates    checks of certificates beside the audits of the same designs
 #   run.sh [PROGRAM] campaign    a replay and a campaign of 500 channels, beside a simulation by iverilog's vvp
 #   run.sh [PROGRAM] hostile     the texts that ask for trouble
 set -eu
@@ -57,6 +58,20 @@ fifos() {
     done
 }
 
+# The check of a clean design's certificate beside its audit.
+certificate() {
+    ./design.sh "$@" >"$room/net.v"
+    timed "audit of $*" "$program" audit "$room/net.v" "$room/con.toml"
+    "$program" certify "$room/net.v" "$room/con.toml" >"$room/cert"
+    timed "  check of its certificate" "$program" check "$room/net.v" "$room/con.toml" "$room/cert"
+}
+
+certificates() {
+    certificate channels 500
+    certificate channels 10000
+    certificate fifos 500
+}
+
 # A campaign of that many steps of 500 channels: eight runs, in which ca ticks in 13 of 16 steps on average and cb in 10, each the clock of
 # half of the register bits. Beside it one run of a simulator, with clocks and inputs drawn in the same way.
 campaign() {
@@ -74,6 +89,10 @@ campaign() {
 case ${2:-} in
 fifos)
     fifos
+    exit
+    ;;
+certificates)
+    certificates
     exit
     ;;
 campaign)
@@ -110,6 +129,7 @@ done
 fifos
 audit gates 1000000
 audit doublings
+certificates
 replay 100000 10 handshake
 replay 10000 12000 channels 500
 campaign 10000

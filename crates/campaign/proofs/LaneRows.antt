@@ -41,12 +41,6 @@ lane-kept i rows n row e = lane-set i rows n row ∙ ap (set (lane i rows) n) (e
 pub lane-put : (i : ℕ) (rows : List (List ℕ)) (n : ℕ) (row : List ℕ) (word : ℕ) → get_or row i 0 ≡ word → lane i (set rows n row) ≡ set (lane i rows) n word
 lane-put i rows n row word e = lane-set i rows n row ∙ ap (set (lane i rows) n) e
 
--- past the end nothing is put
-pub set-past : (xs : List ℕ) (n v : ℕ) → length xs ≤ n → set xs n v ≡ xs
-set-past [] n v h = refl
-set-past (x ∷ xs) zero v h = absurd (omega arith)
-set-past (x ∷ xs) (suc n) v h = ap (λ ys. x ∷ ys) (set-past xs n v (omega arith))
-
 one-more : (xs ws : List ℕ) (n w : ℕ) → n < length ws → length xs ≡ length ws → w ≡ get_or ws n 0 → take n xs ≡ take n ws → take (suc n) (set xs n w) ≡ take (suc n) ws
 one-more [] ws n w l e is h = absurd (omega arith)
 one-more (x ∷ xs) [] n w l e is h = absurd (omega arith)

@@ -61,8 +61,10 @@ impl Lanes {
     pub fn value_in(&self, id: CellId, index: usize) -> u64
         ensures { index < 8 → result ≡ word_at (lane index self.now) id.0 }
     {
-        let row = get_row(self.rows.as_slice(), id.0);
-        if index < 8 { row[index] } else { 0 }
+        match self.rows.get(id.0 as usize) {
+            Some(row) if index < 8 => row[index],
+            _ => 0,
+        }
     }
 }
 

@@ -27,7 +27,7 @@ fn is_loose(design: &Design, moment: &Moment, after: &[u64], bit: Bit, source: B
     ensures { result ≡ is_loose_in design.now.domains.now (copied_in design.now.cells.items design.now.copies) moment.now.words.items moment.now.cycles.items after.now bit source }
 {
     let before = moment.words.as_slice();
-    (are_apart(design.domains, source, bit) && value_of(before, source) != value_of(after, source))
+    (value_of(before, source) != value_of(after, source) && are_apart(design.domains, source, bit))
         || (cycles_of(moment.cycles.as_slice(), source) > 0
             && !is_settling(design, moment, bit, source))
 }
@@ -51,7 +51,7 @@ pub fn is_torn(
 ) -> bool
     ensures { result ≡ is_torn_in design.now.domains.now (copied_in design.now.cells.items design.now.copies) ticking.now moment.now.words.items moment.now.cycles.items after.now pair }
 {
-    ticks(design.domains, ticking, pair.to) && is_loose(design, moment, after, pair.to, pair.from)
+    is_loose(design, moment, after, pair.to, pair.from) && ticks(design.domains, ticking, pair.to)
 }
 
 /// Draws the choice of a settling flop, if it is torn.

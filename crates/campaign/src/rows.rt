@@ -1,5 +1,5 @@
 //! The words of eight runs in rows: for each signal a word of each run.
-ghost use Rattle.std.specs.Prelude.{◌≡◌, ◌≢◌, ◌<◌, ℕ, length, set, slice_index, IfOk};
+ghost use Rattle.std.specs.Prelude.{◌≡◌, ◌≢◌, ◌<◌, ℕ, length, set, IfOk};
 ghost use Rattle.cell_graph.specs.Unfolded.{IsWellFormed};
 ghost use Rattle.campaign.specs.Lanes.{lane};
 ghost use Rattle.campaign.specs.Rows.{AreWordsIn, AreValuesIn};
@@ -19,26 +19,14 @@ pub fn rows(alloc: Global, count: usize) -> Result<Vec<[u64; 8]>, NoMemory>
     }
 }
 
-/// The row with another word in one lane.
-fn with_word(row: [u64; 8], index: usize, word: u64) -> [u64; 8]
-    ensures put { index < 8 → slice_index result index ≡ word }
-    ensures kept { (i : ℕ) → i ≢ index → slice_index result i ≡ slice_index row i }
-{
-    let mut out = row;
-    if index < 8 {
-        out[index] = word;
-    }
-    out
-}
-
 /// Sets a word of one lane.
 fn put_one(rows: &mut [[u64; 8]], place: usize, index: usize, word: u64)
     ensures length { length rows.new ≡ length rows.old }
     ensures kept { (i : ℕ) → i ≢ index → lane i rows.new ≡ lane i rows.old }
     ensures put { index < 8 → lane index rows.new ≡ set (lane index rows.old) place word }
 {
-    if place < rows.len() {
-        rows[place] = with_word(rows[place], index, word);
+    if place < rows.len() && index < 8 {
+        rows[place][index] = word;
     }
 }
 

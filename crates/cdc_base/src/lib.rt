@@ -26,6 +26,3 @@ pub use name::Name;
 pub use outside::{FileFault, Files, Sink, SinkFault};
 pub use signal::{ResetPin, SigKind, Signal};
 pub use size::NumberSize;
-
-#[cfg(test)]
-mod tests;

@@ -284,6 +284,3 @@ pub fn read<'a>(alloc: Global, words: &'a [String]) -> Result<Request<'a>, Refus
         None => read_command(alloc, words),
     }
 }
-
-#[cfg(test)]
-mod tests;

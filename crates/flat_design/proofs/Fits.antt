@@ -5,7 +5,6 @@ use Rattle.verilog_ast.specs.declared.DeclKind.{DeclKind}
 use Rattle.verilog_ast.specs.declared.DeclKind.TheVariants as k
 use Rattle.verilog_ast.specs.declared.Edge.{Edge}
 use Rattle.verilog_ast.specs.declared.Event.{Event}
-use Rattle.verilog_ast.specs.declared.Event.TheVariants as event
 use Rattle.verilog_ast.specs.declared.GateKind.{GateKind}
 use Rattle.cdc_base.specs.declared.fault.Place.{Place}
 use Rattle.verilog_reading.specs.ExprTree.{ExprTree, TargetTree, whole}
@@ -18,7 +17,7 @@ use Rattle.flat_unfolding.specs.Design.{Design, Stage, look_of, with_design, cha
 use Rattle.flat_unfolding.specs.Expressions.{Term, read}
 use Rattle.flat_unfolding.specs.Starts.{Starts, with_starts, start_of, initial_starts, so_far}
 use Rattle.flat_unfolding.specs.Wires.{assign_item, gate_item}
-use Rattle.flat_unfolding.specs.Processes.{counts_as_star, wires_process, clocked_process, always_item}
+use Rattle.flat_unfolding.specs.Processes.{is_of_wires, edges_of, wires_process, clocked_process, always_item}
 use Rattle.flat_unfolding.specs.Signals.{from_outside}
 use Rattle.flat_unfolding.specs.Unfolding.{Visit, value_item, declared_value, item_of, directed_port, top_port, top_ports, declared_reset, with_resets}
 use Rattle.flat_unfolding.proofs.Steps.{judged_is, good_is, good_then, some_is}
@@ -61,19 +60,18 @@ gate-looks : (s t : Stage) (p : Place) (kind : GateKind) (es : List ExprTree) �
 gate-looks s t p kind [] e = subst (KeepsLook s) (judged_is by_number p _ _ t e).1 refl
 gate-looks s t p kind (x ∷ es) e = subst (KeepsLook s) (judged_is by_number p _ _ t e).1 refl
 
-wires-looks : (s t : Stage) (p : Place) (body : StmtTree) → wires_process s p body ≡ good t → KeepsLook s t
-wires-looks s t p body e = subst (KeepsLook s) (judged_is by_number p _ _ t e).1 refl
+wires-looks : (s t : Stage) (p : Place) (event : Event) (body : StmtTree) → wires_process s p event body ≡ good t → KeepsLook s t
+wires-looks s t p event body e = subst (KeepsLook s) (judged_is by_number p _ _ t e).1 refl
 
 clocked-looks : (s t : Stage) (p : Place) (edges : List Edge) (body : StmtTree) → clocked_process s p edges body ≡ good t → KeepsLook s t
 clocked-looks s t p edges body e = subst (KeepsLook s) (judged_is by_number p _ _ t e).1 refl
 
 always-looks : (s t : Stage) (p : Place) (event : Event) (body : StmtTree) → always_item s p event body ≡ good t → KeepsLook s t
-always-looks s t p event.Star body e = wires-looks s t p body e
-always-looks s t p (event.Edges edges) body e = go (counts_as_star (look_of s) edges body) e
+always-looks s t p event body e = go (is_of_wires event) e
   where
-    go : (b : Bool) → cond b (wires_process s p body) (clocked_process s p edges body) ≡ good t → KeepsLook s t
-    go true h = wires-looks s t p body h
-    go false h = clocked-looks s t p edges body h
+    go : (b : Bool) → cond b (wires_process s p event body) (clocked_process s p (edges_of event) body) ≡ good t → KeepsLook s t
+    go true h = wires-looks s t p event body h
+    go false h = clocked-looks s t p (edges_of event) body h
 
 starts-look : (s t : Stage) (p : Place) (a : Starts) → with_starts s p a ≡ good t → KeepsLook s t
 starts-look s t p a e = subst (KeepsLook s) (judged_is by_number p a.broken _ t e).1 refl

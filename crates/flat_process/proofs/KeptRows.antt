@@ -3,7 +3,7 @@ use Rattle.std.proofs.Common.{◌≡◌, ℕ, Bool, true, false, cond, ◌&&◌,
 use Rattle.std.specs.Prelude.{slice_get, option_map}
 use Rattle.std.specs.Option.{option_map_or}
 use Rattle.std.proofs.lemmas.Bool.{and_parts}
-use Rattle.flat_meaning.specs.Flat.{Read, Target, Whole, Part, Stmt, Set, Block, Stmts, no_stmts, stmt, assigns}
+use Rattle.flat_meaning.specs.Flat.{Target, Stmt, Block, Stmts, no_stmts, stmt}
 use Rattle.flat_form.specs.declared.flat.FExpr.{FExpr}
 use Rattle.flat_form.specs.declared.flat.FTarget.{FTarget}
 use Rattle.flat_form.specs.declared.flat.FTarget.TheVariants as g
@@ -13,12 +13,12 @@ use Rattle.flat_form.specs.declared.flat.FStmt.{FStmt}
 use Rattle.flat_form.specs.declared.flat.FStmt.TheVariants as t
 use Rattle.flat_form.specs.declared.flat.FStmt.TheOpen.{FStmt-F}
 use Rattle.flat_form.specs.declared.flat.FStmt.TheFolds.{fold-roll-FStmt}
-use Rattle.flat_form.specs.View.{stmt_of, stmts_of, target_of, targets_of}
+use Rattle.flat_form.specs.View.{stmt_of, stmts_of, target_of}
 use Rattle.flat_form.proofs.StmtFolds.{stmt_of-Set, stmt_of-Block}
 use Rattle.flat_unfolding.specs.Names as n
 use Rattle.flat_unfolding.specs.Names.{width_of, width_at}
 use Rattle.flat_unfolding.specs.Widths.{all_true, target_step, target_keeps_sizes, stmt_step, arm_step, stmt_keeps_sizes}
-use Rattle.flat_unfolding.specs.Processes.{as_one, kept, all_kept, branch_kept, rows_kept}
+use Rattle.flat_unfolding.specs.Processes.{as_one, kept, branch_kept, rows_kept}
 use Rattle.flat_names.specs.declared.design.Entry.{Entry}
 use Rattle.flat_names.specs.declared.scope.Look.{Look}
 use Rattle.flat_names.specs.Looks.{Seen, seen, shown, Shows}

@@ -1,5 +1,5 @@
 -- Conditions while a reset is at one of its levels.
-use Rattle.std.proofs.Common.{◌≡◌, ℕ, Bool, true, false, cond, not, ◌&&◌, ◌==◌, nat_lt, List, [], ◌∷◌, Option, Some, None, is_some, refl, sym, ap, ap₂, ◌∙◌}
+use Rattle.std.proofs.Common.{◌≡◌, ℕ, Bool, true, false, cond, not, ◌&&◌, ◌==◌, Option, Some, None, is_some, refl, sym, ap, ap₂, ◌∙◌}
 use mathlib.Core.Bool.{beq}
 use Rattle.std.specs.Prelude.{option_map}
 use Rattle.std.specs.Option.{option_eq}
@@ -13,23 +13,15 @@ use Rattle.flat_unfolding.specs.Resets.{is_test, at_level}
 use Rattle.flat_names.specs.declared.fault.Rule.{Rule}
 use Rattle.flat_names.specs.declared.fault.Order.{Order}
 use Rattle.flat_names.specs.declared.scope.Look.{Look}
-use Rattle.flat_names.specs.Noting.{number_of, order_of, Noted, all_noted}
+use Rattle.flat_names.specs.Noting.{number_of, Noted, all_noted}
 use Rattle.flat_names.specs.Looks.{Shows, IsFit}
-use Rattle.flat_targets.proofs.Reading.{some-map}
+use Rattle.flat_statements.proofs.MetLabels.{rule-noted}
 
 -- ---- whether a rule was noted
 
-some-noted : (order : Order) (b : Broken) (bs : List Broken) → is_some (all_noted (record { order = order; found = Some b }) bs).found ≡ true
-some-noted order b [] = refl
-some-noted order b (c ∷ bs) = some-noted order (cond (nat_lt (order_of order c.number) (order_of order b.number)) c b) bs
-
 pub noted-sound : (t : Term) (order : Order) (f : Noted) (r : Option Rule) → f ≡ all_noted (record { order = order; found = None }) t.broken
     → option_map number_of r ≡ option_map (λ (b : Broken). b.number) f.found → is_some r ≡ not (is_sound t)
-noted-sound t order f r h i = sym (some-map number_of r) ∙ ap is_some i ∙ some-map (λ (b : Broken). b.number) f.found ∙ ap (λ (x : Noted). is_some x.found) h ∙ go t.broken
-  where
-    go : (bs : List Broken) → is_some (all_noted (record { order = order; found = None }) bs).found ≡ not (is_sound (record t { broken = bs }))
-    go [] = refl
-    go (b ∷ bs) = some-noted order b bs
+noted-sound t order f r h i = rule-noted t.broken order f r h i
 
 pub sound-of : (b : Bool) → false ≡ not b → b ≡ true
 sound-of true e = refl

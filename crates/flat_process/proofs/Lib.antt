@@ -11,3 +11,4 @@ pub mod ResetRows
 pub mod Processes
 pub mod LevelLists
 pub mod KeptRows
+pub mod TestedResets

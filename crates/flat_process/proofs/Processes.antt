@@ -1,15 +1,16 @@
 -- Processes: their events, bodies and resets, from what the code has to the definition's.
-use Rattle.std.proofs.Common.{◌≡◌, ℕ, ◌<◌, Bool, true, false, cond, not, ◌&&◌, ◌||◌, ◌==◌, List, [], ◌∷◌, ◌++◌, length, get_or, Option, Some, None, refl, sym, ap, ap₂, subst, ◌∙◌, arith, rules, append_assoc, append-nil, Box, Vec, Global}
+use Rattle.std.proofs.Common.{◌≡◌, ℕ, ◌<◌, Bool, true, false, cond, not, ◌&&◌, ◌||◌, ◌==◌, List, [], ◌∷◌, ◌++◌, length, map, get_or, Option, Some, None, refl, sym, ap, ap₂, subst, ◌∙◌, arith, rules, append_assoc, Box, Vec, Global}
 use Rattle.std.specs.Prelude.{flat_map, option_map, is_some, is_none, unwrap_or, slice_get}
 use Rattle.std.specs.Option.{option_map_or}
 use Rattle.std.specs.List.{list_all, list_any}
 use Rattle.verilog_ast.specs.declared.Edge.{Edge}
 use Rattle.verilog_ast.specs.declared.EdgeKind.{EdgeKind}
 use Rattle.verilog_ast.specs.declared.Expr.{Expr}
+use Rattle.verilog_ast.specs.declared.CaseItem.{CaseItem}
 use Rattle.verilog_ast.specs.declared.Stmt as s
 use Rattle.verilog_ast.specs.declared.Stmt.TheVariants as vs
 use Rattle.verilog_reading.specs.ExprTree.{ExprTree, tree_of}
-use Rattle.verilog_reading.specs.StmtTree.{StmtTree, null, set, when, either, switch, switch_else, block, StmtTrees, no_rows, and_rows, stmt_tree_of}
+use Rattle.verilog_reading.specs.StmtTree.{StmtTree, null, set, when, either, Subject, subject_of, switch, switch_else, block, StmtTrees, no_rows, and_rows, ArmTree, ArmTrees, no_arms, and_arms, arms_of, stmt_tree_of}
 use Rattle.flat_meaning.specs.Flat.{Stmt}
 use Rattle.flat_form.specs.View.{stmt_of, reset_of}
 use Rattle.flat_form.specs.declared.flat.FStmt.{FStmt}
@@ -18,12 +19,12 @@ use Rattle.flat_unfolding.specs.Outcome.{Text, Broken, breaks, breaks_if}
 use Rattle.flat_unfolding.specs.Names.{Meaning, a_param, a_signal, a_memory, no_value, Look, meaning, width_at, reset_at}
 use Rattle.flat_unfolding.specs.Expressions.{read}
 use Rattle.flat_unfolding.specs.Widths.{stmt_keeps_sizes}
-use Rattle.flat_unfolding.specs.Statements.{Kind, clocked, neither, done, done_all}
+use Rattle.flat_unfolding.specs.Statements.{Kind, clocked, neither, Done, masks_broken, ways_broken, chained, nothing_done, mask_of, done, done_all, ways}
 use Rattle.flat_unfolding.specs.Resets as q
-use Rattle.flat_unfolding.specs.Mentions.{names_in, read_names}
-use Rattle.flat_unfolding.specs.Resets.{peeled, peeled_rows, tested_signals, branch_given, form_with, form_in, reset_form, reads_other, is_malformed, reset_rules, is_edge_of, is_active_edge}
+use Rattle.flat_unfolding.specs.Mentions.{read_names}
+use Rattle.flat_unfolding.specs.Resets.{peeled, peeled_rows, tested, item_tested, branch_given, form_with, items_form, form_in, reset_form, reads_other, is_malformed, reset_rules, is_edge_of, is_active_edge}
 use Rattle.flat_unfolding.specs.Processes.{delay_rules, has_form, first_edge, edge_rules, meant_signal, edge_signal, is_wide, reset_edge, reset_signal, event_rules, pair_rules, with_kept, body_with, reset_branch, reset_gives}
-use Rattle.flat_unfolding.specs.Formed.{IsFormed, IsStmtFormed, AreRowsFormed}
+use Rattle.flat_unfolding.specs.Formed.{IsFormed, IsStmtFormed, AreRowsFormed, AreArmsFormed}
 use Rattle.flat_unfolding.specs.Design as u
 use Rattle.flat_unfolding.proofs.Steps.{none_of_both, some_is}
 use Rattle.flat_names.specs.declared.scope.Look as v
@@ -33,14 +34,15 @@ use Rattle.flat_names.specs.Noting.{Noted, all_noted}
 use Rattle.flat_names.proofs.Looked.{width-is}
 use Rattle.flat_names.proofs.Notes.{then-noted}
 use Rattle.flat_names.proofs.Options.{none-some, some-same}
-use Rattle.flat_statements.specs.Statements.{IsDone}
+use Rattle.flat_statements.specs.Statements.{arm_tree_of, IsDone}
 use Rattle.flat_statements.proofs.Done.{done-null}
-use Rattle.flat_statements.proofs.Trees.{tree-when, tree-either}
+use Rattle.flat_statements.proofs.Trees.{tree-when, tree-either, tree-switch, tree-switch_else, arm-tree}
 use Rattle.flat_process.specs.declared.reset.Given.{Given}
 use Rattle.flat_process.specs.declared.always.Clocked.{Clocked}
 use Rattle.flat_process.specs.declared.always.ResetForm.{ResetForm}
-use Rattle.flat_process.specs.Resets.{AreGiven, AreGivenIf}
-use Rattle.flat_process.specs.Processes.{IsBody, reset_with, IsClocked, other_tree, left_tree, IsForm, IsFormIf}
+use Rattle.flat_process.specs.declared.tested.Tested.{Tested}
+use Rattle.flat_process.specs.Resets.{AreGiven, AreGivenIf, tested_of}
+use Rattle.flat_process.specs.Processes.{IsBody, reset_with, IsClocked, IsForm, IsFormIf}
 
 -- ---- bodies
 
@@ -91,47 +93,73 @@ mutual
 
 -- ---- reset form
 
--- the form of a branch whose condition tests these signals
-abbrev of_signals : Look → (c : ExprTree) (first other all : StmtTree) → List ℕ → q.ResetForm
-of_signals l c first other all ss = record { signals = ss; reads = names_in c ++ read_names other; branch = first; given = branch_given l first; rest = left_tree l c other all }
-
 module _ (l : Look) where
-  -- neither the first branch nor what is left breaks a rule where the whole breaks none
-  abbrev AreClean : q.ResetForm → Type 0
-  AreClean f = ((done l clocked f.branch).broken ≡ []) × ((done l clocked f.rest).broken ≡ [])
+  -- the first branch breaks no rule where the whole breaks none
+  abbrev IsClean : q.ResetForm → Type 0
+  IsClean f = (done l clocked f.branch).broken ≡ []
 
-  left-clean : (b : Bool) (z all : StmtTree) → (done l clocked z).broken ≡ [] → (done l clocked all).broken ≡ [] → (done l clocked (cond b z all)).broken ≡ []
-  left-clean true z all d w = d
-  left-clean false z all d w = w
+  with-clean : (o : Option q.Tested) (s all : StmtTree) (f : q.ResetForm) → form_with l o s all ≡ Some f → (done l clocked s).broken ≡ [] → IsClean f
+  with-clean None s all f e c = absurd (search (rules, e))
+  with-clean (Some t) s all f e c = subst IsClean (some_is _ f e) c
 
-  with-clean : (k : ExprTree) (s z all : StmtTree) (f : q.ResetForm) → form_with l k s z all ≡ Some f → (done l clocked s).broken ≡ [] → (done l clocked z).broken ≡ [] → (done l clocked all).broken ≡ [] → AreClean f
-  with-clean k s z all f e c d w = go (tested_signals l k) e
+  items-clean : (c : Subject) (rows : ArmTrees) (all : StmtTree) (f : q.ResetForm) → items_form l c rows all ≡ Some f → (c.masks ≡ true → ways_broken (ways l clocked rows) ≡ []) → IsClean f
+  items-clean c no_arms all f e w = absurd (search (rules, e))
+  items-clean c (and_arms labels s rest) all f e w = go c.masks refl e
     where
-      go : (o : Option (List ℕ)) → option_map (of_signals l k s z all) o ≡ Some f → AreClean f
-      go None i = absurd (search (rules, i))
-      go (Some ss) i = subst AreClean (some_is _ f i) (c, left-clean (is_some (q.reset_signals l k)) z all d w)
+      go : (b : Bool) → c.masks ≡ b → cond b (form_with l (item_tested l c.value (and_arms labels s rest)) s all) None ≡ Some f → IsClean f
+      go true m i =
+          let ms = map (mask_of l clocked) labels in let bs = (done l clocked s).broken in
+          let p = none_of_both (masks_broken ms ++ bs) (ways_broken (ways l clocked rest)) (w m) in
+          with-clean (item_tested l c.value (and_arms labels s rest)) s all f i (none_of_both (masks_broken ms) bs p.0).1
+      go false m i = absurd (search (rules, i))
 
-  form-clean : (t : StmtTree) (f : q.ResetForm) → form_in l t ≡ Some f → (done l clocked t).broken ≡ [] → AreClean f
+  -- the chain that a `casez` stands for
+  masked : (b : Bool) (x y : Done) → b ≡ true → (cond b x y).broken ≡ [] → x.broken ≡ []
+  masked true x y m e = e
+  masked false x y m e = absurd (search (rules, m))
+
+  form-clean : (t : StmtTree) (f : q.ResetForm) → form_in l t ≡ Some f → (done l clocked t).broken ≡ [] → IsClean f
   form-clean null f e c = absurd (search (rules, e))
   form-clean (set b delay t v) f e c = absurd (search (rules, e))
-  form-clean (switch v rows) f e c = absurd (search (rules, e))
-  form-clean (switch_else v rows d) f e c = absurd (search (rules, e))
+  form-clean (switch v rows) f e c =
+      let k = read l v.value in let ws = ways l clocked rows in
+      items-clean v rows (switch v rows) f e (λ m.
+      let b = masked v.masks (chained k ws nothing_done) _ m c in
+      (none_of_both k.broken (ways_broken ws) (none_of_both (k.broken ++ ways_broken ws) [] b).0).1)
+  form-clean (switch_else v rows x) f e c =
+      let k = read l v.value in let ws = ways l clocked rows in let d = done l clocked x in
+      items-clean v rows (switch_else v rows x) f e (λ m.
+      let b = masked v.masks (chained k ws d) _ m c in
+      (none_of_both k.broken (ways_broken ws) (none_of_both (k.broken ++ ways_broken ws) d.broken b).0).1)
   form-clean (block rows) f e c = absurd (search (rules, e))
-  form-clean (when k s) f e c = with-clean k s null (when k s) f e (none_of_both (read l k).broken (done l clocked s).broken c).1 refl c
+  form-clean (when k s) f e c = with-clean (tested l k) s (when k s) f e (none_of_both (read l k).broken (done l clocked s).broken c).1
   form-clean (either k s z) f e c =
       let parts = none_of_both ((read l k).broken ++ (done l clocked s).broken) (done l clocked z).broken c in
-      with-clean k s z (either k s z) f e (none_of_both (read l k).broken (done l clocked s).broken parts.0).1 parts.1 c
+      with-clean (tested l k) s (either k s z) f e (none_of_both (read l k).broken (done l clocked s).broken parts.0).1
 
-  both-clean : (t : StmtTree) (f : q.ResetForm) → reset_form l t ≡ Some f → (done l clocked t).broken ≡ [] → AreClean f
+  both-clean : (t : StmtTree) (f : q.ResetForm) → reset_form l t ≡ Some f → (done l clocked t).broken ≡ [] → IsClean f
   both-clean t f e c = form-clean (peeled t) f e (peeled-clean l clocked t c)
+
+  -- the same form where other rules are broken, at least one where one was
+  pub form-amid : (bs cs : List Broken) (f : Option q.ResetForm) (o : Option ResetForm) → (cs ≡ [] → bs ≡ []) → IsFormIf l bs f o → IsFormIf l cs f o
+  form-amid bs cs None None k h = tt
+  form-amid bs cs None (Some r) k h = absurd h
+  form-amid bs cs (Some f) None k h = absurd h
+  form-amid bs cs (Some f) (Some r) k h = record { signals = h.signals; other = h.other; branch = h.branch; given = h.given; rest = record { stmt = λ n. h.rest.stmt (k n); sizes = λ n. h.rest.sizes (k n) } }
+
+  -- the form of what stands in blocks of one statement
+  pub form-around : (t x : StmtTree) (f : Option q.ResetForm) (o : Option ResetForm) → x ≡ peeled t → f ≡ form_in l x → IsFormIf l (done l clocked x).broken f o → IsFormIf l (done l clocked t).broken (reset_form l t) o
+  form-around t x f o e i h =
+      form-amid (done l clocked (peeled t)).broken (done l clocked t).broken (form_in l (peeled t)) o (peeled-clean l clocked t)
+      (subst (λ y. IsFormIf l (done l clocked y).broken (form_in l y) o) e (subst (λ g. IsFormIf l (done l clocked x).broken g o) i h))
 
   -- a body without reset form stays whole
   pub whole-body : (c : ℕ) (edge : Option ℕ) (t : StmtTree) (p : Clocked) → p.clock ≡ c → p.reset ≡ (record { edge = edge; branch = form.Null }) → p.given.items ≡ []
-      → IsDone (done l clocked t) p.body → IsFormIf l (reset_form l t) None
+      → IsDone (done l clocked t) p.body → IsFormIf l (done l clocked t).broken (reset_form l t) None
       → IsClocked (length l.entries) c (body_with l t (reset_form l t)) (reset_with l edge t) (reset_gives l (reset_form l t)) (done l clocked t).broken p
   whole-body c edge t p e r g d h = go (reset_form l t) h
     where
-      go : (o : Option q.ResetForm) → IsFormIf l o None → IsClocked (length l.entries) c (body_with l t o) (edge, reset_branch l o) (reset_gives l o) (done l clocked t).broken p
+      go : (o : Option q.ResetForm) → IsFormIf l (done l clocked t).broken o None → IsClocked (length l.entries) c (body_with l t o) (edge, reset_branch l o) (reset_gives l o) (done l clocked t).broken p
       go None h = record { clock = e; body = done-body l clocked t p.body d; reset = λ k. ap reset_of r ∙ ap (λ (x : Stmt). (edge, x)) ((done-null l clocked).stmt refl); given = subst (AreGiven (length l.entries) []) (sym g) tt }
       go (Some f) h = absurd h
 
@@ -149,47 +177,88 @@ module _ (l : Look) where
   -- of one with reset form the rest is left
   pub rest-body : (c : ℕ) (edge : Option ℕ) (t : StmtTree) (r : ResetForm) (p : Clocked) → p.clock ≡ c
       → stmt_of p.body ≡ with_kept (width_at l.entries) (stmt_of r.rest) (stmt_of r.branch) → (stmt_keeps_sizes r.rest ≡ true → stmt_keeps_sizes p.body ≡ true) → p.reset ≡ (record { edge = edge; branch = r.branch })
-      → p.given.items ≡ unwrap_or (option_map (λ (v : Vec Given Global). v.items) r.given) [] → IsFormIf l (reset_form l t) (Some r)
+      → p.given.items ≡ unwrap_or (option_map (λ (v : Vec Given Global). v.items) r.given) [] → IsFormIf l (done l clocked t).broken (reset_form l t) (Some r)
       → IsClocked (length l.entries) c (body_with l t (reset_form l t)) (reset_with l edge t) (reset_gives l (reset_form l t)) (done l clocked t).broken p
   rest-body c edge t r p e b z s g h = go (reset_form l t) refl h
     where
-      go : (o : Option q.ResetForm) → reset_form l t ≡ o → IsFormIf l o (Some r) → IsClocked (length l.entries) c (body_with l t o) (edge, reset_branch l o) (reset_gives l o) (done l clocked t).broken p
+      go : (o : Option q.ResetForm) → reset_form l t ≡ o → IsFormIf l (done l clocked t).broken o (Some r) → IsClocked (length l.entries) c (body_with l t o) (edge, reset_branch l o) (reset_gives l o) (done l clocked t).broken p
       go None i h = absurd h
       go (Some f) i h = record {
         clock = e;
         body = record {
-          stmt = λ k. let w = both-clean t f i k in b ∙ ap₂ (with_kept (width_at l.entries)) (h.rest.stmt w.1) (h.branch.stmt w.0);
-          sizes = λ k. z (h.rest.sizes (both-clean t f i k).1);
+          stmt = λ k. b ∙ ap₂ (with_kept (width_at l.entries)) (h.rest.stmt k) (h.branch.stmt (both-clean t f i k));
+          sizes = λ k. z (h.rest.sizes k);
         };
-        reset = λ k. ap reset_of s ∙ ap (λ (x : Stmt). (edge, x)) (h.branch.stmt (both-clean t f i k).0);
+        reset = λ k. ap reset_of s ∙ ap (λ (x : Stmt). (edge, x)) (h.branch.stmt (both-clean t f i k));
         given = subst (AreGiven (length l.entries) (unwrap_or f.given [])) (sym g) (given-or f.given (option_map (λ (v : Vec Given Global). v.items) r.given) h.given);
       }
 
 module _ (l : Look) (x : s.Stmt) (k : Expr) (y : Box s.Stmt Global) where
-  -- the parts of a branch are as readings of texts give them
-  pub branch-formed : (o : Option (Box s.Stmt Global)) → x ≡ vs.If k y o → IsStmtFormed (stmt_tree_of x) → IsFormed (tree_of k) × IsStmtFormed (stmt_tree_of y.value) × IsStmtFormed (other_tree o)
-  branch-formed None e h = let i = subst IsStmtFormed (ap stmt_tree_of e ∙ tree-when k y) h in (i.0, i.1, tt)
-  branch-formed (Some z) e h = subst IsStmtFormed (ap stmt_tree_of e ∙ tree-either k y z) h
+  -- the parts of an `if` are as readings of texts give them
+  pub branch-formed : (o : Option (Box s.Stmt Global)) → x ≡ vs.If k y o → IsStmtFormed (stmt_tree_of x) → IsFormed (tree_of k) × IsStmtFormed (stmt_tree_of y.value)
+  branch-formed None e h = subst IsStmtFormed (ap stmt_tree_of e ∙ tree-when k y) h
+  branch-formed (Some z) e h = let i = subst IsStmtFormed (ap stmt_tree_of e ∙ tree-either k y z) h in (i.0, i.1)
 
-  -- what reset form of a branch is
-  form-is : (o : Option (Box s.Stmt Global)) → x ≡ vs.If k y o → form_in l (stmt_tree_of x) ≡ form_with l (tree_of k) (stmt_tree_of y.value) (other_tree o) (stmt_tree_of x)
-  form-is None e = let t = ap stmt_tree_of e ∙ tree-when k y in
-      ap (form_in l) t ∙ ap (form_with l (tree_of k) (stmt_tree_of y.value) null) (sym t)
-  form-is (Some z) e = let t = ap stmt_tree_of e ∙ tree-either k y z in
-      ap (form_in l) t ∙ ap (form_with l (tree_of k) (stmt_tree_of y.value) (stmt_tree_of z.value)) (sym t)
+  -- its reset form
+  pub if-form : (o : Option (Box s.Stmt Global)) → x ≡ vs.If k y o → form_with l (tested l (tree_of k)) (stmt_tree_of y.value) (stmt_tree_of x) ≡ form_in l (stmt_tree_of x)
+  if-form None e = let t = ap stmt_tree_of e ∙ tree-when k y in
+      ap (form_with l (tested l (tree_of k)) (stmt_tree_of y.value)) t ∙ ap (form_in l) (sym t)
+  if-form (Some z) e = let t = ap stmt_tree_of e ∙ tree-either k y z in
+      ap (form_with l (tested l (tree_of k)) (stmt_tree_of y.value)) t ∙ ap (form_in l) (sym t)
 
+-- items of a `case`
+abbrev pub item_rows : List CaseItem → ArmTrees
+item_rows xs = arms_of (map arm_tree_of xs)
+
+module _ (l : Look) (x : s.Stmt) (m : Bool) (k : Expr) (is : List CaseItem) where
+  -- the same of a `case`
+  pub items-formed : (o : Option (Box s.Stmt Global)) → x ≡ vs.Case m k is o → IsStmtFormed (stmt_tree_of x) → IsFormed (tree_of k) × AreArmsFormed (item_rows is)
+  items-formed None e h = subst IsStmtFormed (ap stmt_tree_of e ∙ tree-switch m k is) h
+  items-formed (Some z) e h = let i = subst IsStmtFormed (ap stmt_tree_of e ∙ tree-switch_else m k is z) h in (i.0, i.1)
+
+  pub case-form : (o : Option (Box s.Stmt Global)) → x ≡ vs.Case m k is o → items_form l (subject_of m (tree_of k)) (item_rows is) (stmt_tree_of x) ≡ form_in l (stmt_tree_of x)
+  case-form None e = let t = ap stmt_tree_of e ∙ tree-switch m k is in
+      ap (items_form l (subject_of m (tree_of k)) (item_rows is)) t ∙ ap (form_in l) (sym t)
+  case-form (Some z) e = let t = ap stmt_tree_of e ∙ tree-switch_else m k is z in
+      ap (items_form l (subject_of m (tree_of k)) (item_rows is)) t ∙ ap (form_in l) (sym t)
+
+module _ (l : Look) (e : ExprTree) (all : StmtTree) where
+  -- a `case` has none, and neither has one without items
+  pub unmasked-form : (xs : List CaseItem) → items_form l (subject_of false e) (item_rows xs) all ≡ None
+  unmasked-form [] = refl
+  unmasked-form (x ∷ xs) = refl
+
+  pub no-items-form : (m : Bool) (xs : List CaseItem) → length xs ≡ 0 → items_form l (subject_of m e) (item_rows xs) all ≡ None
+  no-items-form m [] h = refl
+  no-items-form m (x ∷ xs) h = absurd (omega arith)
+
+  -- the form of a `casez` is that with the branch of its first item
+  pub first-form : (x : CaseItem) (xs rest : List CaseItem) → xs ≡ x ∷ rest → form_with l (item_tested l e (item_rows xs)) (stmt_tree_of x.body) all ≡ items_form l (subject_of true e) (item_rows xs) all
+  first-form x xs rest h =
+      ap (λ ys. form_with l (item_tested l e (item_rows ys)) (stmt_tree_of x.body) all) h
+      ∙ sym (ap (λ (a : ArmTree). form_with l (item_tested l e (item_rows (x ∷ rest))) a.body all) (arm-tree x))
+      ∙ sym (ap (λ ys. items_form l (subject_of true e) (item_rows ys) all) h)
+
+  pub first-formed : (x : CaseItem) (xs rest : List CaseItem) → xs ≡ x ∷ rest → AreArmsFormed (item_rows xs) → IsStmtFormed (stmt_tree_of x.body)
+  first-formed x xs rest h f = subst (λ (a : ArmTree). IsStmtFormed a.body) (arm-tree x) (subst (λ ys. AreArmsFormed (item_rows ys)) h f).1
+
+module _ (l : Look) (first all : StmtTree) where
   -- a branch whose condition tests no reset has no reset form
-  pub no-reset : (o : Option (Box s.Stmt Global)) → x ≡ vs.If k y o → None ≡ tested_signals l (tree_of k) → IsFormIf l (form_in l (stmt_tree_of x)) None
-  no-reset o e h = subst (λ f. IsFormIf l f None) (sym (form-is o e))
-      (subst (λ ss. IsFormIf l (option_map (of_signals l (tree_of k) (stmt_tree_of y.value) (other_tree o) (stmt_tree_of x)) ss) None) h tt)
+  pub no-form : (o : Option Tested) → o ≡ None → IsFormIf l (done l clocked all).broken (form_with l (option_map tested_of o) first all) None
+  no-form o e = subst (λ p. IsFormIf l (done l clocked all).broken (form_with l (option_map tested_of p) first all) None) (sym e) tt
 
   -- one whose condition tests some has it
-  pub has-reset : (o : Option (Box s.Stmt Global)) (r : ResetForm) → x ≡ vs.If k y o → Some r.signals.items ≡ tested_signals l (tree_of k) → r.reads_other ≡ reads_other l r.signals.items (names_in (tree_of k) ++ read_names (other_tree o))
-      → IsDone (done l clocked (stmt_tree_of y.value)) r.branch
-      → AreGivenIf (length l.entries) (branch_given l (stmt_tree_of y.value)) (option_map (λ (v : Vec Given Global). v.items) r.given)
-      → IsDone (done l clocked (left_tree l (tree_of k) (other_tree o) (stmt_tree_of x))) r.rest → IsFormIf l (form_in l (stmt_tree_of x)) (Some r)
-  has-reset o r e h m b g d = subst (λ f. IsFormIf l f (Some r)) (sym (form-is o e))
-      (subst (λ ss. IsFormIf l (option_map (of_signals l (tree_of k) (stmt_tree_of y.value) (other_tree o) (stmt_tree_of x)) ss) (Some r)) h (record { signals = refl; other = m; branch = b; given = g; rest = d }))
+  pub has-form : (o : Option Tested) (t : Tested) (r : ResetForm) (whole : FStmt) → o ≡ Some t → r.signals.items ≡ t.signals.items → r.reads_other ≡ reads_other l t.signals.items (read_names all)
+      → IsDone (done l clocked first) r.branch → AreGivenIf (length l.entries) (branch_given l first) (option_map (λ (v : Vec Given Global). v.items) r.given)
+      → IsDone (done l clocked all) whole → stmt_of r.rest ≡ q.left t.is_alone (stmt_of whole) → (stmt_keeps_sizes whole ≡ true → stmt_keeps_sizes r.rest ≡ true)
+      → IsFormIf l (done l clocked all).broken (form_with l (option_map tested_of o) first all) (Some r)
+  has-form o t r whole e i m b g w same sizes = subst (λ p. IsFormIf l (done l clocked all).broken (form_with l (option_map tested_of p) first all) (Some r)) (sym e) (record {
+    signals = i;
+    other = m;
+    branch = b;
+    given = g;
+    rest = record { stmt = λ n. same ∙ ap (q.left t.is_alone) (w.stmt n); sizes = λ n. sizes (w.sizes n) };
+  })
 
 -- ---- events
 
@@ -268,8 +337,8 @@ module _ (l : Look) where
   none-given (Some us) None h = absurd h
   none-given (Some us) (Some v) h = refl
 
-  pub not-given : (f : q.ResetForm) (r : ResetForm) (b : Bool) → IsForm l f r → is_some r.given ≡ not b → b ≡ is_none f.given
-  not-given f r b h e = go r.given b e ∙ none-given f.given r.given h.given
+  pub not-given : (bs : List Broken) (f : q.ResetForm) (r : ResetForm) (b : Bool) → IsForm l bs f r → is_some r.given ≡ not b → b ≡ is_none f.given
+  not-given bs f r b h e = go r.given b e ∙ none-given f.given r.given h.given
     where
       go : (o : Option (Vec Given Global)) (b : Bool) → is_some o ≡ not b → b ≡ is_none o
       go None true e = refl
@@ -281,20 +350,20 @@ module _ (l : Look) where
   pub given-fails : (f : q.ResetForm) (a : Bool) → a ≡ is_none f.given → a ≡ true → a ≡ is_malformed l f
   given-fails f a e t = or-left a (reads_other l f.signals f.reads) t ∙ ap (λ x. x || reads_other l f.signals f.reads) e
 
-  pub other-fails : (f : q.ResetForm) (r : ResetForm) (a : Bool) → IsForm l f r → a ≡ is_none f.given → a ≡ false → r.reads_other ≡ is_malformed l f
-  other-fails f r a h e t = or-right a r.reads_other t ∙ ap₂ (λ x y. x || y) e h.other
+  pub other-fails : (bs : List Broken) (f : q.ResetForm) (r : ResetForm) (a : Bool) → IsForm l bs f r → a ≡ is_none f.given → a ≡ false → r.reads_other ≡ is_malformed l f
+  other-fails bs f r a h e t = or-right a r.reads_other t ∙ ap₂ (λ x y. x || y) e h.other
 
   -- what a body with reset form breaks, and one without it
-  pub form-breaks : (first : Text) (second : Option Edge) (f : Option q.ResetForm) (r : ResetForm) (b : Bool) → IsFormIf l f (Some r)
-      → ((g : q.ResetForm) → IsForm l g r → b ≡ (not (option_map_or (is_edge_of l g.signals) second true) || is_malformed l g)) → breaks_if b 317 first ≡ reset_rules l first second f
-  form-breaks first second None r b h k = absurd h
-  form-breaks first None (Some g) r b h k = ap (λ t. breaks_if t 317 first) (k g h)
-  form-breaks first (Some e) (Some g) r b h k = ap (λ t. breaks_if t 317 first) (k g h)
+  pub form-breaks : (first : Text) (second : Option Edge) (bs : List Broken) (f : Option q.ResetForm) (r : ResetForm) (b : Bool) → IsFormIf l bs f (Some r)
+      → ((g : q.ResetForm) → IsForm l bs g r → b ≡ (not (option_map_or (is_edge_of l g.signals) second true) || is_malformed l g)) → breaks_if b 317 first ≡ reset_rules l first second f
+  form-breaks first second bs None r b h k = absurd h
+  form-breaks first None bs (Some g) r b h k = ap (λ t. breaks_if t 317 first) (k g h)
+  form-breaks first (Some e) bs (Some g) r b h k = ap (λ t. breaks_if t 317 first) (k g h)
 
-  pub no-form-tells : (first : Text) (second : Option Edge) (f : Option q.ResetForm) (b : Bool) → IsFormIf l f None → b ≡ is_some second → breaks_if b 317 first ≡ reset_rules l first second f
-  no-form-tells first None None b h e = ap (λ t. breaks_if t 317 first) e
-  no-form-tells first (Some x) None b h e = ap (λ t. breaks_if t 317 first) e
-  no-form-tells first second (Some g) b h e = absurd h
+  pub no-form-tells : (first : Text) (second : Option Edge) (bs : List Broken) (f : Option q.ResetForm) (b : Bool) → IsFormIf l bs f None → b ≡ is_some second → breaks_if b 317 first ≡ reset_rules l first second f
+  no-form-tells first None bs None b h e = ap (λ t. breaks_if t 317 first) e
+  no-form-tells first (Some x) bs None b h e = ap (λ t. breaks_if t 317 first) e
+  no-form-tells first second bs (Some g) b h e = absurd h
 
 -- ---- clocked processes
 

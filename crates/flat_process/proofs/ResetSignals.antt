@@ -14,7 +14,7 @@ use Rattle.flat_unfolding.specs.Expressions.{Term, is_sound}
 use Rattle.verilog_ast.specs.declared.BinaryOp.{BinaryOp}
 use Rattle.verilog_reading.specs.ExprTree.{ExprTree, binary}
 use Rattle.flat_unfolding.specs.Mentions.{names_in}
-use Rattle.flat_unfolding.specs.Resets.{signals_among, is_reset, are_resets, is_test, at_level, reset_signals, is_or, both_signals, tested_signals}
+use Rattle.flat_unfolding.specs.Resets.{signals_among, is_reset, are_resets, is_test, at_level, reset_signals, is_or, both_signals, tested_signals, resets_in}
 use Rattle.flat_names.specs.declared.design.Reset.{Reset}
 use Rattle.flat_names.specs.declared.scope.Look as v
 use Rattle.flat_names.specs.declared.resolved.Resolved.{Resolved}
@@ -140,6 +140,34 @@ module _ (l : Look) (e : ExprTree) (a : Signals) (h : signals_of a ≡ signals_a
       go : (o : Option (List ℕ)) → None ≡ by_signals o
       go None = refl
       go (Some ss) = no (are_resets l ss) ss ∙ ap (λ t. cond (are_resets l ss && t) (Some ss) None) (sym j)
+
+-- ---- the signals of an expression that names resets alone
+
+module _ (l : Look) (e : ExprTree) (a : Signals) (h : signals_of a ≡ signals_among l (names_in e)) where
+  abbrev if_resets : Option (List ℕ) → Option (List ℕ)
+  if_resets None = None
+  if_resets (Some ss) = cond (are_resets l ss) (Some ss) None
+
+  resets-by : resets_in l e ≡ if_resets (signals_of a)
+  resets-by = ap if_resets (sym h)
+
+  pub resets-named : true ≡ option_map_or (are_resets l) (signals_of a) false → Some a.numbers.items ≡ resets_in l e
+  resets-named i = go a.has_others refl ∙ sym resets-by
+    where
+      go : (b : Bool) → a.has_others ≡ b → Some a.numbers.items ≡ if_resets (signals_of a)
+      go true k = absurd (false≢true (sym (i ∙ ap (λ b. option_map_or (are_resets l) (cond b None (Some a.numbers.items)) false) k)))
+      go false k =
+          let all : true ≡ are_resets l a.numbers.items = i ∙ ap (λ b. option_map_or (are_resets l) (cond b None (Some a.numbers.items)) false) k in
+          ap (λ x. cond x (Some a.numbers.items) None) all ∙ ap (λ b. if_resets (cond b None (Some a.numbers.items))) (sym k)
+
+  pub no-resets-named : false ≡ option_map_or (are_resets l) (signals_of a) false → None ≡ resets_in l e
+  no-resets-named i = go a.has_others refl ∙ sym resets-by
+    where
+      go : (b : Bool) → a.has_others ≡ b → None ≡ if_resets (signals_of a)
+      go true k = ap (λ b. if_resets (cond b None (Some a.numbers.items))) (sym k)
+      go false k =
+          let none : false ≡ are_resets l a.numbers.items = i ∙ ap (λ b. option_map_or (are_resets l) (cond b None (Some a.numbers.items)) false) k in
+          ap (λ x. cond x (Some a.numbers.items) None) none ∙ ap (λ b. if_resets (cond b None (Some a.numbers.items))) (sym k)
 
 pub first-joined : (l : Look) (a b : Signals) (xs : List Text) → a.has_others ≡ false → a.numbers.items ≡ [] → signals_of b ≡ joined (signals_of a) (signals_among l xs) → signals_of b ≡ signals_among l xs
 first-joined l a b xs h i j = j ∙ ap (λ o. joined o (signals_among l xs)) (ap₂ (λ (c : Bool) (ss : List ℕ). cond c None (Some ss)) h i) ∙ sym (start-joined (signals_among l xs))

@@ -1,21 +1,18 @@
 -- Processes, side by side with the definition's.
-use Rattle.std.specs.Prelude.{◌≡◌, ℕ, Bool, true, false, cond, ◌&&◌, List, [], length, Option, Some, None, is_some, is_none, option_map, Box, Vec}
+use Rattle.std.specs.Prelude.{◌≡◌, ℕ, Bool, true, false, cond, ◌&&◌, List, [], length, Option, Some, None, is_some, is_none, option_map, Vec}
 use Rattle.std.specs.Option.{option_map_or}
 use Rattle.std.specs.Global.{Global}
 use Rattle.verilog_ast.specs.declared.Edge.{Edge}
-use Rattle.verilog_ast.specs.declared.Stmt as s
-use Rattle.verilog_reading.specs.ExprTree.{ExprTree}
-use Rattle.verilog_reading.specs.StmtTree.{StmtTree, null, stmt_tree_of}
+use Rattle.verilog_reading.specs.StmtTree.{StmtTree}
 use Rattle.flat_meaning.specs.Flat.{Stmt}
 use Rattle.flat_form.specs.View.{stmt_of, reset_of}
 use Rattle.flat_form.specs.declared.flat.FStmt.{FStmt}
-use Rattle.cdc_base.specs.declared.fault.Place.{Place}
-use Rattle.flat_unfolding.specs.Outcome.{Broken, Outcome}
+use Rattle.flat_unfolding.specs.Outcome.{Broken}
 use Rattle.flat_unfolding.specs.Names as n
 use Rattle.flat_unfolding.specs.Widths.{stmt_keeps_sizes}
 use Rattle.flat_unfolding.specs.Statements.{clocked, done}
 use Rattle.flat_unfolding.specs.Resets as q
-use Rattle.flat_unfolding.specs.Processes.{counts_as_star, wires_process, clocked_process, are_two, reset_edge, reset_branch}
+use Rattle.flat_unfolding.specs.Processes.{are_two, reset_edge, reset_branch}
 use Rattle.flat_unfolding.specs.Design as u
 use Rattle.flat_names.specs.declared.design.Late.{Late}
 use Rattle.flat_statements.specs.Statements.{IsDone}
@@ -23,10 +20,6 @@ use Rattle.flat_process.specs.declared.reset.Given.{Given}
 use Rattle.flat_process.specs.declared.always.Clocked.{Clocked}
 use Rattle.flat_process.specs.declared.always.ResetForm.{ResetForm}
 use Rattle.flat_process.specs.Resets.{AreGiven, AreGivenIf}
-
--- a process with a list of edges or levels
-abbrev pub process_at : u.Stage → Place → List Edge → StmtTree → Outcome u.Stage
-process_at s p edges body = cond (counts_as_star (u.look_of s) edges body) (wires_process s p body) (clocked_process s p edges body)
 
 -- whether there are two edges of which not exactly one names a reset
 abbrev pub lacks_reset : n.Look → List Edge → Bool
@@ -41,15 +34,6 @@ pub record IsBody (x : Stmt) (bs : List Broken) (r : FStmt) : Type 0 where
 abbrev pub reset_with : n.Look → Option ℕ → StmtTree → Option ℕ × Stmt
 reset_with l edge body = (edge, reset_branch l (q.reset_form l body))
 
--- what stands in the other branch
-abbrev pub other_tree : Option (Box s.Stmt Global) → StmtTree
-other_tree None = null
-other_tree (Some z) = stmt_tree_of z.value
-
--- what reset form with this condition leaves of a body: its other branch, or all of it
-abbrev pub left_tree : n.Look → ExprTree → (other all : StmtTree) → StmtTree
-left_tree l c z all = cond (is_some (q.reset_signals l c)) z all
-
 -- a clocked process in a design of so many signals: its clock, its body and what its reset tells where none of these rules is broken, and what its reset gives
 pub record IsClocked (n c : ℕ) (x : Stmt) (r : Option ℕ × Stmt) (us : List u.Given) (bs : List Broken) (p : Clocked) : Type 0 where
   pub clock : p.clock ≡ c
@@ -61,15 +45,15 @@ pub record IsClocked (n c : ℕ) (x : Stmt) (r : Option ℕ × Stmt) (us : List 
 abbrev pub has_rule : Option Late → Bool
 has_rule o = option_map_or (λ (k : Late). is_some k.faults.found) o false
 
--- a process in reset form
-pub record IsForm (l : n.Look) (f : q.ResetForm) (r : ResetForm) : Type 0 where
+-- a process in reset form, whose body breaks these rules
+pub record IsForm (l : n.Look) (bs : List Broken) (f : q.ResetForm) (r : ResetForm) : Type 0 where
   pub signals : r.signals.items ≡ f.signals
   pub other : r.reads_other ≡ q.reads_other l f.signals f.reads
   pub branch : IsDone (done l clocked f.branch) r.branch
   pub given : AreGivenIf (length l.entries) f.given (option_map (λ (v : Vec Given Global). v.items) r.given)
-  pub rest : IsDone (done l clocked f.rest) r.rest
+  pub rest : IsBody f.rest bs r.rest
 
-abbrev pub IsFormIf : n.Look → Option q.ResetForm → Option ResetForm → Type 0
-IsFormIf l None None = Unit {0}
-IsFormIf l (Some f) (Some r) = IsForm l f r
-IsFormIf l f r = ⊥
+abbrev pub IsFormIf : n.Look → List Broken → Option q.ResetForm → Option ResetForm → Type 0
+IsFormIf l bs None None = Unit {0}
+IsFormIf l bs (Some f) (Some r) = IsForm l bs f r
+IsFormIf l bs f r = ⊥

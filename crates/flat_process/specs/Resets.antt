@@ -1,6 +1,7 @@
 -- Resets of clocked processes, side by side with the definition's.
-use Rattle.std.specs.Prelude.{◌≡◌, ℕ, zero, suc, ◌+◌, ◌-◌, ◌^◌, ◌/◌, ◌%◌, ◌<◌, ◌≤◌, Bool, true, false, cond, not, ◌==◌, ◌&&◌, List, [], ◌∷◌, ◌++◌, length, Option, Some, None, bit_and, bit_or}
+use Rattle.std.specs.Prelude.{◌≡◌, ℕ, zero, suc, ◌+◌, ◌-◌, ◌^◌, ◌/◌, ◌%◌, ◌<◌, ◌≤◌, Bool, true, false, cond, not, ◌==◌, ◌&&◌, List, [], ◌∷◌, ◌++◌, length, Option, Some, None, option_map, Vec, bit_and, bit_or}
 use Rattle.std.specs.List.{list_any}
+use Rattle.std.specs.Global.{Global}
 use Rattle.cdc_base.specs.declared.signal.ResetPin.{ResetPin}
 use Rattle.cell_graph.specs.Tree.{bit_at}
 use Rattle.flat_meaning.specs.Assigned.{is_within}
@@ -10,6 +11,7 @@ use Rattle.flat_unfolding.specs.Names.{Meaning, a_signal, reset_at, width_at}
 use Rattle.flat_unfolding.specs.Constants.{assigned_value, both}
 use Rattle.flat_unfolding.specs.Expressions.{Term, is_sound}
 use Rattle.flat_unfolding.specs.Targets.{Aim}
+use Rattle.flat_unfolding.specs.Resets as q
 use Rattle.flat_unfolding.specs.Resets.{is_reset, given_to, given_to_all}
 use Rattle.flat_unfolding.specs.Design as u
 use Rattle.flat_names.specs.declared.design.Entry.{Entry}
@@ -17,6 +19,7 @@ use Rattle.flat_names.specs.declared.scope.Look.{Look}
 use Rattle.flat_names.specs.Designs.{IsReset, reset_of}
 use Rattle.flat_process.specs.declared.reset.Given.{Given}
 use Rattle.flat_process.specs.declared.reset.Signals.{Signals}
+use Rattle.flat_process.specs.declared.tested.Tested.{Tested}
 
 -- the resets of a look are pins
 abbrev pub ArePins : List ResetPin → Look → n.Look → Type 0
@@ -28,6 +31,16 @@ signals_of a = cond a.has_others None (Some a.numbers.items)
 
 abbrev pub joined : Option (List ℕ) → Option (List ℕ) → Option (List ℕ)
 joined a b = both (λ x y. x ++ y) a b
+
+-- the look in which resets are at one of their levels
+abbrev pub look_at : n.Look → Bool → n.Look
+look_at l active = record l { active = active }
+
+abbrev pub items_if : Option (Vec Bool Global) → Option (List Bool)
+items_if o = option_map (λ (v : Vec Bool Global). v.items) o
+
+abbrev pub tested_of : Tested → q.Tested
+tested_of t = record { signals = t.signals.items; alone = t.is_alone }
 
 -- whether what a name stands for is a reset beside these signals
 abbrev pub is_other : n.Look → List ℕ → Option Meaning → Bool

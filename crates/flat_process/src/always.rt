@@ -5,33 +5,34 @@ ghost use Rattle.std.specs.List.{list_all, list_any};
 ghost use Rattle.refusals.specs.Numbers.{HasNumberIn, unfolding_numbers};
 ghost use Rattle.cdc_base.specs.declared.signal.ResetPin.{ResetPin};
 ghost use Rattle.verilog_reading.specs.ExprTree.{tree_of};
-ghost use Rattle.verilog_reading.specs.StmtTree.{StmtTree, stmt_tree_of};
+ghost use Rattle.verilog_reading.specs.StmtTree.{StmtTree, subject_of, arms_of, stmt_tree_of};
 ghost use Rattle.flat_meaning.specs.Flat.{Stmt as FlatStmt};
+ghost use Rattle.flat_form.specs.View.{stmt_of};
 ghost use Rattle.flat_unfolding.specs.Outcome.{Broken, breaks_if, then_, judged, by_number};
 ghost use Rattle.flat_unfolding.specs.Names as n;
 ghost use Rattle.flat_unfolding.specs.Statements.{clocked as clocked_kind, of_wires, done};
 ghost use Rattle.flat_unfolding.specs.Reads.{latch_rule};
 ghost use Rattle.flat_unfolding.specs.Resets as q;
-ghost use Rattle.flat_unfolding.specs.Resets.{reset_form as reset_form_of, reset_rules, is_edge_of as is_edge_of_reset, is_active_edge as is_active, is_malformed as is_malformed_of};
+ghost use Rattle.flat_unfolding.specs.Resets.{left as left_of, other_branch as other_branch_of, form_with as form_with_of, items_form as items_form_of, reset_form as reset_form_of, reset_rules, is_edge_of as is_edge_of_reset, is_active_edge as is_active, is_malformed as is_malformed_of};
 ghost use Rattle.flat_unfolding.specs.Design as u;
 ghost use Rattle.flat_unfolding.specs.Design.{Stage, look_of};
 ghost use Rattle.flat_unfolding.specs.Processes as w;
 ghost use Rattle.flat_unfolding.specs.Processes.{always_item, edge_rules, event_rules, clocked_rules, pair_rules, taking_rules, clocked_body, body_with, reset_of, reset_gives, form_of};
-ghost use Rattle.flat_unfolding.specs.Formed.{IsFormed, IsStmtFormed};
+ghost use Rattle.flat_unfolding.specs.Widths.{stmt_keeps_sizes};
+ghost use Rattle.flat_unfolding.specs.Formed.{IsFormed, IsStmtFormed, AreArmsFormed};
 ghost use Rattle.flat_names.specs.Noting.{all_noted};
 ghost use Rattle.flat_names.specs.Looks.{Shows, IsFit};
 ghost use Rattle.flat_names.specs.Designs.{IsPin, ShowsDesign, ShowsStage, Ends, Meets, signal_of};
-ghost use Rattle.flat_statements.specs.Statements.{kind_of, IsDone};
+ghost use Rattle.flat_statements.specs.Statements.{kind_of, arm_tree_of, IsDone};
 ghost use Rattle.flat_process.specs.Assigns.{fresh};
-ghost use Rattle.flat_process.specs.Resets.{ArePins};
-ghost use Rattle.flat_process.specs.Processes.{process_at, lacks_reset, IsBody, reset_with, IsClocked, other_tree, left_tree, IsForm, IsFormIf, has_rule};
+ghost use Rattle.flat_process.specs.Resets.{ArePins, tested_of};
+ghost use Rattle.flat_process.specs.Processes.{lacks_reset, IsBody, reset_with, IsClocked, IsForm, IsFormIf, has_rule};
 
 use crate::kept::with_kept;
 use crate::others::reads_other;
-use crate::reset::{
-    Given, is_reset, keep_given, peeled, reset_branch, reset_signals, tested_signals,
-};
-use crate::sensitivity::counts_as_star;
+use crate::reset::{Given, is_reset, keep_given, peeled, reset_branch};
+use crate::sensitivity::{edges_of, is_of_wires, lacks_level};
+use crate::tested::{Tested, condition_tested, item_tested};
 use cdc_base::{Name, NoMemory, Place, Stop};
 use flat_form::flat::{FStmt, FlatClocked, FlatComb, FlatReset};
 use flat_form::memory::push;
@@ -43,7 +44,7 @@ use flat_statements::statement::{Mode, statement};
 use process_delays::first_clash;
 use process_names::first_mixed;
 use std::alloc::Global;
-use verilog_ast::{Edge, EdgeKind, Event, Expr, Stmt};
+use verilog_ast::{CaseItem, Edge, EdgeKind, Event, Expr, Stmt};
 
 /// `always`: a process of wires, or one with a clock.
 pub fn add_process(
@@ -58,68 +59,72 @@ pub fn add_process(
         → Meets pins names.now (always_item s place event.now (stmt_tree_of body.now)) result design.new }
     ensures numbered { IfErr result (HasNumberIn unfolding_numbers) }
 {
-    match event {
-        Event::Star => add_wires_process(alloc, place, body, names, design),
-        Event::Edges(edges) => {
-            add_process_at(alloc, place, edges.as_slice(), body, names, design)
-        }
-    }
-}
-
-/// A process with a list of edges or levels.
-fn add_process_at(
-    alloc: Global,
-    place: Place,
-    edges: &[Edge],
-    body: &Stmt,
-    names: &Names,
-    design: &mut Design,
-) -> Result<(), Stop>
-    ensures meets { (pins : List ResetPin) (s : Stage) → ShowsStage pins names.now design.old s → IsFit (look_of s) → IsStmtFormed (stmt_tree_of body.now)
-        → Meets pins names.now (process_at s place edges.now (stmt_tree_of body.now)) result design.new }
-    ensures numbered { IfErr result (HasNumberIn unfolding_numbers) }
-{
-    let is_star = {
-        let look = design.look(alloc, names);
-        counts_as_star(&look, edges, body)?
-    };
-    if is_star {
-        add_wires_process(alloc, place, body, names, design)
+    if is_of_wires(event) {
+        add_wires_process(alloc, place, event, body, names, design)
     } else {
-        add_clocked_process(alloc, place, edges, body, names, design)
+        add_clocked_process(alloc, place, edges_of(event), body, names, design)
     }
 }
 
 fn add_wires_process(
     alloc: Global,
     place: Place,
+    event: &Event,
     body: &Stmt,
     names: &Names,
     design: &mut Design,
 ) -> Result<(), Stop>
     ensures meets { (pins : List ResetPin) (s : Stage) → ShowsStage pins names.now design.old s → IsFit (look_of s) → IsStmtFormed (stmt_tree_of body.now)
-        → Meets pins names.now (w.wires_process s place (stmt_tree_of body.now)) result design.new }
+        → Meets pins names.now (w.wires_process s place event.now (stmt_tree_of body.now)) result design.new }
     ensures numbered { IfErr result (HasNumberIn unfolding_numbers) }
 {
     let mut faults = Faults::new(alloc, Order::Other);
     let body = {
         let look = design.look(alloc, names);
-        wires_process(&look, body, &mut faults)?
+        wires_process(&look, event, body, &mut faults)?
     };
     keep_wires_process(place, faults, body, design)
 }
 
-fn wires_process(look: &Look, body: &Stmt, faults: &mut Faults) -> Result<FStmt, NoMemory>
+fn wires_process(
+    look: &Look,
+    event: &Event,
+    body: &Stmt,
+    faults: &mut Faults,
+) -> Result<FStmt, NoMemory>
     ensures { (l : n.Look) → Shows look.now l → IsFit l → look.now.signals.now ≡ map signal_of l.entries → IsStmtFormed (stmt_tree_of body.now)
         → IfOk result (λ r. IsBody (done l of_wires (stmt_tree_of body.now)).stmt (done l of_wires (stmt_tree_of body.now)).broken r
-        × (faults.new ≡ all_noted faults.old ((done l of_wires (stmt_tree_of body.now)).broken ++ w.later_rules (stmt_tree_of body.now) ++ latch_rule l.entries (done l of_wires (stmt_tree_of body.now)).stmt))) }
+        × (faults.new ≡ all_noted faults.old (w.level_rules l event.now (stmt_tree_of body.now) ++ (done l of_wires (stmt_tree_of body.now)).broken ++ w.later_rules (stmt_tree_of body.now) ++ latch_rule l.entries (done l of_wires (stmt_tree_of body.now)).stmt))) }
 {
+    note_levels(look, event, body, faults)?;
     let resolved = statement(look, body, Mode::Wires, faults)?;
     note_wrong(first_mixed(look.alloc, body)?, faults)?;
     if let Some(sig) = first_latch(look.alloc, look.signals, &resolved)? {
         faults.note(Rule::Latch, look.own_name(sig))?;
     }
     Ok(resolved)
+}
+
+/// Notes what a list of levels breaks. `@*` breaks nothing.
+fn note_levels(look: &Look, event: &Event, body: &Stmt, faults: &mut Faults) -> Result<(), NoMemory>
+    ensures { (l : n.Look) → Shows look.now l → IfOk result (λ _. faults.new ≡ all_noted faults.old (w.level_rules l event.now (stmt_tree_of body.now))) }
+{
+    match event {
+        Event::Star => Ok(()),
+        Event::Edges(levels) => note_list(look, levels.as_slice(), body, faults),
+    }
+}
+
+/// Notes a name in a list of levels that is no signal's, and a list that lacks one.
+fn note_list(look: &Look, levels: &[Edge], body: &Stmt, faults: &mut Faults) -> Result<(), NoMemory>
+    ensures { (l : n.Look) → Shows look.now l → IfOk result (λ _. faults.new ≡ all_noted faults.old (w.list_rules l levels.now (stmt_tree_of body.now))) }
+{
+    note_edges(look, levels, faults)?;
+    let is_short = lacks_level(look, levels, body)?;
+    if is_short {
+        faults.note(Rule::ClockForm, first_edge(levels))?;
+    }
+    Ok(())
 }
 
 /// Notes a name that is assigned in a wrong way, if there is one.
@@ -393,7 +398,7 @@ fn names_reset(look: &Look, edge: &Edge) -> bool
 }
 
 /// The signal that an edge names.
-pub fn edge_signal(look: &Look, edge: &Edge) -> Option<u32>
+fn edge_signal(look: &Look, edge: &Edge) -> Option<u32>
     ensures { (l : n.Look) → Shows look.now l → result ≡ w.edge_signal l edge.now }
 {
     match look.meaning(&edge.name) {
@@ -455,8 +460,8 @@ fn process_with_form(
     with_reset(look, clock, edge, whole, form)
 }
 
-/// A body in reset form: the signals of its resets, whether it reads another reset in its condition or its other branch,
-/// its first branch, what that gives where it has its form, and what is left of the body.
+/// A body in reset form: the signals of its resets, whether it reads another reset, its first branch, what that gives
+/// where it has its form, and what is left of the body.
 #[derive(Drop)]
 struct ResetForm {
     signals: Vec<u32>,
@@ -467,22 +472,66 @@ struct ResetForm {
 }
 
 fn reset_form(look: &Look, body: &Stmt) -> Result<Option<ResetForm>, NoMemory>
-    ensures { (pins : List ResetPin) (l : n.Look) → Shows look.now l → IsFit l → ArePins pins look.now l → IsStmtFormed (stmt_tree_of body.now)
-        → IfOk result (λ o. IsFormIf l (reset_form_of l (stmt_tree_of body.now)) o) }
+    ensures { (l : n.Look) → Shows look.now l → IsFit l → IsStmtFormed (stmt_tree_of body.now)
+        → IfOk result (λ o. IsFormIf l (done l clocked_kind (stmt_tree_of body.now)).broken (reset_form_of l (stmt_tree_of body.now)) o) }
 {
     let stmt = peeled(body);
-    let Stmt::If { cond, yes, other } = stmt else {
+    match stmt {
+        Stmt::If { cond, yes, .. } => {
+            let tested = condition_tested(look, cond)?;
+            form_with(look, tested, yes, stmt)
+        }
+        Stmt::Case {
+            masks,
+            subject,
+            items,
+            ..
+        } => items_form(look, *masks, subject, items.as_slice(), stmt),
+        _ => Ok(None),
+    }
+}
+
+/// The reset form of a `casez`, which stands for a chain of `if`s; a `case` has none.
+fn items_form(
+    look: &Look,
+    masks: bool,
+    subject: &Expr,
+    items: &[CaseItem],
+    all: &Stmt,
+) -> Result<Option<ResetForm>, NoMemory>
+    ensures { (l : n.Look) → Shows look.now l → IsFit l → IsFormed (tree_of subject.now) → AreArmsFormed (arms_of (map arm_tree_of items.now)) → IsStmtFormed (stmt_tree_of all.now)
+        → IfOk result (λ o. IsFormIf l (done l clocked_kind (stmt_tree_of all.now)).broken (items_form_of l (subject_of masks (tree_of subject.now)) (arms_of (map arm_tree_of items.now)) (stmt_tree_of all.now)) o) }
+{
+    if !masks {
+        return Ok(None);
+    }
+    let Some((first, _)) = items.split_first() else {
         return Ok(None);
     };
-    let Some(signals) = tested_signals(look, cond)? else {
+    let tested = item_tested(look, subject, items)?;
+    form_with(look, tested, &first.body, all)
+}
+
+/// The reset form of a statement with this first branch, whose condition tests resets.
+fn form_with(
+    look: &Look,
+    tested: Option<Tested>,
+    branch: &Stmt,
+    all: &Stmt,
+) -> Result<Option<ResetForm>, NoMemory>
+    ensures { (l : n.Look) → Shows look.now l → IsFit l → IsStmtFormed (stmt_tree_of branch.now) → IsStmtFormed (stmt_tree_of all.now)
+        → IfOk result (λ o. IsFormIf l (done l clocked_kind (stmt_tree_of all.now)).broken (form_with_of l (option_map tested_of tested) (stmt_tree_of branch.now) (stmt_tree_of all.now)) o) }
+{
+    let Some(tested) = tested else {
         return Ok(None);
     };
-    let reads_other = reads_other(look, cond, other, signals.as_slice())?;
-    let branch = branch_body(look, yes)?;
-    let given = reset_branch(look, yes)?;
-    let rest = rest_body(look, stmt, cond, other)?;
+    let reads_other = reads_other(look, all, tested.signals.as_slice())?;
+    let given = reset_branch(look, branch)?;
+    let branch = branch_body(look, branch)?;
+    let whole = branch_body(look, all)?;
+    let rest = left(tested.is_alone, whole);
     Ok(Some(ResetForm {
-        signals,
+        signals: tested.signals,
         reads_other,
         branch,
         given,
@@ -490,28 +539,25 @@ fn reset_form(look: &Look, body: &Stmt) -> Result<Option<ResetForm>, NoMemory>
     }))
 }
 
-/// What is left of a body in reset form: its other branch where the condition tests resets alone, else all of it.
-fn rest_body(
-    look: &Look,
-    stmt: &Stmt,
-    cond: &Expr,
-    other: &Option<Box<Stmt>>,
-) -> Result<FStmt, NoMemory>
-    ensures { (l : n.Look) → Shows look.now l → IsFit l → IsFormed (tree_of cond.now) → IsStmtFormed (stmt_tree_of stmt.now) → IsStmtFormed (other_tree other.now)
-        → IfOk result (λ r. IsDone (done l clocked_kind (left_tree l (tree_of cond.now) (other_tree other.now) (stmt_tree_of stmt.now))) r) }
+/// What reset form leaves: the other branch where the condition tests resets alone, else all.
+fn left(is_alone: bool, stmt: FStmt) -> FStmt
+    ensures same { stmt_of result ≡ left_of is_alone (stmt_of stmt) }
+    ensures sizes { stmt_keeps_sizes stmt ≡ true → stmt_keeps_sizes result ≡ true }
 {
-    match reset_signals(look, cond)? {
-        Some(_) => other_body(look, other),
-        None => branch_body(look, stmt),
-    }
+    if is_alone { other_branch(stmt) } else { stmt }
 }
 
-fn other_body(look: &Look, other: &Option<Box<Stmt>>) -> Result<FStmt, NoMemory>
-    ensures { (l : n.Look) → Shows look.now l → IsFit l → IsStmtFormed (other_tree other.now) → IfOk result (λ r. IsDone (done l clocked_kind (other_tree other.now)) r) }
+/// What stands behind the first condition.
+fn other_branch(stmt: FStmt) -> FStmt
+    ensures same { stmt_of result ≡ other_branch_of (stmt_of stmt) }
+    ensures sizes { stmt_keeps_sizes stmt ≡ true → stmt_keeps_sizes result ≡ true }
 {
-    match other {
-        Some(other) => branch_body(look, other),
-        None => Ok(FStmt::Null),
+    match stmt {
+        FStmt::If { other, .. } => match other {
+            Some(other) => Box::into_inner(other),
+            None => FStmt::Null,
+        },
+        stmt => stmt,
     }
 }
 
@@ -563,7 +609,7 @@ fn note_reset(
     form: &Option<ResetForm>,
     faults: &mut Faults,
 ) -> Result<(), NoMemory>
-    ensures { (pins : List ResetPin) (l : n.Look) (f : Option q.ResetForm) → Shows look.now l → ArePins pins look.now l → IsFormIf l f form.now
+    ensures { (pins : List ResetPin) (l : n.Look) (bs : List Broken) (f : Option q.ResetForm) → Shows look.now l → ArePins pins look.now l → IsFormIf l bs f form.now
         → IfOk result (λ _. faults.new ≡ all_noted faults.old (reset_rules l (w.first_edge edges.now) (w.reset_edge l edges.now) f)) }
 {
     if breaks_reset(look, edges, form) {
@@ -573,7 +619,7 @@ fn note_reset(
 }
 
 fn breaks_reset(look: &Look, edges: &[Edge], form: &Option<ResetForm>) -> bool
-    ensures { (pins : List ResetPin) (l : n.Look) (f : Option q.ResetForm) → Shows look.now l → ArePins pins look.now l → IsFormIf l f form.now
+    ensures { (pins : List ResetPin) (l : n.Look) (bs : List Broken) (f : Option q.ResetForm) → Shows look.now l → ArePins pins look.now l → IsFormIf l bs f form.now
         → breaks_if result 317 (w.first_edge edges.now) ≡ reset_rules l (w.first_edge edges.now) (w.reset_edge l edges.now) f }
 {
     match form {
@@ -583,14 +629,14 @@ fn breaks_reset(look: &Look, edges: &[Edge], form: &Option<ResetForm>) -> bool
 }
 
 fn breaks_form(look: &Look, edges: &[Edge], form: &ResetForm) -> bool
-    ensures { (pins : List ResetPin) (l : n.Look) (f : q.ResetForm) → Shows look.now l → ArePins pins look.now l → IsForm l f form.now
+    ensures { (pins : List ResetPin) (l : n.Look) (bs : List Broken) (f : q.ResetForm) → Shows look.now l → ArePins pins look.now l → IsForm l bs f form.now
         → result ≡ (not (option_map_or (is_edge_of_reset l f.signals) (w.reset_edge l edges.now) true) || is_malformed_of l f) }
 {
     !fits_edge(look, edges, form.signals.as_slice()) || is_malformed(form)
 }
 
 fn is_malformed(form: &ResetForm) -> bool
-    ensures { (l : n.Look) (f : q.ResetForm) → IsForm l f form.now → result ≡ is_malformed_of l f }
+    ensures { (l : n.Look) (bs : List Broken) (f : q.ResetForm) → IsForm l bs f form.now → result ≡ is_malformed_of l f }
 {
     form.given.is_none() || form.reads_other
 }
@@ -651,7 +697,7 @@ fn with_reset(
     whole: FStmt,
     form: Option<ResetForm>,
 ) -> Result<Clocked, NoMemory>
-    ensures { (l : n.Look) (body : StmtTree) → Shows look.now l → IsDone (done l clocked_kind body) whole → IsFormIf l (reset_form_of l body) form
+    ensures { (l : n.Look) (body : StmtTree) → Shows look.now l → IsDone (done l clocked_kind body) whole → IsFormIf l (done l clocked_kind body).broken (reset_form_of l body) form
         → IfOk result (λ p. IsClocked (length l.entries) clock (body_with l body (reset_form_of l body)) (reset_with l edge body) (reset_gives l (reset_form_of l body)) (done l clocked_kind body).broken p) }
 {
     match form {

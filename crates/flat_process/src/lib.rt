@@ -8,3 +8,4 @@ mod others;
 mod reset;
 mod sensitivity;
 pub mod start;
+mod tested;

@@ -1,46 +1,26 @@
 //! Resets that a process in reset form reads beside its own.
-ghost use Rattle.std.specs.Prelude.{◌≡◌, ◌==◌, ◌++◌, map, IfOk};
+ghost use Rattle.std.specs.Prelude.{◌≡◌, ◌==◌, map, IfOk};
 ghost use Rattle.std.specs.List.{list_any};
-ghost use Rattle.verilog_reading.specs.ExprTree.{tree_of};
 ghost use Rattle.verilog_reading.specs.StmtTree.{stmt_tree_of};
 ghost use Rattle.flat_unfolding.specs.Names as n;
-ghost use Rattle.flat_unfolding.specs.Mentions.{names_in, read_names};
+ghost use Rattle.flat_unfolding.specs.Mentions.{read_names};
 ghost use Rattle.flat_unfolding.specs.Resets.{reads_other as reads_other_of};
 ghost use Rattle.flat_names.specs.Looks.{Shows};
 ghost use Rattle.flat_process.specs.Resets.{is_other};
-ghost use Rattle.flat_process.specs.Processes.{other_tree};
 
 use crate::reset::is_reset;
 use cdc_base::{Name, NoMemory};
 use flat_names::scope::{Look, Meaning};
-use process_names::mentions::{add_expr_names, add_read_names};
-use verilog_ast::{Expr, Stmt};
+use process_names::mentions::add_read_names;
+use verilog_ast::Stmt;
 
-/// Whether the condition or the other branch names a reset that isn't one of these signals.
-pub fn reads_other<'a>(
-    look: &Look,
-    cond: &'a Expr,
-    other: &'a Option<Box<Stmt>>,
-    signals: &[u32],
-) -> Result<bool, NoMemory>
-    ensures { (l : n.Look) → Shows look.now l → IfOk result (λ b. b ≡ reads_other_of l signals.now (names_in (tree_of cond.now) ++ read_names (other_tree other.now))) }
+/// Whether a statement names a reset that isn't one of these signals.
+pub fn reads_other(look: &Look, stmt: &Stmt, signals: &[u32]) -> Result<bool, NoMemory>
+    ensures { (l : n.Look) → Shows look.now l → IfOk result (λ b. b ≡ reads_other_of l signals.now (read_names (stmt_tree_of stmt.now))) }
 {
     let mut names = Vec::new(look.alloc);
-    add_expr_names(cond, &mut names)?;
-    add_other_names(other, &mut names)?;
+    add_read_names(stmt, &mut names)?;
     name_other(look, signals, names.as_slice())
-}
-
-fn add_other_names<'a>(
-    other: &'a Option<Box<Stmt>>,
-    names: &mut Vec<&'a str>,
-) -> Result<(), NoMemory>
-    ensures { IfOk result (λ _. map (λ n. n.now) names.new.items ≡ map (λ n. n.now) names.old.items ++ read_names (other_tree other.now)) }
-{
-    match other {
-        Some(other) => add_read_names(other, names),
-        None => Ok(()),
-    }
 }
 
 fn name_other(look: &Look, signals: &[u32], names: &[&str]) -> Result<bool, NoMemory>

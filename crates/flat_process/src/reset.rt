@@ -11,7 +11,7 @@ ghost use Rattle.flat_unfolding.specs.Names.{width_at};
 ghost use Rattle.flat_unfolding.specs.Expressions.{Term};
 ghost use Rattle.flat_unfolding.specs.Targets.{Aim};
 ghost use Rattle.flat_unfolding.specs.Mentions.{names_in, all_names_in};
-ghost use Rattle.flat_unfolding.specs.Resets.{peeled as peeled_of, signals_among, is_reset as is_reset_of, are_resets as are_resets_of, is_test as is_test_of, at_level, reset_signals as reset_signals_of, is_one_bit as is_one_bit_of, is_or as is_or_of, both_signals as both_signals_of, tested_signals as tested_signals_of, has_variable_index as has_variable_index_of, has_variable_index_in, row_given as row_given_of, rows_given as rows_given_of, branch_given};
+ghost use Rattle.flat_unfolding.specs.Resets.{peeled as peeled_of, signals_among, is_reset as is_reset_of, are_resets as are_resets_of, is_test as is_test_of, at_level, reset_signals as reset_signals_of, is_one_bit as is_one_bit_of, is_or as is_or_of, both_signals as both_signals_of, tested_signals as tested_signals_of, resets_in as resets_in_of, has_variable_index as has_variable_index_of, has_variable_index_in, row_given as row_given_of, rows_given as rows_given_of, branch_given};
 ghost use Rattle.flat_unfolding.specs.Design as u;
 ghost use Rattle.flat_unfolding.specs.Formed.{IsFormed, IsTargetFormed, AreTargetsFormed, IsStmtFormed, AreRowsFormed};
 ghost use Rattle.flat_names.specs.Looks.{Shows, IsFit};
@@ -164,6 +164,22 @@ pub fn reset_signals(look: &Look, cond: &Expr) -> Result<Option<Vec<u32>>, NoMem
     };
     add_names(look, cond, &mut signals)?;
     if signals.are_resets(look) && is_test(look, cond)? {
+        Ok(Some(signals.numbers))
+    } else {
+        Ok(None)
+    }
+}
+
+/// The signals of an expression that names resets alone, one at least. `None` of any other.
+pub fn resets_in(look: &Look, expr: &Expr) -> Result<Option<Vec<u32>>, NoMemory>
+    ensures { (l : n.Look) → Shows look.now l → IfOk result (λ o. option_map (λ v. v.items) o ≡ resets_in_of l (tree_of expr.now)) }
+{
+    let mut signals = Signals {
+        numbers: Vec::new(look.alloc),
+        has_others: false,
+    };
+    add_names(look, expr, &mut signals)?;
+    if signals.are_resets(look) {
         Ok(Some(signals.numbers))
     } else {
         Ok(None)

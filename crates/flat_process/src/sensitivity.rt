@@ -1,48 +1,55 @@
-//! Lists of levels that count as `@*`.
-ghost use Rattle.std.specs.Prelude.{◌≡◌, ◌&&◌, Some, is_some, map, IfOk};
+//! Lists of levels, which stand for `@*`.
+ghost use Rattle.std.specs.Prelude.{◌≡◌, map, IfOk};
 ghost use Rattle.std.specs.List.{list_all, list_any};
 ghost use Rattle.verilog_ast.specs.declared.Edge.{Edge};
 ghost use Rattle.verilog_reading.specs.StmtTree.{stmt_tree_of};
 ghost use Rattle.flat_unfolding.specs.Outcome.{Text};
 ghost use Rattle.flat_unfolding.specs.Names as n;
-ghost use Rattle.flat_unfolding.specs.Processes.{is_level as is_level_of, edge_signal as edge_signal_of, needs_level as needs_level_of, counts_as_star as counts_as_star_of};
+ghost use Rattle.flat_unfolding.specs.Processes.{is_level as is_level_of, is_of_wires as is_wires_event, edges_of as event_edges, needs_level as needs_level_of, lacks_level as lacks_level_of};
 ghost use Rattle.flat_names.specs.Looks.{Shows};
 
-use crate::always::edge_signal;
 use cdc_base::{Name, NoMemory};
 use flat_names::scope::{Look, Meaning};
 use process_names::unlisted;
-use verilog_ast::{Edge, EdgeKind, Stmt};
+use verilog_ast::{Edge, EdgeKind, Event, Stmt};
 
-/// Whether a list of levels counts as `@*`: all its names are signals', and each signal and memory that the process reads
-/// and that is no target of it is in the list.
-pub fn counts_as_star<'a>(look: &Look, edges: &'a [Edge], body: &'a Stmt) -> Result<bool, NoMemory>
-    ensures { (l : n.Look) → Shows look.now l → IfOk result (λ b. b ≡ counts_as_star_of l edges.now (stmt_tree_of body.now)) }
+/// Whether an event is `@*`, or a list of levels, which stands for it.
+pub fn is_of_wires(event: &Event) -> bool
+    ensures { result ≡ is_wires_event event.now }
 {
-    if !are_levels(look, edges) {
-        return Ok(false);
+    match event {
+        Event::Star => true,
+        Event::Edges(edges) => are_levels(edges.as_slice()),
     }
-    let names = unlisted(look.alloc, edges, body)?;
-    let is_short = need_levels(look, names.as_slice())?;
-    Ok(!is_short)
 }
 
-fn are_levels(look: &Look, edges: &[Edge]) -> bool
-    ensures { (l : n.Look) → Shows look.now l → result ≡ list_all (λ (e : Edge). is_level_of e.kind && is_some (edge_signal_of l e)) edges.now }
+pub fn edges_of(event: &Event) -> &[Edge]
+    ensures { result.now ≡ event_edges event.now }
 {
-    for edge in edges {
-        if !is_level(look, edge) {
-            return false;
-        }
+    match event {
+        Event::Star => &[],
+        Event::Edges(edges) => edges.as_slice(),
     }
-    true
 }
 
-/// Whether it is the level of a signal.
-fn is_level(look: &Look, edge: &Edge) -> bool
-    ensures { (l : n.Look) → Shows look.now l → result ≡ (is_level_of edge.now.kind && is_some (edge_signal_of l edge.now)) }
+fn are_levels(edges: &[Edge]) -> bool
+    ensures { result ≡ list_all (λ (e : Edge). is_level_of e.kind) edges.now }
 {
-    edge.kind == EdgeKind::Level && edge_signal(look, edge).is_some()
+    edges.iter().all(|edge| is_level(edge.kind))
+}
+
+fn is_level(kind: EdgeKind) -> bool
+    ensures { result ≡ is_level_of kind }
+{
+    kind == EdgeKind::Level
+}
+
+/// Whether a signal or a memory that the process reads, and that is no target of it, isn't in the list.
+pub fn lacks_level<'a>(look: &Look, levels: &'a [Edge], body: &'a Stmt) -> Result<bool, NoMemory>
+    ensures { (l : n.Look) → Shows look.now l → IfOk result (λ b. b ≡ lacks_level_of l levels.now (stmt_tree_of body.now)) }
+{
+    let names = unlisted(look.alloc, levels, body)?;
+    need_levels(look, names.as_slice())
 }
 
 /// Whether one of the names is that of a signal or a memory.

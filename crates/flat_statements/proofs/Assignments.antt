@@ -1,5 +1,5 @@
 -- What an assignment is and notes, by what its target and its value are.
-use Rattle.std.proofs.Common.{◌≡◌, ◌+◌, ◌^◌, ◌≤◌, Bool, true, false, cond, ◌&&◌, ◌||◌, nat_le, List, [], Option, Some, None, is_some, refl, sym, ap, ap₂, subst, ◌∙◌, arith, leb-true}
+use Rattle.std.proofs.Common.{◌≡◌, ◌+◌, ◌^◌, ◌≤◌, Bool, true, false, cond, ◌&&◌, nat_le, List, [], Option, Some, None, refl, sym, ap, ap₂, subst, ◌∙◌, arith, leb-true}
 use Rattle.verilog_ast.specs.declared.Delay.{Delay}
 use Rattle.verilog_reading.specs.ExprTree.{ExprTree, TargetTree, whole, index_of, part_of, join_of}
 use Rattle.verilog_reading.specs.StmtTree.{set}

@@ -29,7 +29,7 @@ abbrev AllSized : List MaskLabel → Type 0
 AllSized [] = Unit {0}
 AllSized (c ∷ cs) = (is_sized c.expr ≡ true) × AllSized cs
 
-masks-sized : (ms : List Mask) (cs : List MaskLabel) → AreMasks ms cs → masks_broken ms ≡ [] → AllSized cs
+pub masks-sized : (ms : List Mask) (cs : List MaskLabel) → AreMasks ms cs → masks_broken ms ≡ [] → AllSized cs
 masks-sized [] [] h n = tt
 masks-sized [] (c ∷ cs) h n = absurd h
 masks-sized (m ∷ ms) [] h n = absurd h
@@ -43,15 +43,15 @@ items-least : (n : ℕ) (is : List MaskItem) → n ≤ items_width n is
 items-least n [] = omega arith
 items-least n (i ∷ is) = let h = items-least (labels_width n i.labels.items) is in let k = labels-least n i.labels.items in omega arith
 
-labels-fit : (n w : ℕ) (cs : List MaskLabel) → AllSized cs → labels_width n cs ≤ w → AllFit w cs
+pub labels-fit : (n w : ℕ) (cs : List MaskLabel) → AllSized cs → labels_width n cs ≤ w → AllFit w cs
 labels-fit n w [] s h = tt
 labels-fit n w (c ∷ cs) s h = let k = labels-least (max n (kept_of c.expr).width) cs in (record { sized = s.0; width = omega arith }, labels-fit (max n (kept_of c.expr).width) w cs s.1 h)
 
-labels-small : (n : ℕ) (cs : List MaskLabel) → AllSized cs → n ≤ 64 → labels_width n cs ≤ 64
+pub labels-small : (n : ℕ) (cs : List MaskLabel) → AllSized cs → n ≤ 64 → labels_width n cs ≤ 64
 labels-small n [] s h = h
 labels-small n (c ∷ cs) s h = let k = (sized_range c.expr s.0).most in labels-small (max n (kept_of c.expr).width) cs s.1 (omega arith)
 
-labels-same : (n : ℕ) (ms : List Mask) (cs : List MaskLabel) → AreMasks ms cs → masks_broken ms ≡ [] → labels_width n cs ≡ masks_size n ms
+pub labels-same : (n : ℕ) (ms : List Mask) (cs : List MaskLabel) → AreMasks ms cs → masks_broken ms ≡ [] → labels_width n cs ≡ masks_size n ms
 labels-same n [] [] h b = refl
 labels-same n [] (c ∷ cs) h b = absurd h
 labels-same n (m ∷ ms) [] h b = absurd h

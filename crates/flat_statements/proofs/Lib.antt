@@ -11,6 +11,7 @@ pub mod Chains
 pub mod Items
 pub mod Assignments
 pub mod Written
+pub mod MetLabels
 pub mod Paths
 pub mod Firsts
 pub mod Within

@@ -110,7 +110,7 @@ module _ (w : ℕ) (s : FExpr) (all : List MaskLabel) where
 
 -- ---- labels as they were read
 
-mask-same : (w : ℕ) (s : Expr) (m : Mask) (c : MaskLabel) → IsMask m c → m.term.broken ≡ [] → mask_test w s (mask_in c) ≡ mask_test w s m
+pub mask-same : (w : ℕ) (s : Expr) (m : Mask) (c : MaskLabel) → IsMask m c → m.term.broken ≡ [] → mask_test w s (mask_in c) ≡ mask_test w s m
 mask-same w s m c h n = ap₂ (mask_at w s) h.opened (h.expr n)
 
 also-same : (w : ℕ) (s x : Expr) (ms : List Mask) (cs : List MaskLabel) → AreMasks ms cs → masks_broken ms ≡ [] → also_tests w s x (map mask_in cs) ≡ also_tests w s x ms

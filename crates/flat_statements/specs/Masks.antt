@@ -5,7 +5,8 @@ use Rattle.flat_form.specs.View.{expr_of}
 use Rattle.flat_form.specs.Sizes.{is_word, kept_of, is_sized}
 use Rattle.flat_form.specs.declared.flat.FExpr.{FExpr}
 use Rattle.flat_unfolding.specs.Expressions.{constant}
-use Rattle.flat_unfolding.specs.Statements.{Mask, Way}
+use Rattle.flat_unfolding.specs.Statements.{Mask, Way, ways_size}
+use Rattle.flat_unfolding.specs.Resets.{labels_broken}
 use Rattle.flat_names.specs.Pieces.{SameReads}
 use Rattle.flat_statements.specs.declared.masks.MaskLabel.{MaskLabel}
 use Rattle.flat_statements.specs.declared.masks.MaskItem.{MaskItem}
@@ -43,6 +44,11 @@ labels_width n (c ∷ cs) = labels_width (max n (kept_of c.expr).width) cs
 abbrev pub items_width : ℕ → List MaskItem → ℕ
 items_width n [] = n
 items_width n (i ∷ is) = items_width (labels_width n i.labels.items) is
+
+-- the largest of a size and those of all labels, where none breaks a rule
+pub record IsLargest (n : ℕ) (ws : List Way) (w : ℕ) : Type 0 where
+  pub same : labels_broken ws ≡ [] → w ≡ ways_size n ws
+  pub most : labels_broken ws ≡ [] → n ≤ 64 → w ≤ 64
 
 -- ---- tests
 

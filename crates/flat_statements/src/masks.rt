@@ -1,17 +1,19 @@
 //! `casez`, which stands for a chain of `if`s: each asks whether the subject meets a label of its item.
-ghost use Rattle.std.specs.Prelude.{◌≡◌, ◌∷◌, [], List, map, All, true, IfOk};
-ghost use Rattle.verilog_reading.specs.StmtTree.{label_tree_of};
+ghost use Rattle.std.specs.Prelude.{◌≡◌, ◌∷◌, [], List, map, All, true, option_map, IfOk};
+ghost use Rattle.verilog_reading.specs.ExprTree.{tree_of};
+ghost use Rattle.verilog_reading.specs.StmtTree.{arms_of, label_tree_of};
 ghost use Rattle.flat_form.specs.View.{expr_of};
 ghost use Rattle.flat_form.specs.Sizes.{kept_of};
 ghost use Rattle.flat_unfolding.specs.Names as n;
-ghost use Rattle.flat_unfolding.specs.Formed.{IsLabelFormed};
+ghost use Rattle.flat_unfolding.specs.Formed.{IsFormed, IsLabelFormed, AreArmsFormed};
 ghost use Rattle.flat_unfolding.specs.Expressions.{Term};
-ghost use Rattle.flat_unfolding.specs.Statements.{Kind, Way, Done, mask_of, masks_broken, without_open, mask_test, way_test, chained as chained_of};
+ghost use Rattle.flat_unfolding.specs.Statements.{Kind, clocked, Way, Done, mask_of, masks_broken, without_open, mask_test, way_test, chained as chained_of, ways};
+ghost use Rattle.flat_unfolding.specs.Resets.{labels_broken, is_met, labels_met};
 ghost use Rattle.flat_names.specs.Noting.{all_noted};
 ghost use Rattle.flat_names.specs.Looks.{Shows, IsFit};
 ghost use Rattle.flat_names.specs.Pieces.{IsRead};
-ghost use Rattle.flat_statements.specs.Statements.{IsDone};
-ghost use Rattle.flat_statements.specs.Masks.{IsMask, AreMasks, AreWays, labels_width, items_width, mask_in, AreRight, IsTest};
+ghost use Rattle.flat_statements.specs.Statements.{arm_tree_of, IsDone};
+ghost use Rattle.flat_statements.specs.Masks.{IsMask, AreMasks, AreWays, labels_width, items_width, mask_in, AreRight, IsTest, IsLargest};
 
 use crate::statement::chosen;
 use cdc_base::NoMemory;
@@ -20,13 +22,13 @@ use flat_form::copy::copy;
 use flat_form::flat::{FExpr, FStmt};
 use flat_form::memory::push;
 use flat_form::size::width_of;
-use flat_form::value::value_at;
-use flat_names::expr::resolve_constant;
-use flat_names::fault::Faults;
+use flat_form::value::{own_value, value_at};
+use flat_names::expr::{resolve, resolve_constant};
+use flat_names::fault::{Faults, Order};
 use flat_names::resolved::{Resolved, binary_expr, nothing};
 use flat_names::scope::Look;
 use std::alloc::Global;
-use verilog_ast::{BinaryOp, Label};
+use verilog_ast::{BinaryOp, CaseItem, Expr, Label};
 
 /// A label: what the subject is compared with, and the bits that are left open.
 #[derive(Drop)]
@@ -171,4 +173,63 @@ fn without(alloc: Global, subject: FExpr, opened: u64, size: u8) -> Result<FExpr
         width: size,
     };
     binary_expr(alloc, BinaryOp::And, subject, kept)
+}
+
+/// Whether the subject of a `casez` meets each label of the first item, in a look in which it reads no signal. `None`
+/// where there is no item, or where the subject or a label of some item breaks a rule.
+pub fn first_labels_met(
+    look: &Look,
+    subject: &Expr,
+    items: &[CaseItem],
+) -> Result<Option<Vec<bool>>, NoMemory>
+    ensures { (l : n.Look) → Shows look.now l → IsFit l → IsFormed (tree_of subject.now) → AreArmsFormed (arms_of (map arm_tree_of items.now))
+        → IfOk result (λ o. option_map (λ v. v.items) o ≡ labels_met l (tree_of subject.now) (arms_of (map arm_tree_of items.now))) }
+{
+    let Some((first, _)) = items.split_first() else {
+        return Ok(None);
+    };
+    let mut faults = Faults::new(look.alloc, Order::Other);
+    let subject = resolve(look, subject, &mut faults)?;
+    let size = largest_of_all(look, width_of(&subject.expr), items, &mut faults)?;
+    if faults.rule().is_some() {
+        return Ok(None);
+    }
+    let labels = mask_labels(look, first.labels.as_slice(), &mut faults)?;
+    let met = are_met(look.alloc, &subject.expr, labels.as_slice(), size)?;
+    Ok(Some(met))
+}
+
+/// The largest of a width and those of the labels of all items.
+fn largest_of_all(
+    look: &Look,
+    width: u8,
+    items: &[CaseItem],
+    faults: &mut Faults,
+) -> Result<u8, NoMemory>
+    ensures { (l : n.Look) → Shows look.now l → IsFit l → AreArmsFormed (arms_of (map arm_tree_of items.now))
+        → IfOk result (λ w. IsLargest width (ways l clocked (arms_of (map arm_tree_of items.now))) w × (faults.new ≡ all_noted faults.old (labels_broken (ways l clocked (arms_of (map arm_tree_of items.now)))))) }
+{
+    let mut size = width;
+    for item in items {
+        let labels = mask_labels(look, item.labels.as_slice(), faults)?;
+        size = largest(size, labels.as_slice());
+    }
+    Ok(size)
+}
+
+/// Whether the subject meets each of the labels.
+fn are_met(
+    alloc: Global,
+    subject: &FExpr,
+    labels: &[MaskLabel],
+    size: u8,
+) -> Result<Vec<bool>, NoMemory>
+    ensures { AreRight size subject.now labels.now → IfOk result (λ v. v.items ≡ map (λ c. is_met size (expr_of subject.now) (mask_in c)) labels.now) }
+{
+    let mut met = Vec::new(alloc);
+    for label in labels {
+        let test = label_test(alloc, subject, label, size)?;
+        push(&mut met, own_value(&test) != 0)?;
+    }
+    Ok(met)
 }

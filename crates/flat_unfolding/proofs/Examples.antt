@@ -3,6 +3,7 @@ use Rattle.std.proofs.Common.{◌≡◌, ℕ, true, false, List, [], ◌∷◌, 
 use Rattle.std.specs.Prelude.{codes}
 use Rattle.std.specs.Fmt.{digits}
 use Rattle.cdc_base.specs.Words.{keyword_of, is_left_out}
+use Rattle.cdc_base.specs.declared.signal.Signal.{Signal}
 use Rattle.cdc_base.specs.declared.signal.SigKind.TheVariants.{Input, Register, Wire}
 use Rattle.verilog_ast.specs.declared.BinaryOp.TheVariants as b
 use Rattle.verilog_ast.specs.declared.UnaryOp.TheVariants as u
@@ -11,7 +12,7 @@ use Rattle.verilog_ast.specs.declared.GateKind.TheVariants as g
 use Rattle.verilog_ast.specs.declared.Event.TheVariants as event
 use Rattle.verilog_ast.specs.declared.EdgeKind.TheVariants as edge
 use Rattle.verilog_reading.specs.ExprTree.{ExprTree, part, unary, binary, choice, repeat, and_trees, no_trees, paren}
-use Rattle.verilog_reading.specs.StmtTree.{when, either, set, switch, switch_else, subject_of, by_value, by_mask, and_arms, no_arms}
+use Rattle.verilog_reading.specs.StmtTree.{StmtTree, when, either, set, switch, switch_else, subject_of, by_value, by_mask, and_arms, no_arms}
 use Rattle.verilog_ast.specs.declared.PartKind.TheVariants as select
 use Rattle.verilog_ast.specs.declared.Delay.TheVariants as delay
 use Rattle.verilog_reading.specs.SourceTree.{BodyTree, ModuleTree, assign, decl, gate, instance, initial, always, ordered}
@@ -306,6 +307,10 @@ more_levels = refl
 missing_level : h (reg None "r" ∷ always (event.Edges (on edge.Level "d" ∷ [])) (blocking (to "r") (binary b.And (v "d") (v "e"))) ∷ []) ≡ refused_at 316 3 "d"
 missing_level = refl
 
+-- always @(d) if (d) r = e; the list stands for `@*`, so that the latch counts too, with the lesser number
+missing_level_in_latch : h (reg None "r" ∷ always (event.Edges (on edge.Level "d" ∷ [])) (when (v "d") (blocking (to "r") (v "e"))) ∷ []) ≡ refused_at 311 3 "r"
+missing_level_in_latch = refl
+
 -- always @* begin s = d; r <= s; end reads nothing that it assigns by `<=`
 later_in_star : h (reg None "r" ∷ reg None "s" ∷ of_wires (rows (blocking (to "s") (v "d") ∷ later (to "r") (v "s") ∷ [])) ∷ [])
     ≡ h (reg None "r" ∷ reg None "s" ∷ always (event.Edges (on edge.Level "d" ∷ [])) (rows (blocking (to "s") (v "d") ∷ later (to "r") (v "s") ∷ [])) ∷ [])
@@ -532,6 +537,71 @@ clear_beside_reset : h_reset (reg None "r"
     })
 unfolding keyword_of is_left_out
 clear_beside_reset = refl
+
+-- with the reset e: reg r; always @(posedge ca or negedge e) casez ..; assign q = r;
+abbrev at_reset : StmtTree → Outcome Flat
+at_reset body = h_reset (reg None "r" ∷ at_clock_or "ca" (on edge.Neg "e") body ∷ assign (to "q") (v "r") ∷ [])
+
+abbrev cleared : StmtTree
+cleared = later (to "r") (plain 0)
+
+abbrev loaded : StmtTree
+loaded = later (to "r") (v "d")
+
+abbrev signals_at_reset : List Signal
+signals_at_reset = one_bit "ca" 1 Input ∷ one_bit "cb" 1 Input ∷ one_bit "d" 1 Input ∷ one_bit "e" 1 Input ∷ ranged "v" 1 3 Input
+    ∷ one_bit "q" 1 Wire ∷ ranged "o" 1 7 Wire ∷ starts_as 1 0 (one_bit "r" 2 Register) ∷ []
+
+-- casez (e) 1'b0: r <= 0; default: r <= d; endcase is an `if`
+masked_reset : at_reset (switch_else (subject_of true (v "e")) (and_arms (by_value (sized 1 0) ∷ []) cleared no_arms) loaded)
+    ≡ at_reset (either (unary u.LogicNot (v "e")) cleared loaded)
+unfolding keyword_of is_left_out
+masked_reset = refl
+
+-- and so is casez (~e) 2'b?1: r <= 0; default: r <= d; endcase, but for its high bit
+open_reset : at_reset (switch_else (subject_of true (unary u.Not (v "e"))) (and_arms (by_mask 1 2 2 ∷ []) cleared no_arms) loaded)
+    ≡ at_reset (either (unary u.LogicNot (v "e")) cleared loaded)
+unfolding keyword_of is_left_out
+open_reset = refl
+
+-- casez (~e) 2'b11: r <= 0; 1'b0: r <= d; endcase compares the second label at two bits as well, where ~e is 2'b10
+wide_reset : at_reset (switch (subject_of true (unary u.Not (v "e"))) (and_arms (by_value (sized 2 3) ∷ []) cleared (and_arms (by_value (sized 1 0) ∷ []) loaded no_arms)))
+    ≡ good (record {
+      signals = signals_at_reset;
+      assigns = (f.Whole 5, f.Read 7 0 1) ∷ [];
+      combs = [];
+      clocked = (0, f.If (f.Binary f.is_equal (f.Unary f.complement (f.Number 1 1)) (f.Number 2 0)) (f.Set false (f.Whole 7) (f.Read 2 0 1)) f.Null) ∷ [];
+      outputs = 5 ∷ 6 ∷ [];
+    })
+unfolding keyword_of is_left_out
+wide_reset = refl
+
+-- casez (~e) 1'b1: r <= 0; 2'b00: r <= d; endcase has no reset form, since ~e is 2'b11 while the reset is active
+wider_behind : at_reset (switch (subject_of true (unary u.Not (v "e"))) (and_arms (by_value (sized 1 1) ∷ []) cleared (and_arms (by_value (sized 2 0) ∷ []) loaded no_arms)))
+    ≡ refused_at 317 3 "ca"
+unfolding keyword_of is_left_out
+wider_behind = refl
+
+-- casez (e) 1'b0, 1'b?: r <= 0; default: r <= d; endcase tests something beside the reset, so that it stays whole
+open_beside_reset : at_reset (switch_else (subject_of true (v "e")) (and_arms (by_value (sized 1 0) ∷ by_mask 0 1 1 ∷ []) cleared no_arms) loaded)
+    ≡ good (record {
+      signals = signals_at_reset;
+      assigns = (f.Whole 5, f.Read 7 0 1) ∷ [];
+      combs = [];
+      clocked = (
+        0,
+        f.If (f.Binary f.logical_or (f.Binary f.is_equal (f.Number 1 1) (f.Number 1 0)) (f.Binary f.is_equal (f.Binary f.bitwise_and (f.Number 1 1) (f.Number 1 0)) (f.Number 1 0)))
+            (f.Set false (f.Whole 7) (f.Number 32 0)) (f.Set false (f.Whole 7) (f.Read 2 0 1)),
+      ) ∷ [];
+      outputs = 5 ∷ 6 ∷ [];
+    })
+unfolding keyword_of is_left_out
+open_beside_reset = refl
+
+-- case (e) 1'b0: r <= 0; default: r <= d; endcase is no `if`
+case_on_reset : at_reset (switch_else (subject_of false (v "e")) (and_arms (by_value (sized 1 0) ∷ []) cleared no_arms) loaded) ≡ refused_at 317 3 "ca"
+unfolding keyword_of is_left_out
+case_on_reset = refl
 
 -- with the reset e: reg r; always @(posedge ca or negedge d) if (!d) r <= 0; else r <= v[0]; of two edges one is a reset's
 edge_of_no_reset : h_reset (reg None "r"

@@ -10,11 +10,10 @@ use Rattle.verilog_ast.specs.declared.DeclKind.{DeclKind}
 use Rattle.verilog_ast.specs.declared.DeclKind.TheVariants as k
 use Rattle.verilog_ast.specs.declared.Edge.{Edge}
 use Rattle.verilog_ast.specs.declared.Event.{Event}
-use Rattle.verilog_ast.specs.declared.Event.TheVariants as event
 use Rattle.verilog_ast.specs.declared.GateKind.{GateKind}
 use Rattle.verilog_ast.specs.declared.GateKind.TheVariants as g
 use Rattle.verilog_reading.specs.ExprTree.{ExprTree, TargetTree, whole}
-use Rattle.verilog_reading.specs.StmtTree.{StmtTree, null, set, when, either, switch, switch_else, block, StmtTrees, no_rows, and_rows}
+use Rattle.verilog_reading.specs.StmtTree.{StmtTree, null, set, when, either, Subject, switch, switch_else, block, StmtTrees, no_rows, and_rows, ArmTrees, no_arms, and_arms}
 use Rattle.flat_meaning.specs.Flat.{Expr, Gate, Unary, complement, size, largest, Target, Whole, Part, Pick, Group, Targets, no_targets, target, Stmt, Null, Set, If, Case, Block, Stmts, no_stmts, stmt, assigns}
 use Rattle.flat_meaning.specs.Fits.{is_gate}
 use Rattle.flat_meaning.specs.Law.{AreWords}
@@ -22,16 +21,15 @@ use Rattle.flat_unfolding.specs.Outcome.{Text, Broken, good, Order, by_number, j
 use Rattle.flat_unfolding.specs.Names.{width_of, Meaning, a_param, a_signal, a_memory, no_value, meaning, Entry, width_at}
 use Rattle.flat_unfolding.specs.Expressions.{Term, is_sound, joined, read}
 use Rattle.flat_unfolding.specs.Targets.{is_input, of_wires, takes, first_pick, wire_aim, driven}
-use Rattle.flat_unfolding.specs.Statements.{of_wires as wires, clocked, neither, done, done_all}
+use Rattle.flat_unfolding.specs.Statements.{of_wires as wires, clocked, neither, Done, masks_broken, ways_broken, chained, nothing_done, mask_of, done, done_all, ways}
 use Rattle.flat_unfolding.specs.Reads.{is_latch, latch_rule}
-use Rattle.flat_unfolding.specs.Mentions.{names_in, read_names}
-use Rattle.flat_unfolding.specs.Resets.{peeled, peeled_rows, reset_signals, tested_signals, ResetForm, branch_given, form_with, form_in, reset_form}
-use Rattle.flat_unfolding.specs.Processes.{delay_rules, later_rules, counts_as_star, has_form, first_edge, meant_edge, edge_rules, meant_signal, edge_signal, is_wide, names_reset, clock_of, event_rules, edge_kind, form_of, as_one, kept, all_kept, branch_kept, rows_kept, with_kept, body_without, reset_branch, body_with, wires_process, clocked_process, always_item}
+use Rattle.flat_unfolding.specs.Resets.{peeled, peeled_rows, Tested, tested, item_tested, ResetForm, other_branch, left, form_with, items_form, form_in, reset_form}
+use Rattle.flat_unfolding.specs.Processes.{delay_rules, later_rules, level_rules, is_of_wires, edges_of, has_form, first_edge, meant_edge, edge_rules, meant_signal, edge_signal, is_wide, names_reset, clock_of, event_rules, edge_kind, form_of, as_one, kept, all_kept, branch_kept, rows_kept, with_kept, body_without, reset_branch, body_with, wires_process, clocked_process, always_item}
 use Rattle.flat_unfolding.specs.Starts.{Starts, with_starts, start_of}
 use Rattle.flat_unfolding.specs.Wires.{assign_item, has_terminals, gate_op, is_inverted, gate_value, output_rule, input_rules, count_rule, gate_item}
 use Rattle.flat_unfolding.specs.Design.{Design, Stage, look_of, with_design, assigned}
 use Rattle.flat_unfolding.specs.Unfolding.{value_item}
-use Rattle.flat_unfolding.specs.Formed.{IsFormed, IsFormedIf, IsTargetFormed, IsStmtFormed, AreRowsFormed}
+use Rattle.flat_unfolding.specs.Formed.{IsFormed, IsFormedIf, IsTargetFormed, IsStmtFormed, AreRowsFormed, AreArmsFormed}
 use Rattle.flat_unfolding.specs.Sized.{IsSized, AreSized, IsTargetSized, AreTargetsSized, IsStmtSized, AreStmtsSized}
 use Rattle.flat_unfolding.proofs.Steps.{good_is, judged_is, not_broken, none_of_both, some_is}
 use Rattle.flat_unfolding.proofs.Known.{reg_at, top_at, StandsIf, AreNamed, stands}
@@ -278,18 +276,19 @@ module _ (s : Stage) (h : IsStage s) where
 
   -- ---- processes
 
-  wires_next : (p : Place) (body : StmtTree) (t : Stage) → IsStmtFormed body → wires_process s p body ≡ good t → IsNext s t
-  wires_next p body t f = judged_next by_number p _ s _ t (λ b.
+  wires_next : (p : Place) (e : Event) (body : StmtTree) (t : Stage) → IsStmtFormed body → wires_process s p e body ≡ good t → IsNext s t
+  wires_next p e body t f = judged_next by_number p _ s _ t (λ b.
       let d = done (look_of s) wires body in
-      let m = none_of_both (d.broken ++ later_rules body) (latch_rule es d.stmt) b in
-      let q = none_of_both d.broken (later_rules body) m.0 in
+      let listed = level_rules (look_of s) e body in
+      let m = none_of_both (listed ++ d.broken ++ later_rules body) (latch_rule es d.stmt) b in
+      let q = none_of_both listed d.broken (none_of_both (listed ++ d.broken) (later_rules body) m.0).0 in
       record {
         stage = record {
           names = h.names;
           design = record {
             entries = h.design.entries;
             assigns = h.design.assigns;
-            combs = All-push (IsCombIn es) s.design.combs d.stmt h.design.combs (done_sized (look_of s) words known wires body f q.0, no_latches es d.stmt m.1);
+            combs = All-push (IsCombIn es) s.design.combs d.stmt h.design.combs (done_sized (look_of s) words known wires body f q.1, no_latches es d.stmt m.1);
             clocked = h.design.clocked;
             outputs = h.design.outputs;
           };
@@ -316,46 +315,72 @@ module _ (s : Stage) (h : IsStage s) where
     rows_fine (and_rows x no_rows) f e = peeled_fine x (f.0, (none_of_both (done (look_of s) clocked x).broken [] e).0)
     rows_fine (and_rows x (and_rows y rest)) f e = (f, e)
 
-  -- the first branch and the rest of reset form
+  fine_sized : (body : StmtTree) → IsFine body → IsStmtSized (width_at es) (reg_at es) (done (look_of s) clocked body).stmt
+  fine_sized body f = done_sized (look_of s) words known clocked body f.0 f.1
+
+  -- the first branch of reset form, and what is left
   abbrev IsFineForm : ResetForm → Type 0
-  IsFineForm r = IsFine r.branch × IsFine r.rest
+  IsFineForm r = IsFine r.branch × IsStmtSized (width_at es) (reg_at es) r.rest
 
-  form_fine : (c : ExprTree) (x y all : StmtTree) → IsFine x → IsFine y → IsFine all → (r : ResetForm)
-      → form_with (look_of s) c x y all ≡ Some r → IsFineForm r
-  form_fine c x y all d f g r e = go (tested_signals (look_of s) c) e
+  other_sized : (x : Stmt) → IsStmtSized (width_at es) (reg_at es) x → IsStmtSized (width_at es) (reg_at es) (other_branch x)
+  other_sized Null h = h
+  other_sized (Set b t e) h = h
+  other_sized (If c x y) h = h.2
+  other_sized (Case e is) h = h
+  other_sized (Block ss) h = h
+
+  left_sized : (b : Bool) (x : Stmt) → IsStmtSized (width_at es) (reg_at es) x → IsStmtSized (width_at es) (reg_at es) (left b x)
+  left_sized true x h = other_sized x h
+  left_sized false x h = h
+
+  form_fine : (o : Option Tested) (x all : StmtTree) → IsFine x → IsFine all → (r : ResetForm) → form_with (look_of s) o x all ≡ Some r → IsFineForm r
+  form_fine None x all d f r e = absurd (search (rules, e))
+  form_fine (Some q) x all d f r e = subst IsFineForm (some_is _ r e) (d, left_sized q.alone (done (look_of s) clocked all).stmt (fine_sized all f))
+
+  items_fine : (c : Subject) (rows : ArmTrees) (all : StmtTree) → AreArmsFormed rows → (c.masks ≡ true → ways_broken (ways (look_of s) clocked rows) ≡ []) → IsFine all
+      → (r : ResetForm) → items_form (look_of s) c rows all ≡ Some r → IsFineForm r
+  items_fine c no_arms all f w g r e = absurd (search (rules, e))
+  items_fine c (and_arms labels x rest) all f w g r e = go c.masks refl e
     where
-      rest_is : (b : Bool) → IsFine (cond b y all)
-      rest_is true = f
-      rest_is false = g
+      go : (b : Bool) → c.masks ≡ b → cond b (form_with (look_of s) (item_tested (look_of s) c.value (and_arms labels x rest)) x all) None ≡ Some r → IsFineForm r
+      go true m i =
+          let ms = map (mask_of (look_of s) clocked) labels in let bs = (done (look_of s) clocked x).broken in
+          let p = none_of_both (masks_broken ms ++ bs) (ways_broken (ways (look_of s) clocked rest)) (w m) in
+          form_fine (item_tested (look_of s) c.value (and_arms labels x rest)) x all (f.1, (none_of_both (masks_broken ms) bs p.0).1) g r i
+      go false m i = absurd (search (rules, i))
 
-      go : (o : Option (List ℕ)) → option_map (λ ss. record {
-        signals = ss;
-        reads = names_in c ++ read_names y;
-        branch = x;
-        given = branch_given (look_of s) x;
-        rest = cond (is_some (reset_signals (look_of s) c)) y all;
-      }) o ≡ Some r → IsFineForm r
-      go None e = absurd (search (rules, e))
-      go (Some ss) e = subst IsFineForm (some_is _ r e) (d, rest_is (is_some (reset_signals (look_of s) c)))
+  -- the chain that a `casez` stands for
+  masked : (b : Bool) (x y : Done) → b ≡ true → (cond b x y).broken ≡ [] → x.broken ≡ []
+  masked true x y m e = e
+  masked false x y m e = absurd (search (rules, m))
 
   parts_fine : (body : StmtTree) → IsFine body → (r : ResetForm) → form_in (look_of s) body ≡ Some r → IsFineForm r
   parts_fine (when c x) f r e =
       let p = none_of_both (read (look_of s) c).broken (done (look_of s) clocked x).broken f.1 in
-      form_fine c x null (when c x) (f.0.1, p.1) (tt, refl) f r e
+      form_fine (tested (look_of s) c) x (when c x) (f.0.1, p.1) f r e
   parts_fine (either c x y) f r e =
       let p = none_of_both ((read (look_of s) c).broken ++ (done (look_of s) clocked x).broken) (done (look_of s) clocked y).broken f.1 in
       let q = none_of_both (read (look_of s) c).broken (done (look_of s) clocked x).broken p.0 in
-      form_fine c x y (either c x y) (f.0.1, q.1) (f.0.2, p.1) f r e
-  parts_fine body f r e = absurd (search (rules, e))
-
-  fine_sized : (body : StmtTree) → IsFine body → IsStmtSized (width_at es) (reg_at es) (done (look_of s) clocked body).stmt
-  fine_sized body f = done_sized (look_of s) words known clocked body f.0 f.1
+      form_fine (tested (look_of s) c) x (either c x y) (f.0.1, q.1) f r e
+  parts_fine (switch c rows) f r e =
+      let k = read (look_of s) c.value in let ws = ways (look_of s) clocked rows in
+      items_fine c rows (switch c rows) f.0.1 (λ m.
+      let b = masked c.masks (chained k ws nothing_done) _ m f.1 in
+      (none_of_both k.broken (ways_broken ws) (none_of_both (k.broken ++ ways_broken ws) [] b).0).1) f r e
+  parts_fine (switch_else c rows x) f r e =
+      let k = read (look_of s) c.value in let ws = ways (look_of s) clocked rows in let d = done (look_of s) clocked x in
+      items_fine c rows (switch_else c rows x) f.0.1 (λ m.
+      let b = masked c.masks (chained k ws d) _ m f.1 in
+      (none_of_both k.broken (ways_broken ws) (none_of_both (k.broken ++ ways_broken ws) d.broken b).0).1) f r e
+  parts_fine null f r e = absurd (search (rules, e))
+  parts_fine (set b delay t v) f r e = absurd (search (rules, e))
+  parts_fine (block rows) f r e = absurd (search (rules, e))
 
   body_sized : (body : StmtTree) → IsFine body → (o : Option ResetForm) → ((r : ResetForm) → o ≡ Some r → IsFineForm r)
       → IsStmtSized (width_at es) (reg_at es) (body_with (look_of s) body o)
   body_sized body f None r = with_kept_sized (width_at es) (reg_at es) _ Null (fine_sized body f) tt
   body_sized body f (Some q) r = let i = r q refl in
-      with_kept_sized (width_at es) (reg_at es) _ (done (look_of s) clocked q.branch).stmt (fine_sized q.rest i.1) (fine_sized q.branch i.0)
+      with_kept_sized (width_at es) (reg_at es) _ (done (look_of s) clocked q.branch).stmt i.1 (fine_sized q.branch i.0)
 
   neither_holds : (a b : Bool) → (a || b) ≡ false → (a ≡ false) × (b ≡ false)
   neither_holds false b e = (refl, e)
@@ -432,12 +457,11 @@ module _ (s : Stage) (h : IsStage s) where
           go false e = absurd (search (rules, e))
 
   pub always_next : (p : Place) (e : Event) (body : StmtTree) (t : Stage) → IsStmtFormed body → always_item s p e body ≡ good t → IsNext s t
-  always_next p event.Star body t f = wires_next p body t f
-  always_next p (event.Edges edges) body t f = go (counts_as_star (look_of s) edges body)
+  always_next p event body t f = go (is_of_wires event)
     where
-      go : (b : Bool) → cond b (wires_process s p body) (clocked_process s p edges body) ≡ good t → IsNext s t
-      go true e = wires_next p body t f e
-      go false e = clocked_next p edges body t f e
+      go : (b : Bool) → cond b (wires_process s p event body) (clocked_process s p (edges_of event) body) ≡ good t → IsNext s t
+      go true e = wires_next p event body t f e
+      go false e = clocked_next p (edges_of event) body t f e
 
   -- ---- start values
 

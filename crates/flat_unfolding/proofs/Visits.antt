@@ -9,7 +9,6 @@ use Rattle.verilog_ast.specs.declared.DeclKind.{DeclKind}
 use Rattle.verilog_ast.specs.declared.DeclKind.TheVariants as k
 use Rattle.verilog_ast.specs.declared.GateKind.{GateKind}
 use Rattle.verilog_ast.specs.declared.Event.{Event}
-use Rattle.verilog_ast.specs.declared.Event.TheVariants as event
 use Rattle.verilog_reading.specs.ExprTree.{ExprTree, TargetTree, whole}
 use Rattle.verilog_reading.specs.StmtTree.{StmtTree}
 use Rattle.verilog_reading.specs.SourceTree.{ParamTree, DeclTree, ConnsTree, BodyTree, param, decl, assign, gate, instance, always, initial, ModuleTree}
@@ -24,7 +23,7 @@ use Rattle.flat_unfolding.specs.Memories.{word_names}
 use Rattle.flat_unfolding.specs.Design.{Design, no_design, Stage, look_of, with_design}
 use Rattle.flat_unfolding.specs.Starts.{start_of}
 use Rattle.flat_unfolding.specs.Wires.{assign_item, gate_item}
-use Rattle.flat_unfolding.specs.Processes.{counts_as_star, wires_process, clocked_process, always_item}
+use Rattle.flat_unfolding.specs.Processes.{is_of_wires, edges_of, wires_process, clocked_process, always_item}
 use Rattle.flat_unfolding.specs.Parameters.{range_read, Overrides, parameter_order, parameter, params_of, parameters}
 use Rattle.flat_unfolding.specs.Declarations.{is_plain_port, declaration_order, Site, again, range_rule, array_read, declaration_rules, entry, declared_again, add_declared, declaration, header_of, header_decls, sites, header_twice, has_direction, directed, declarations}
 use Rattle.flat_unfolding.specs.Instances.{override_rules, overrides_of, Link, into, out_of, connection_rules, links_of, resolving_to, into_port, out_of_port, connect_one, connect_all, connected, leaning_of, is_short}
@@ -87,10 +86,9 @@ module _ (before : List Entry) where
   gate_keeps s p kind (x ∷ es) t e h = judged_keeps by_number p _ _ t e h
 
   always_keeps : (s : Stage) (p : Place) (event : Event) (body : StmtTree) (t : Stage) → always_item s p event body ≡ good t → SoundStage s → SoundStage t
-  always_keeps s p event.Star body t e h = judged_keeps by_number p _ _ t e h
-  always_keeps s p (event.Edges edges) body t e h = go (counts_as_star (look_of s) edges body) e
+  always_keeps s p event body t e h = go (is_of_wires event) e
     where
-      go : (b : Bool) → cond b (wires_process s p body) (clocked_process s p edges body) ≡ good t → SoundStage t
+      go : (b : Bool) → cond b (wires_process s p event body) (clocked_process s p (edges_of event) body) ≡ good t → SoundStage t
       go true e = judged_keeps by_number p _ _ t e h
       go false e = judged_keeps by_number p _ _ t e h
 

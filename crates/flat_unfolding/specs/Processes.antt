@@ -46,6 +46,15 @@ has_form (c ∷ e ∷ f ∷ rest) = false
 abbrev pub is_level : EdgeKind → Bool
 is_level k = not (is_an_edge k)
 
+-- `@*`, or a list of levels, which stands for it
+abbrev pub is_of_wires : Event → Bool
+is_of_wires event.Star = true
+is_of_wires (event.Edges edges) = list_all (λ (e : Edge). is_level e.kind) edges
+
+abbrev pub edges_of : Event → List Edge
+edges_of event.Star = []
+edges_of (event.Edges edges) = edges
+
 abbrev pub first_edge : List Edge → Text
 first_edge [] = []
 first_edge (e ∷ rest) = e.name
@@ -122,10 +131,17 @@ module _ (look : Look) where
   needs_level (Some (a_memory m)) = true
   needs_level m = false
 
-  -- it counts as `@*` where all its names are signals', and each signal and memory that the process reads and that is no target of it is among them
-  abbrev pub counts_as_star : List Edge → StmtTree → Bool
-  counts_as_star edges body = list_all (λ (e : Edge). is_level e.kind && is_some (edge_signal e)) edges
-      && not (list_any (λ x. needs_level (meaning look x)) (unlisted (map (λ (e : Edge). e.name) edges) body))
+  -- whether a signal or a memory that the process reads, and that is no target of it, isn't in the list
+  abbrev pub lacks_level : List Edge → StmtTree → Bool
+  lacks_level levels body = list_any (λ x. needs_level (meaning look x)) (unlisted (map (λ (e : Edge). e.name) levels) body)
+
+  -- E305, and E316: its names are those of signals, and none is missing
+  abbrev pub list_rules : List Edge → StmtTree → List Broken
+  list_rules levels body = flat_map (edge_rules (first_edge levels)) levels ++ breaks_if (lacks_level levels body) 316 (first_edge levels)
+
+  abbrev pub level_rules : Event → StmtTree → List Broken
+  level_rules event.Star body = []
+  level_rules (event.Edges levels) body = list_rules levels body
 
   -- of two edges the one that names a reset, where the other one doesn't
   abbrev pub reset_edge : List Edge → Option Edge
@@ -171,7 +187,7 @@ module _ (look : Look) where
   -- what reset form leaves, else the whole
   abbrev pub body_without : StmtTree → Option ResetForm → Stmt
   body_without body None = (done look clocked body).stmt
-  body_without body (Some f) = (done look clocked f.rest).stmt
+  body_without body (Some f) = f.rest
 
   abbrev pub reset_gives : Option ResetForm → List Given
   reset_gives None = []
@@ -200,9 +216,9 @@ module _ (look : Look) where
 abbrev pub later_rules : StmtTree → List Broken
 later_rules body = wrong_name (first_mixed body)
 
-abbrev pub wires_process : Stage → Place → StmtTree → Outcome Stage
-wires_process s p body = let look = look_of s in let b = done look of_wires body in
-    judged by_number p (b.broken ++ later_rules body ++ latch_rule look.entries b.stmt) (with_design s (record s.design { combs = s.design.combs ++ (b.stmt ∷ []) }))
+abbrev pub wires_process : Stage → Place → Event → StmtTree → Outcome Stage
+wires_process s p e body = let look = look_of s in let b = done look of_wires body in
+    judged by_number p (level_rules look e body ++ b.broken ++ later_rules body ++ latch_rule look.entries b.stmt) (with_design s (record s.design { combs = s.design.combs ++ (b.stmt ∷ []) }))
 
 abbrev pub clocked_process : Stage → Place → List Edge → StmtTree → Outcome Stage
 clocked_process s p edges body = let look = look_of s in
@@ -214,5 +230,4 @@ clocked_process s p edges body = let look = look_of s in
     }))
 
 abbrev pub always_item : Stage → Place → Event → StmtTree → Outcome Stage
-always_item s p event.Star body = wires_process s p body
-always_item s p (event.Edges edges) body = cond (counts_as_star (look_of s) edges body) (wires_process s p body) (clocked_process s p edges body)
+always_item s p e body = cond (is_of_wires e) (wires_process s p e body) (clocked_process s p (edges_of e) body)

@@ -1,5 +1,5 @@
--- Resets of clocked processes: the form `if (reset) constants else rest`, or `if (reset || clear) constants else rest`.
-use Rattle.std.specs.Prelude.{ℕ, ◌^◌, ◌/◌, ◌%◌, Bool, true, false, cond, not, ◌&&◌, ◌||◌, ◌==◌, List, [], ◌∷◌, ◌++◌, Option, Some, None, is_some, is_none, option_map}
+-- Resets of clocked processes: the form `if (reset) constants else rest`, or `if (reset || clear) constants else rest`, also written as a `casez`.
+use Rattle.std.specs.Prelude.{ℕ, ◌^◌, ◌/◌, ◌%◌, Bool, true, false, cond, not, ◌&&◌, ◌||◌, ◌==◌, List, [], ◌∷◌, ◌++◌, map, flat_map, Option, Some, None, is_some, is_none, option_map}
 use Rattle.std.specs.Option.{option_map_or, option_or}
 use Rattle.std.specs.List.{list_all, list_any}
 use Rattle.cdc_base.specs.declared.signal.ResetPin.{ResetPin}
@@ -9,13 +9,14 @@ use Rattle.verilog_ast.specs.declared.Edge.{Edge}
 use Rattle.verilog_ast.specs.declared.EdgeKind.{EdgeKind}
 use Rattle.verilog_ast.specs.declared.EdgeKind.TheVariants as edge
 use Rattle.verilog_reading.specs.ExprTree.{ExprTree, number, name, index, part, unary, binary, choice, join, repeat, paren, ExprTrees, no_trees, and_trees, TargetTree, whole, index_of, part_of, join_of, TargetTrees, no_parts, and_parts}
-use Rattle.verilog_reading.specs.StmtTree.{StmtTree, null, set, when, either, block, StmtTrees, no_rows, and_rows}
-use Rattle.flat_meaning.specs.Flat.{size, Target, Whole, Part, Pick, Group, Targets, no_targets, target, target_sizes}
+use Rattle.verilog_reading.specs.StmtTree.{StmtTree, null, set, when, either, Subject, switch, switch_else, block, StmtTrees, no_rows, and_rows, ArmTrees, no_arms, and_arms}
+use Rattle.flat_meaning.specs.Flat.{Expr, size, Target, Whole, Part, Pick, Group, Targets, no_targets, target, target_sizes, Stmt, If}
 use Rattle.flat_unfolding.specs.Outcome.{Text, Broken, breaks_if}
 use Rattle.flat_unfolding.specs.Names.{Meaning, a_param, a_signal, Look, meaning, width_at, reset_at}
 use Rattle.flat_unfolding.specs.Constants.{own_value, assigned_value, both}
-use Rattle.flat_unfolding.specs.Expressions.{Term, is_sound, read}
+use Rattle.flat_unfolding.specs.Expressions.{Term, is_empty, is_sound, read}
 use Rattle.flat_unfolding.specs.Targets.{of_registers, aim}
+use Rattle.flat_unfolding.specs.Statements.{clocked, Mask, Way, masks_broken, ways_size, mask_test, done, ways}
 use Rattle.flat_unfolding.specs.Design.{Given}
 use Rattle.flat_unfolding.specs.Mentions.{names_in, read_names}
 
@@ -28,6 +29,40 @@ abbrev mutual
   pub peeled_rows : StmtTrees → StmtTree
   peeled_rows (and_rows s no_rows) = peeled s
   peeled_rows rows = block rows
+
+-- ---- the labels of a `casez`
+
+-- the rules that the labels of items break
+abbrev pub labels_broken : List Way → List Broken
+labels_broken ws = flat_map (λ (w : Way). masks_broken w.masks) ws
+
+-- whether a constant meets a label at a size
+abbrev pub is_met : (size : ℕ) → Expr → Mask → Bool
+is_met n e m = not (own_value (mask_test n e m) == 0)
+
+-- which labels of the first item it meets, at the size of all; nothing where it or a label breaks a rule
+abbrev pub met_in : Term → List Way → Option (List Bool)
+met_in k [] = None
+met_in k (w ∷ ws) = cond (is_empty (k.broken ++ labels_broken (w ∷ ws))) (Some (map (is_met (ways_size (size k.expr) (w ∷ ws)) k.expr) w.masks)) None
+
+abbrev pub labels_met : Look → ExprTree → ArmTrees → Option (List Bool)
+labels_met look e rows = met_in (read look e) (ways look clocked rows)
+
+-- some label is met at the active levels alone, by what is met at the inactive levels and at the active ones
+abbrev pub tests_one : (inactive active : List Bool) → Bool
+tests_one (x ∷ xs) (y ∷ ys) = (not x && y) || tests_one xs ys
+tests_one xs ys = false
+
+-- the `||` of all labels is
+abbrev pub tests_all : (inactive active : List Bool) → Bool
+tests_all xs ys = not (list_any (λ x. x) xs) && list_any (λ y. y) ys
+
+-- ---- conditions
+
+-- what a condition tests: the signals of its resets, and whether it tests these alone
+pub record Tested : Type 0 where
+  pub signals : List ℕ
+  pub alone : Bool
 
 module _ (look : Look) where
   -- the signals among some names, parameters left out; none where another name is among them
@@ -85,6 +120,26 @@ module _ (look : Look) where
   tested_signals (paren a) = tested_signals a
   tested_signals c = reset_signals c
 
+  -- what the condition of an `if` tests
+  abbrev pub tested : ExprTree → Option Tested
+  tested c = option_map (λ ss. record { signals = ss; alone = is_some (reset_signals c) }) (tested_signals c)
+
+  -- the signals of an expression that names resets alone
+  abbrev pub resets_in : ExprTree → Option (List ℕ)
+  resets_in e = go (signals_among (names_in e))
+    where
+      go : Option (List ℕ) → Option (List ℕ)
+      go None = None
+      go (Some ss) = cond (are_resets ss) (Some ss) None
+
+  abbrev pub tested_with : Option (List ℕ) → (inactive active : Option (List Bool)) → Option Tested
+  tested_with (Some ss) (Some xs) (Some ys) = cond (tests_one xs ys) (Some (record { signals = ss; alone = tests_all xs ys })) None
+  tested_with o m n = None
+
+  -- what the condition of the first item of a `casez` tests, the `||` of those of its labels: these are constants, so all of them read the subject alone
+  abbrev pub item_tested : ExprTree → ArmTrees → Option Tested
+  item_tested e rows = tested_with (resets_in e) (labels_met (record look { active = false }) e rows) (labels_met (record look { active = true }) e rows)
+
   -- ---- the first branch
 
   abbrev mutual
@@ -129,22 +184,38 @@ module _ (look : Look) where
   branch_given (block rows) = rows_given rows
   branch_given s = row_given s
 
--- a process in reset form: the signals of its resets, the names in its condition and its other branch, its first branch, what that gives where
--- it has its form, and what is left of it
+-- a process in reset form: the signals of its resets, the names that it reads (none is a signal's in a first branch that has its form), its first branch, what
+-- that gives where it has its form, and what is left of it
 pub record ResetForm : Type 0 where
   pub signals : List ℕ
   pub reads : List Text
   pub branch : StmtTree
   pub given : Option (List Given)
-  pub rest : StmtTree
+  pub rest : Stmt
 
--- the `else` is left where the condition tests resets alone, and all of the `if` where it tests something beside them
-abbrev pub form_with : Look → ExprTree → (branch other all : StmtTree) → Option ResetForm
-form_with look c s z all = option_map (λ ss. record { signals = ss; reads = names_in c ++ read_names z; branch = s; given = branch_given look s; rest = cond (is_some (reset_signals look c)) z all }) (tested_signals look c)
+-- what stands behind the first condition
+abbrev pub other_branch : Stmt → Stmt
+other_branch (If c x y) = y
+other_branch s = s
+
+-- the other branch is left where the condition tests resets alone, and all of the `if` where it tests something beside them
+abbrev pub left : (alone : Bool) → Stmt → Stmt
+left true s = other_branch s
+left false s = s
+
+abbrev pub form_with : Look → Option Tested → (branch all : StmtTree) → Option ResetForm
+form_with look o s all = option_map (λ (t : Tested). record { signals = t.signals; reads = read_names all; branch = s; given = branch_given look s; rest = left t.alone (done look clocked all).stmt }) o
+
+-- a `casez` is a chain of `if`s by then, and a `case` isn't one
+abbrev pub items_form : Look → Subject → ArmTrees → (all : StmtTree) → Option ResetForm
+items_form look c no_arms all = None
+items_form look c (and_arms labels s rest) all = cond c.masks (form_with look (item_tested look c.value (and_arms labels s rest)) s all) None
 
 abbrev pub form_in : Look → StmtTree → Option ResetForm
-form_in look (when c s) = form_with look c s null (when c s)
-form_in look (either c s z) = form_with look c s z (either c s z)
+form_in look (when c s) = form_with look (tested look c) s (when c s)
+form_in look (either c s z) = form_with look (tested look c) s (either c s z)
+form_in look (switch c rows) = items_form look c rows (switch c rows)
+form_in look (switch_else c rows d) = items_form look c rows (switch_else c rows d)
 form_in look s = None
 
 abbrev pub reset_form : Look → StmtTree → Option ResetForm

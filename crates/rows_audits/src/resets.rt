@@ -211,6 +211,30 @@ fn forms_of_resets(rt: HostRuntime) -> Result<(), Fail> {
         ),
         ("always @(posedge ca) if (!e & d) r <= d;", clean),
         (
+            "always @(posedge ca or negedge e) casez (e) 1'b0: r <= 0; default: r <= d; endcase",
+            clean,
+        ),
+        (
+            "always @(posedge ca or negedge e) casez (~e) 2'b?1: r <= 0; default: r <= d; endcase",
+            clean,
+        ),
+        (
+            "always @(posedge ca or negedge e) casez (~e) 2'b11: r <= 0; 1'b0: r <= d; endcase",
+            clean,
+        ),
+        (
+            "always @(posedge ca or negedge e) casez (~e) 1'b1: r <= 0; 2'b00: r <= d; endcase",
+            "error E317: reset form at 1:53: ca\n3",
+        ),
+        (
+            "always @(posedge ca or negedge e) case (e) 1'b0: r <= 0; default: r <= d; endcase",
+            "error E317: reset form at 1:53: ca\n3",
+        ),
+        (
+            "always @(posedge ca) casez (e) 1'b0, 1'b?: r <= d; default: r <= d; endcase",
+            "error E317: reset form at 1:53: ca\n3",
+        ),
+        (
             "always @(posedge ca or negedge e) if (!e) r <= 0; else r <= e;",
             clean,
         ),

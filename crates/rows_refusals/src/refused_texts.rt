@@ -226,6 +226,10 @@ fn levels_and_delays(rt: HostRuntime) -> Result<(), Fail> {
                 "error E316: clock form at 1:40: a",
             ),
             (
+                "module m(input ca, input a, b); reg r; always @(a) if (a) r = b; endmodule",
+                "error E311: latch at 1:40: r",
+            ),
+            (
                 "module m(input ca, input a, b); reg r; always @(a or n) r = a; endmodule",
                 "error E305: unknown name at 1:40: n",
             ),

@@ -15,6 +15,3 @@ mod reader;
 mod words;
 
 pub use reader::read;
-
-#[cfg(test)]
-mod tests;

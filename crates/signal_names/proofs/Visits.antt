@@ -11,7 +11,6 @@ use Rattle.verilog_ast.specs.declared.DeclKind.TheVariants as k
 use Rattle.verilog_ast.specs.declared.GateKind.{GateKind}
 use Rattle.verilog_ast.specs.declared.Edge.{Edge}
 use Rattle.verilog_ast.specs.declared.Event.{Event}
-use Rattle.verilog_ast.specs.declared.Event.TheVariants as event
 use Rattle.verilog_reading.specs.ExprTree.{ExprTree, TargetTree, whole}
 use Rattle.verilog_reading.specs.StmtTree.{StmtTree}
 use Rattle.verilog_reading.specs.SourceTree.{Bounds, ParamTree, DeclTree, ConnsTree, ItemTree, BodyTree, param, decl, assign, gate, instance, always, initial, ModuleTree}
@@ -24,7 +23,7 @@ use Rattle.flat_unfolding.specs.Memories.{words_of, word_names, taken}
 use Rattle.flat_unfolding.specs.Design.{Design, no_design, Stage, look_of, with_design, change_entry}
 use Rattle.flat_unfolding.specs.Starts.{start_of}
 use Rattle.flat_unfolding.specs.Wires.{assign_item, gate_item}
-use Rattle.flat_unfolding.specs.Processes.{counts_as_star, wires_process, clocked_process, always_item}
+use Rattle.flat_unfolding.specs.Processes.{is_of_wires, edges_of, wires_process, clocked_process, always_item}
 use Rattle.flat_unfolding.specs.Parameters.{bounds_read, range_read, Overrides, parameter_order, parameter, params_of, parameters}
 use Rattle.flat_unfolding.specs.Declarations.{is_plain_port, declaration_order, Site, taken_names, again, range_rule, array_read, count_rules, declaration_rules, entry, declared_again, add_declared, declaration, header_of, header_decls, item_decls, decl_in, sites, header_twice, has_direction, directed, declarations}
 use Rattle.flat_unfolding.specs.Instances.{override_rules, overrides_of, Link, into, out_of, connection_rules, links_of, resolving_to, into_port, out_of_port, connect_one, connect_all, connected, leaning_of, is_short}
@@ -55,19 +54,18 @@ gate_quiet : (s : Stage) (p : Place) (kind : GateKind) (es : List ExprTree) (t :
 gate_quiet s p kind [] t e = judged_quiet by_number p _ s _ t e (quiet_itself s)
 gate_quiet s p kind (x ∷ es) t e = judged_quiet by_number p _ s _ t e (record { names = refl; printed = refl })
 
-wires_quiet : (s : Stage) (p : Place) (body : StmtTree) (t : Stage) → wires_process s p body ≡ good t → IsQuiet s t
-wires_quiet s p body t e = judged_quiet by_number p _ s _ t e (record { names = refl; printed = refl })
+wires_quiet : (s : Stage) (p : Place) (event : Event) (body : StmtTree) (t : Stage) → wires_process s p event body ≡ good t → IsQuiet s t
+wires_quiet s p event body t e = judged_quiet by_number p _ s _ t e (record { names = refl; printed = refl })
 
 clocked_quiet : (s : Stage) (p : Place) (edges : List Edge) (body : StmtTree) (t : Stage) → clocked_process s p edges body ≡ good t → IsQuiet s t
 clocked_quiet s p edges body t e = judged_quiet by_number p _ s _ t e (record { names = refl; printed = refl })
 
 always_quiet : (s : Stage) (p : Place) (event : Event) (body : StmtTree) (t : Stage) → always_item s p event body ≡ good t → IsQuiet s t
-always_quiet s p event.Star body t e = wires_quiet s p body t e
-always_quiet s p (event.Edges edges) body t e = go (counts_as_star (look_of s) edges body) e
+always_quiet s p event body t e = go (is_of_wires event) e
   where
-    go : (b : Bool) → cond b (wires_process s p body) (clocked_process s p edges body) ≡ good t → IsQuiet s t
-    go true h = wires_quiet s p body t h
-    go false h = clocked_quiet s p edges body t h
+    go : (b : Bool) → cond b (wires_process s p event body) (clocked_process s p (edges_of event) body) ≡ good t → IsQuiet s t
+    go true h = wires_quiet s p event body t h
+    go false h = clocked_quiet s p (edges_of event) body t h
 
 start_quiet : (s : Stage) (p : Place) (x : Text) (m : Option Meaning) (v : Term) (t : Stage) → start_of s p x m v ≡ good t → IsQuiet s t
 start_quiet s p x (Some (a_signal n)) v t e = judged_quiet by_number p _ s _ t e (record { names = refl; printed = refl })

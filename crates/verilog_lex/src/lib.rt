@@ -30,6 +30,3 @@ pub fn lex(alloc: Global, text: &[u8]) -> Result<List<Token>, Stop>
 {
     walk::walk(alloc, text)
 }
-
-#[cfg(test)]
-mod tests;

@@ -11,11 +11,11 @@ copied-some None = refl
 copied-some (Some x) = refl
 
 pub returns-in-Some : goal.returns-in-Some
-returns-in-Some c = λ pins l f h pinned is.
+returns-in-Some c = λ pins l bs f h pinned is.
     let edges = c.args.edges.now in
-    form-breaks l (first_edge edges) (reset_edge l edges) f c.in-Some.form c.breaks_form.result (subst (IsFormIf l f) c.in-Some.is is) (λ g k. c.breaks_form.ensures pins l g h pinned k)
+    form-breaks l (first_edge edges) (reset_edge l edges) bs f c.in-Some.form c.breaks_form.result (subst (IsFormIf l bs f) c.in-Some.is is) (λ g k. c.breaks_form.ensures pins l bs g h pinned k)
 
 pub returns-in-None : goal.returns-in-None
-returns-in-None c = λ pins l f h pinned is.
+returns-in-None c = λ pins l bs f h pinned is.
     let edges = c.args.edges.now in
-    no-form-tells l (first_edge edges) (reset_edge l edges) f c.is_some.result (subst (IsFormIf l f) c.in-None.is is) (c.is_some.ensures ∙ copied-some c.reset_edge.result ∙ ap is_some (c.reset_edge.ensures l h))
+    no-form-tells l (first_edge edges) (reset_edge l edges) bs f c.is_some.result (subst (IsFormIf l bs f) c.in-None.is is) (c.is_some.ensures ∙ copied-some c.reset_edge.result ∙ ap is_some (c.reset_edge.ensures l h))

@@ -1,4 +1,4 @@
-use Rattle.std.proofs.Common.{None, sym, ap, ◌∙◌}
+use Rattle.std.proofs.Common.{[], None, sym, ap, ◌∙◌}
 use Rattle.std.specs.Prelude.{unwrap_or}
 use Rattle.verilog_reading.specs.StmtTree.{stmt_tree_of}
 use Rattle.flat_form.specs.declared.flat.FStmt.TheVariants as form
@@ -22,4 +22,4 @@ returns-in_ok-note_reset c = λ pins l h fit pinned formed.
     let same = c.unwrap_or-clock.ensures ∙ ap (λ o. unwrap_or o 0) (c.clock_of.ensures l h) in
     formless-process l edges (stmt_tree_of c.args.body.now) (unwrap_or (clock_of l edges) 0) c.args.faults.now c.note_event.new.faults c.body_at_edges.new.faults c.args.late.now c.note_pair.new.faults c.note_reset.new.faults
     (record { clock = c.unwrap_or-clock.result; body = c.in_ok-body.body; reset = record { edge = None; branch = form.Null }; given = c.new.result }) (sym c.has_form.ensures ∙ c.if-has_form.false) (c.in_ok-note_event.ensures l h fit)
-    (c.in_ok-note_pair.ensures l h) same c.new.ensures.items (c.in_ok-body.ensures l h fit formed).1 (c.in_ok-note_reset.ensures pins l None h pinned tt)
+    (c.in_ok-note_pair.ensures l h) same c.new.ensures.items (c.in_ok-body.ensures l h fit formed).1 (c.in_ok-note_reset.ensures pins l [] None h pinned tt)

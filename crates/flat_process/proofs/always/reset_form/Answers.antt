@@ -1,39 +1,34 @@
-use Rattle.std.proofs.Common.{◌≡◌, ℕ, ◌++◌, length, Some, None, Vec, Global, sym, ap, subst, ◌∙◌}
-use Rattle.std.specs.Prelude.{option_map}
+use Rattle.std.proofs.Common.{List, sym, ap, subst, ◌∙◌}
+use Rattle.verilog_ast.specs.declared.CaseItem.{CaseItem}
 use Rattle.verilog_ast.specs.declared.Stmt.{Stmt}
 use Rattle.verilog_reading.specs.ExprTree.{tree_of}
-use Rattle.verilog_reading.specs.StmtTree.{stmt_tree_of}
-use Rattle.flat_unfolding.specs.Statements.{clocked, done}
-use Rattle.flat_unfolding.specs.Mentions.{names_in, read_names}
-use Rattle.flat_unfolding.specs.Resets.{tested_signals, branch_given, form_in, reads_other}
-use Rattle.flat_unfolding.specs.Formed.{IsStmtFormed}
-use Rattle.flat_statements.specs.Statements.{IsDone}
-use Rattle.flat_process.specs.declared.reset.Given.{Given}
-use Rattle.flat_process.specs.declared.always.ResetForm.{ResetForm}
-use Rattle.flat_process.specs.Resets.{AreGivenIf}
-use Rattle.flat_process.specs.Processes.{other_tree, IsFormIf}
-use Rattle.flat_process.proofs.Processes.{peeled-formed, branch-formed, no-reset, has-reset}
+use Rattle.verilog_reading.specs.StmtTree.{subject_of, stmt_tree_of}
+use Rattle.flat_unfolding.specs.Resets.{tested as tested_by, form_with, items_form}
+use Rattle.flat_unfolding.specs.Formed.{IsStmtFormed, AreArmsFormed}
+use Rattle.flat_names.proofs.Options.{ok-map}
+use Rattle.flat_process.proofs.Processes.{peeled-formed, form-around, branch-formed, if-form, item_rows, items-formed, case-form}
 use Rattle.flat_process.proofs.always.reset_form.Goals as goal
 
-pub returns-in_default-2 : goal.returns-in_default-2
-returns-in_default-2 c = λ pins l h fit pinned formed.
+pub returns-in_ok-tested-in-If : goal.returns-in_ok-tested-in-If
+returns-in_ok-tested-in-If c = λ l h fit formed.
     let x = c.peeled-stmt.result.now in
     let i = c.in-If in
-    let parts = branch-formed l x i.cond i.yes i.other i.is (subst IsStmtFormed (sym c.peeled-stmt.ensures) (peeled-formed (stmt_tree_of c.args.body.now) formed)) in
-    let none : None ≡ tested_signals l (tree_of i.cond) = ap (option_map (λ (v : Vec ℕ Global). v.items)) (sym c.in_default-2.is) ∙ c.in_ok-signals.ensures l h fit parts.0 in
-    subst (λ t. IsFormIf l (form_in l t) None) c.peeled-stmt.ensures (no-reset l x i.cond i.yes i.other i.is none)
-
-pub returns : goal.returns
-returns c = λ pins l h fit pinned formed.
-    let x = c.peeled-stmt.result.now in
-    let i = c.in-If in
-    let r : ResetForm = record { signals = c.in-Some.signals; reads_other = c.in_ok-reads_other.reads_other; branch = c.in_ok-branch.branch; given = c.in_ok-given.given; rest = c.in_ok-rest.rest } in
     let all = subst IsStmtFormed (sym c.peeled-stmt.ensures) (peeled-formed (stmt_tree_of c.args.body.now) formed) in
     let parts = branch-formed l x i.cond i.yes i.other i.is all in
-    let signals : Some r.signals.items ≡ tested_signals l (tree_of i.cond) = ap (option_map (λ (v : Vec ℕ Global). v.items)) (sym c.in-Some.is) ∙ c.in_ok-signals.ensures l h fit parts.0 in
-    let others = c.in_ok-reads_other.ensures l h ∙ ap (λ ss. reads_other l ss (names_in (tree_of i.cond) ++ read_names (other_tree i.other))) c.as_slice.ensures.value in
-    let branch = c.in_ok-branch.ensures l h fit (subst (λ (z : Stmt). IsStmtFormed (stmt_tree_of z)) (sym c.deref.ensures) parts.1) in
-    let given = c.in_ok-given.ensures l h fit (subst (λ (z : Stmt). IsStmtFormed (stmt_tree_of z)) (sym c.deref-2.ensures) parts.1) in
-    let rest = c.in_ok-rest.ensures l h fit parts.0 all parts.2 in
-    subst (λ t. IsFormIf l (form_in l t) (Some r)) c.peeled-stmt.ensures
-    (has-reset l x i.cond i.yes i.other r i.is signals others (subst (λ (z : Stmt). IsDone (done l clocked (stmt_tree_of z)) r.branch) c.deref.ensures branch) (subst (λ (z : Stmt). AreGivenIf (length l.entries) (branch_given l (stmt_tree_of z)) (option_map (λ (v : Vec Given Global). v.items) r.given)) c.deref-2.ensures given) rest)
+    let told = c.in_ok-tested-in-If.ensures l h fit parts.0 in
+    let branch = c.deref.result.now in
+    let form = ap (λ o. form_with l o (stmt_tree_of branch) (stmt_tree_of x)) told
+    ∙ ap (λ (z : Stmt). form_with l (tested_by l (tree_of i.cond)) (stmt_tree_of z) (stmt_tree_of x)) c.deref.ensures ∙ if-form l x i.cond i.yes i.other i.is in
+    ok-map c.form_with.result (λ o k. form-around l (stmt_tree_of c.args.body.now) (stmt_tree_of x) _ o c.peeled-stmt.ensures form k)
+    (c.form_with.ensures l h fit (subst (λ (z : Stmt). IsStmtFormed (stmt_tree_of z)) (sym c.deref.ensures) parts.1) all)
+
+pub returns-in-Case : goal.returns-in-Case
+returns-in-Case c = λ l h fit formed.
+    let x = c.peeled-stmt.result.now in
+    let i = c.in-Case in
+    let all = subst IsStmtFormed (sym c.peeled-stmt.ensures) (peeled-formed (stmt_tree_of c.args.body.now) formed) in
+    let parts = items-formed l x i.masks i.subject i.items i.default i.is all in
+    let form = ap (λ (is : List CaseItem). items_form l (subject_of i.masks (tree_of i.subject)) (item_rows is) (stmt_tree_of x)) c.as_slice.ensures
+    ∙ case-form l x i.masks i.subject i.items i.default i.is in
+    ok-map c.items_form.result (λ o k. form-around l (stmt_tree_of c.args.body.now) (stmt_tree_of x) _ o c.peeled-stmt.ensures form k)
+    (c.items_form.ensures l h fit parts.0 (subst (λ (is : List CaseItem). AreArmsFormed (item_rows is)) (sym c.as_slice.ensures) parts.1) all)

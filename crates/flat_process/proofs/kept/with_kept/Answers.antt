@@ -1,4 +1,4 @@
-use Rattle.std.proofs.Common.{◌≡◌, true, ◌||◌, List, map, refl, sym, ap, subst, ◌∙◌}
+use Rattle.std.proofs.Common.{◌||◌, List, refl, ap, subst, ◌∙◌}
 use Rattle.flat_meaning.specs.Flat.{stmt, no_stmts, assigns}
 use Rattle.flat_form.specs.declared.flat.FStmt.{FStmt}
 use Rattle.flat_form.specs.View.{stmt_of}

@@ -1,0 +1,10 @@
+pub mod Spelled
+pub mod Lookups
+pub mod Rings
+pub mod Writable
+pub mod Found
+pub mod Listed
+pub mod Taken
+pub mod Entries
+pub mod Others
+pub mod Holds
