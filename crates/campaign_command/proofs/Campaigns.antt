@@ -21,7 +21,7 @@ use Rattle.command_files.specs.Endings.{HasCause}
 use Rattle.audit_command.specs.Refused.{AreTooMany}
 use Rattle.described_design.specs.Designs.{CanReplay, IsDesignOf}
 use Rattle.described_design.specs.Refused.{AreTextsRefused}
-use Rattle.replay_command.proofs.Replays.{can_open}
+use Rattle.described_design.proofs.Opened.{can_open}
 use Rattle.campaign_command.specs.Campaigns.{IsCampaignOf, IsTextOf, campaign_status}
 use Rattle.campaign_command.specs.Refused.{IsCampaignRefused, crossings, texts}
 

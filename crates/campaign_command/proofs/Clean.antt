@@ -17,7 +17,7 @@ use Rattle.command_files.specs.declared.status.Status.TheVariants.{Done, Violati
 use Rattle.audit_command.specs.Audits.{IsAuditOf, audited_status}
 use Rattle.campaign_command.specs.Campaigns.{CleanAuditsShowNothing, IsCampaignOf, IsTextOf, campaign_status, none_text}
 use Rattle.campaign_command.proofs.Calm.{none_shown}
-use Rattle.campaign_command.proofs.Once.{both_nets, one_design, one_shape}
+use Rattle.described_design.proofs.Once.{both_nets, one_design, one_shape}
 
 -- only where nothing was found an audit is done
 done_clean : (es : List Finding) (aside : List (Option ℕ)) → audited_status (length es) aside ≡ Done → es ≡ []

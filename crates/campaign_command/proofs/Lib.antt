@@ -1,4 +1,3 @@
 pub mod Calm
 pub mod Campaigns
 pub mod Clean
-pub mod Once

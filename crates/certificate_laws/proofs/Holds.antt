@@ -24,7 +24,7 @@ use Rattle.cert_check.specs.Promised.{plain_load}
 use Rattle.command_files.specs.declared.status.Status.{Status}
 use Rattle.command_files.specs.declared.status.Status.TheVariants.{Done, Violations}
 use Rattle.described_design.specs.Designs.{IsDesignOf}
-use Rattle.campaign_command.proofs.Once.{both_nets, one_design, one_shape}
+use Rattle.described_design.proofs.Once.{both_nets, one_design, one_shape}
 use Rattle.certify_command.specs.Certifies.{IsCertifyOf, ListsAllOf, certified_status}
 use Rattle.check_command.specs.Checks.{IsCheckOf}
 use Rattle.check_command.specs.Refused.{IsBrokenCertificate}

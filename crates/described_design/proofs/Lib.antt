@@ -3,5 +3,7 @@ pub mod SdcNumbers
 pub mod TokenNumbers
 pub mod Described
 pub mod Designs
+pub mod Once
+pub mod Opened
 pub mod Refused
 pub mod SameConstraints
