@@ -1,0 +1,80 @@
+#!/usr/bin/env bash
+# Tests tools/try-wrong-bodies with a prover that only looks at the text: a function is proved where its body is `right`, has no proof
+# of its own where it is `wrong`, and none because of what it calls where it is `right` and calls a wrong one.
+set -u
+tools=$(cd "$(dirname "${BASH_SOURCE[0]}")/../tools" && pwd)
+room=$(mktemp -d)
+trap 'rm -rf "$room"' EXIT
+passed=0
+failed=0
+
+mkdir -p "$room/bin" "$room/kit/bin" "$room/tools" "$room/crates/low/src" "$room/crates/low/wrong-bodies"
+cp "$tools/try-wrong-bodies" "$room/tools/"
+echo "low:" >"$room/crates.txt"
+printf '#!/bin/sh\necho %s/kit/START-HERE.md\n' "$room" >"$room/bin/rt"
+cat >"$room/kit/bin/rattle" <<'EOF'
+#!/usr/bin/env python3
+import re
+import sys
+
+bodies = dict(re.findall(r"fn (\w+) (.*)", open("src/lib.rt").read()))
+asked = [sys.argv[at + 1] for at, word in enumerate(sys.argv) if word == "--only"]
+verdicts = {}
+for name, body in bodies.items():
+    calls = [it for it in bodies if f"calls {it}" in body and "wrong" in bodies[it]]
+    if "wrong" in body:
+        verdicts[name] = "not proved"
+    else:
+        verdicts[name] = f"no proof: it calls `low::{calls[0]}`, which is not proved" if calls else "proved"
+for name in asked or bodies:
+    print(f"fn low::{name}: {verdicts[name]}")
+proved = all(it == "proved" for it in verdicts.values())
+print(f"only={len(asked)}" if asked else "logic=proved" if proved else "logic=not-proved")
+EOF
+chmod +x "$room/bin/rt" "$room/kit/bin/rattle"
+printf 'fn above right, calls below\nfn below right\nfn beside right\n' >"$room/crates/low/src/lib.rt"
+
+# A wrong body: its name, its function, what stands there, and what is put there.
+add() {
+    printf 'fn: %s\nfile: src/lib.rt\nold: %s\nnew: %s\n' "$2" "$3" "$4" >"$room/crates/low/wrong-bodies/$1.edit"
+}
+
+# Tries all that were added, and compares the lines with those that are wanted.
+expect() {
+    local wanted=$1 said
+    said=$(PATH="$room/bin:$PATH" "$room/tools/try-wrong-bodies" 2>&1 | sort)
+    if [ "$said" = "$wanted" ]; then
+        passed=$((passed + 1))
+    else
+        failed=$((failed + 1))
+        printf 'wanted:\n%s\nand it says:\n%s\n' "$wanted" "$said"
+    fi
+    rm -f "$room"/crates/low/wrong-bodies/*
+}
+
+add one above "fn above right" "fn above wrong"
+add two below "fn below right" "fn below wrong"
+add three below "fn below right" "fn below all wrong"
+expect "3 passed, 0 failed
+wrong body low/one: refused: not proved
+wrong body low/three: refused: not proved
+wrong body low/two: refused: not proved"
+
+# It isn't refused because what it calls is wrong, nor because another is.
+add passes above "fn above right" "fn above right too"
+add two below "fn below right" "fn below wrong"
+expect "1 passed, 1 failed
+wrong body low/passes: NOT REFUSED: fn low::above: proved fn low::below: proved fn low::beside: proved logic=proved
+wrong body low/two: refused: not proved"
+
+# Where its own function is proved, another one may refuse it.
+add elsewhere above "fn beside right" "fn beside wrong"
+expect "1 passed, 0 failed
+wrong body low/elsewhere: refused: fn low::beside: not proved"
+
+add gone above "fn above left" "fn above wrong"
+expect "0 passed, 1 failed
+wrong body low/gone: NOT REFUSED: it can't be applied"
+
+echo "$passed passed, $failed failed"
+[ "$failed" -eq 0 ]
