@@ -64,7 +64,7 @@ wrong body low/two: refused: not proved"
 add passes above "fn above right" "fn above right too"
 add two below "fn below right" "fn below wrong"
 expect "1 passed, 1 failed
-wrong body low/passes: NOT REFUSED: fn low::above: proved fn low::below: proved fn low::beside: proved logic=proved
+wrong body low/passes: NOT REFUSED: logic=proved
 wrong body low/two: refused: not proved"
 
 # Where its own function is proved, another one may refuse it.
