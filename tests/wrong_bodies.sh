@@ -9,7 +9,7 @@ passed=0
 failed=0
 
 mkdir -p "$room/bin" "$room/kit/bin" "$room/tools" "$room/crates/low/src" "$room/crates/low/wrong-bodies"
-cp "$tools/try-wrong-bodies" "$room/tools/"
+cp "$tools/try-wrong-bodies" "$tools/edits.py" "$room/tools/"
 echo "low:" >"$room/crates.txt"
 printf '#!/bin/sh\necho %s/kit/START-HERE.md\n' "$room" >"$room/bin/rt"
 cat >"$room/kit/bin/rattle" <<'EOF'

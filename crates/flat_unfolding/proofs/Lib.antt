@@ -1,5 +1,6 @@
 pub mod Sources
 pub mod Examples
+pub mod ResetExamples
 pub mod First
 pub mod Steps
 pub mod OneDriver

@@ -1,7 +1,7 @@
 //! What flattening gives: the flat design that a source unfolds to, or the first rule that it breaks.
 //!
 //! The definitions stand in `specs/`, from expressions up to `Unfolding`; `proofs/Examples.antt` has sources with what
-//! they unfold to.
+//! they unfold to, and `proofs/ResetExamples.antt` those with resets and start values.
 #![tactic(auto)]
 
 pub mod laws;
