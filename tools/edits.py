@@ -4,7 +4,7 @@ first line `fn: `."""
 
 class Edit:
     def __init__(self, path):
-        self.crate, self.name = path.parent.parent.name, path.stem
+        self.path, self.crate, self.name = path, path.parent.parent.name, path.stem
         self.function, self.changes = None, []
         file = old = None
         for line in path.read_text().split("\n"):
