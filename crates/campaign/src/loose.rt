@@ -41,7 +41,9 @@ fn is_settling(design: &Design, moment: &Moment, bit: Bit, source: Bit) -> bool
         && cycles_of(moment.cycles.as_slice(), source) == 1
 }
 
-/// Whether `to` ticks and may sample `from` either way.
+/// Whether `to` ticks and may sample `from` either way. Each run asks it of every pair in each step, so it stands within
+/// the loops.
+#[inline(always)]
 pub fn is_torn(
     design: &Design,
     ticking: &[bool],
@@ -51,7 +53,7 @@ pub fn is_torn(
 ) -> bool
     ensures { result ≡ is_torn_in design.now.domains.now (copied_in design.now.cells.items design.now.copies) ticking.now moment.now.words.items moment.now.cycles.items after.now pair }
 {
-    is_loose(design, moment, after, pair.to, pair.from) && ticks(design.domains, ticking, pair.to)
+    ticks(design.domains, ticking, pair.to) && is_loose(design, moment, after, pair.to, pair.from)
 }
 
 /// Draws the choice of a settling flop, if it is torn.
