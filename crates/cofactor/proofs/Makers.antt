@@ -1,8 +1,9 @@
 -- The words that a walk asks for, and what cells are made of.
-use Rattle.std.proofs.Common.{◌≡◌, ◌∙◌, sym, ap, refl, arith, ℕ, suc, ◌+◌, ◌-◌, ◌*◌, ◌/◌, ◌%◌, ◌^◌, ◌<◌, ◌≤◌, ◌==◌, min, Bool, true, false, cond, nat_lt, ltb-true, ltb-false, lt-ltb}
+use Rattle.std.proofs.Common.{◌≡◌, ◌∙◌, sym, ap, refl, arith, ℕ, zero, suc, ◌+◌, ◌-◌, ◌*◌, ◌/◌, ◌%◌, ◌^◌, ◌<◌, ◌≤◌, ◌==◌, min, Bool, true, false, cond, nat_lt, ltb-true, ltb-false, lt-ltb}
 use Rattle.std.proofs.lemmas.Nat.{leading_top}
+use Rattle.std.proofs.lemmas.Nat.Bits.{bit_at-suc}
 use Rattle.std.proofs.Math.Nat.{div-eq_of_lt-le, pow-suc}
-use lib.Count.{count_leading_zeros}
+use lib.Count.{count_leading_zeros, count_trailing_zeros, under}
 use Rattle.cell_graph.specs.Tree.{bit_at}
 use Rattle.cell_graph.proofs.Words.{bit-within, bit-zero, bit-low, bit-ones, bit-up, bit-down}
 use Rattle.cofactor.specs.Made.{HasBit}
@@ -28,6 +29,14 @@ pos-of v i h = go (nat_lt 0 v) refl
     go : (b : Bool) → nat_lt 0 v ≡ b → 0 < v
     go true t = ltb-true 0 v t
     go false t = let l = ltb-false 0 v t in let e : v ≡ 0 = omega arith in let z = sym (ap (λ n. bit_at n i) e) ∙ h in let y = bit-zero i in absurd (cc)
+
+-- and no bit from here on
+pub past-highest : (v n i : ℕ) → v < 2 ^ 64 → n ≡ count_leading_zeros 64 v → bit_at v i ≡ true → i + n < 64
+past-highest v n i small e set =
+    let t = highest v (pos-of v i set) small in
+    let l = bit-within v (suc t.0) i t.2 set in
+    let s = t.1 in
+    omega arith
 
 filled-bit : (n i : ℕ) → bit_at ((2 ^ 64 - 1) / 2 ^ n) i ≡ nat_lt (i + n) 64
 filled-bit n i = bit-down (2 ^ 64 - 1) n i ∙ bit-ones 64 (i + n)
@@ -55,6 +64,28 @@ filled-only v n r small e f j set = go (nat_lt 0 v) refl
         let all : count_leading_zeros 64 0 ≡ 64 = refl in
         let k = inside in
         absurd (omega arith)
+
+-- ---- the lowest bit of a word
+
+pub bit-half : (n i : ℕ) → bit_at n (suc i) ≡ bit_at (n / 2) i
+bit-half n i = ap (λ d. d == 1) (bit_at-suc n i)
+
+pub bit-first : (n : ℕ) → bit_at n 0 ≡ (n % 2 == 1)
+bit-first n = ap (λ m. m % 2 == 1) (let e : n / 2 ^ 0 ≡ n = omega arith in e)
+
+pub trailing-least : (k n i : ℕ) → bit_at n i ≡ true → count_trailing_zeros k n ≤ i
+unfolding count_trailing_zeros
+trailing-least zero n i h = omega arith
+trailing-least (suc k) n zero h = go (n % 2) refl (sym (bit-first n) ∙ h)
+  where
+    go : (d : ℕ) → n % 2 ≡ d → (n % 2 == 1) ≡ true → under d (count_trailing_zeros k (n / 2)) ≤ 0
+    go zero e odd = let z = ap (λ m. m == 1) e in absurd (cc)
+    go (suc d) e odd = omega arith
+trailing-least (suc k) n (suc i) h = go (n % 2) (trailing-least k (n / 2) i (sym (bit-half n i) ∙ h))
+  where
+    go : (d : ℕ) → count_trailing_zeros k (n / 2) ≤ i → under d (count_trailing_zeros k (n / 2)) ≤ suc i
+    go zero l = omega arith
+    go (suc d) l = omega arith
 
 -- ---- words of ones, and words that are moved
 

@@ -19,6 +19,7 @@ use crate::masks::{
     has_bit, joined, less_of, moved_down, moved_up, not_of, or_of, reduced, sliced, sum_of,
     with_bit, xor_of,
 };
+use crate::walk::Wanted;
 use cdc_base::{Bit, NoMemory};
 use cell_graph::{Cell, CellId, Graph, Net, Node, Passed};
 use std::alloc::Global;
@@ -41,6 +42,8 @@ pub struct Table {
     rows: Vec<Row>,
     sames: Vec<Bit>,
     pub(crate) marks: Marks,
+    /// What the last walk asked for, whose room the next one uses.
+    pub(crate) wanted: Vec<Wanted>,
 }
 
 impl Model for Table {
@@ -110,6 +113,7 @@ impl Table {
             rows: Vec::new(alloc),
             sames: Vec::new(alloc),
             marks: Marks::new(alloc),
+            wanted: Vec::new(alloc),
         };
         for place in 0..count {
             let cell = table.cell_at(graph, place);

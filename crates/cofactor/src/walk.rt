@@ -80,28 +80,34 @@ impl Table {
     {
         let met = mem::replace(&mut self.marks, Marks::new(alloc));
         let met = met.begin(alloc, self.row_count())?;
-        let (met, found) = self.walk(alloc, &net.graph, node, met, marks)?;
+        let wanted = mem::replace(&mut self.wanted, Vec::new(alloc));
+        let (met, wanted, found) = self.walk(alloc, &net.graph, node, met, wanted, marks)?;
         self.marks = met;
+        self.wanted = wanted;
         Ok(List::from_vec(into_ascending(found)))
     }
 
-    /// The bits of cells that a whole walk from a node has met, and the state bits of marked signals found.
+    /// The bits of cells that a whole walk from a node has met and asked for, and the state bits of marked signals found.
+    /// What the list held is dropped, its room is used again.
     fn walk(
         &self,
         alloc: Global,
         graph: &Graph,
         node: Node,
         met: Marks,
+        wanted: Vec<Wanted>,
         marks: &[Option<u32>],
-    ) -> Result<(Marks, Vec<Bit>), NoMemory>
+    ) -> Result<(Marks, Vec<Wanted>, Vec<Bit>), NoMemory>
         requires { (place : ℕ) → marked met place ≡ 0 }
         ensures { IfOk result (λ parts. (cube : reading.Cube) → IsWellFormed graph.now → IsNodeOf graph.now node →
             ((id : CellId) → IsBelow graph.now (node.cell ∷ []) id → Shows graph.now cube self.now id) →
-            (b : Bit) → (Contains parts.1.items b) ↔ ((is_sought marks.now b && reads cube (tree_of graph.now node.cell) node.at b) ≡ true)) }
+            (b : Bit) → (Contains parts.2.items b) ↔ ((is_sought marks.now b && reads cube (tree_of graph.now node.cell) node.at b) ≡ true)) }
     {
+        let mut wanted = wanted;
+        wanted.clear();
         let mut walk = Walk {
             marks: met,
-            wanted: Vec::new(alloc),
+            wanted,
             found: Vec::new(alloc),
         };
         walk.want(self, node.cell, shifted_left(1, u64::from(node.at)))?;
@@ -116,11 +122,11 @@ impl Table {
 }
 
 impl Walk {
-    fn into_parts(self) -> (Marks, Vec<Bit>)
-        ensures found { result.1.items ≡ self.found }
+    fn into_parts(self) -> (Marks, Vec<Wanted>, Vec<Bit>)
+        ensures found { result.2.items ≡ self.found }
         ensures short { length self.wanted < 2 ^ 63 }
     {
-        (self.marks, self.found)
+        (self.marks, self.wanted, self.found)
     }
 
     fn get(&self, turn: usize) -> Option<Wanted>
@@ -213,7 +219,7 @@ impl Walk {
         let width = graph.width(cell);
         let unknown = wanted.bits & !row.masks.known & mask(width);
         let same = unknown & row.same;
-        self.find_all(table, row, same, width, marks)?;
+        self.find_all(table, row, same, marks)?;
         let bits = unknown & !same;
         if bits == 0 {
             return Ok(());
@@ -221,16 +227,15 @@ impl Walk {
         self.want_makers(table, graph, graph.cell(cell), bits)
     }
 
-    /// Finds the state bits of marked signals that these bits of a row's cell equal, of those below the width.
+    /// Finds the state bits of marked signals that these bits of a row's cell equal.
     fn find_all(
         &mut self,
         table: &Table,
         row: Row,
         bits: u64,
-        width: u8,
         marks: &[Option<u32>],
     ) -> Result<(), NoMemory>
-        ensures there { OnOk result ((i : ℕ) (b : Bit) → i < width → is_sought marks.now b ≡ true → bit_at bits i ≡ true → same_in table.now row i ≡ Some b →
+        ensures there { OnOk result ((i : ℕ) (b : Bit) → is_sought marks.now b ≡ true → bit_at bits i ≡ true → same_in table.now row i ≡ Some b →
             Contains self.new.found b) }
         ensures sought { OnOk result ((b : Bit) → Contains self.new.found b → Contains self.old.found b ⊎ (is_sought marks.now b ≡ true)) }
         ensures only { OnOk result ((b : Bit) → Contains self.new.found b → Contains self.old.found b ⊎
@@ -238,10 +243,7 @@ impl Walk {
         ensures kept { OnOk result ((b : Bit) → Contains self.old.found b → Contains self.new.found b) }
         ensures wanted { OnOk result (self.new.wanted ≡ self.old.wanted) }
     {
-        if bits == 0 {
-            return Ok(());
-        }
-        for at in 0..width {
+        for at in lowest(bits)..end(bits) {
             self.find(table, row, bits, at, marks)?;
         }
         Ok(())
@@ -404,6 +406,20 @@ fn is_sought(marks: &[Option<u32>], bit: Bit) -> bool
         Some(mark) => mark.is_some(),
         None => true,
     }
+}
+
+/// The place of the lowest bit that is set; 64 where none is.
+fn lowest(bits: u64) -> u8
+    ensures { (i : ℕ) → bit_at bits i ≡ true → result ≤ i }
+{
+    bits.trailing_zeros() as u8
+}
+
+/// The place behind the highest bit that is set; 0 where none is.
+fn end(bits: u64) -> u8
+    ensures { (i : ℕ) → bit_at bits i ≡ true → i < result }
+{
+    64 - bits.leading_zeros() as u8
 }
 
 /// All bits up to the highest of these.

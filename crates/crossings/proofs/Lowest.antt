@@ -1,18 +1,11 @@
 -- All bits of a word from its lowest set one on.
 use Rattle.std.proofs.Common.{◌≡◌, ◌∙◌, sym, ap, refl, arith, ℕ, zero, suc, ◌-◌, ◌*◌, ◌/◌, ◌%◌, ◌^◌, ◌<◌, ◌≤◌, ◌==◌, true, eq-eqb, lt-ltb}
 use Rattle.std.proofs.Math.Nat.{pow-suc}
-use Rattle.std.proofs.lemmas.Nat.Bits.{bit_at-suc}
 use lib.Count.{count_trailing_zeros, under}
 use Rattle.cell_graph.specs.Tree.{bit_at}
 use Rattle.cell_graph.proofs.Words.{bit-ones}
-use Rattle.cofactor.proofs.Makers.{up-there, up-only}
+use Rattle.cofactor.proofs.Makers.{bit-half, bit-first, trailing-least, up-there, up-only}
 use Rattle.crossings.specs.Readings.{IsFromLowest}
-
-bit-half : (n i : ℕ) → bit_at n (suc i) ≡ bit_at (n / 2) i
-bit-half n i = ap (λ d. d == 1) (bit_at-suc n i)
-
-bit-first : (n : ℕ) → bit_at n 0 ≡ (n % 2 == 1)
-bit-first n = ap (λ m. m % 2 == 1) (let e : n / 2 ^ 0 ≡ n = omega arith in e)
 
 trailing-set : (k n : ℕ) → 0 < n → n < 2 ^ k → bit_at n (count_trailing_zeros k n) ≡ true
 unfolding count_trailing_zeros
@@ -22,20 +15,6 @@ trailing-set (suc k) n pos h = go (n % 2) refl (trailing-set k (n / 2))
     go : (d : ℕ) → n % 2 ≡ d → (0 < n / 2 → n / 2 < 2 ^ k → bit_at (n / 2) (count_trailing_zeros k (n / 2)) ≡ true) → bit_at n (under d (count_trailing_zeros k (n / 2))) ≡ true
     go zero e ih = bit-half n (count_trailing_zeros k (n / 2)) ∙ ih (omega arith) (omega (arith, pow-suc 2 k))
     go (suc d) e ih = bit-first n ∙ eq-eqb (n % 2) 1 (omega arith)
-
-trailing-least : (k n i : ℕ) → bit_at n i ≡ true → count_trailing_zeros k n ≤ i
-unfolding count_trailing_zeros
-trailing-least zero n i h = omega arith
-trailing-least (suc k) n zero h = go (n % 2) refl (sym (bit-first n) ∙ h)
-  where
-    go : (d : ℕ) → n % 2 ≡ d → (n % 2 == 1) ≡ true → under d (count_trailing_zeros k (n / 2)) ≤ 0
-    go zero e odd = let z = ap (λ m. m == 1) e in absurd (cc)
-    go (suc d) e odd = omega arith
-trailing-least (suc k) n (suc i) h = go (n % 2) (trailing-least k (n / 2) i (sym (bit-half n i) ∙ h))
-  where
-    go : (d : ℕ) → count_trailing_zeros k (n / 2) ≤ i → under d (count_trailing_zeros k (n / 2)) ≤ suc i
-    go zero l = omega arith
-    go (suc d) l = omega arith
 
 lowest-there : (v n r i j : ℕ) → n ≡ count_trailing_zeros 64 v → r ≡ (2 ^ 64 - 1) * 2 ^ n % 2 ^ 64 → bit_at v j ≡ true → j ≤ i → i < 64 → bit_at r i ≡ true
 lowest-there v n r i j e f set le lt =

@@ -11,9 +11,9 @@ use Rattle.cofactor.proofs.table.Table.walk.Goals as goal
 
 pub loop-turn-init : goal.loop-turn-init
 loop-turn-init c = λ cube well is shows.
-    let old : Walked = record { wanted = c.new.result.items; found = c.new-2.result.items } in
-    under-way c.args.graph.now well cube c.args.self.now c.args.marks.now c.args.node is shows old c.want.new.self c.shifted_left.result c.new.ensures.items
-    (c.in_ok-want.ensures.found ∙ c.new-2.ensures.items) (c.shifted_left.ensures ∙ ap (λ n. 1 * 2 ^ n % 2 ^ 64) c.from.ensures) c.shifted_left.type_inv c.in_ok-want.ensures.asked c.in_ok-want.ensures.only
+    let old : Walked = record { wanted = c.clear.new.self.items; found = c.new.result.items } in
+    under-way c.args.graph.now well cube c.args.self.now c.args.marks.now c.args.node is shows old c.want.new.self c.shifted_left.result c.clear.ensures.items
+    (c.in_ok-want.ensures.found ∙ c.new.ensures.items) (c.shifted_left.ensures ∙ ap (λ n. 1 * 2 ^ n % 2 ^ 64) c.from.ensures) c.shifted_left.type_inv c.in_ok-want.ensures.asked c.in_ok-want.ensures.only
 
 pub loop-turn-preserved : goal.loop-turn-preserved
 loop-turn-preserved c = λ cube well is shows.

@@ -1,6 +1,15 @@
-use Rattle.std.proofs.Common.{◌∙◌, inl, inr, arith}
+use Rattle.std.proofs.Common.{◌∙◌, inl, inr, refl, arith}
 use Rattle.cofactor.proofs.Walks.{found-more, only-more}
 use Rattle.cofactor.proofs.walk.Walk.find_all.Goals as goal
+
+pub loop-at-init : goal.loop-at-init
+loop-at-init c = record {
+  there = λ i b lt sought set. let l = c.lowest-at.ensures i set in absurd (omega arith);
+  only = λ b h. inl h;
+  sought = λ b h. inl h;
+  kept = λ b h. h;
+  wanted = refl;
+}
 
 pub loop-at-preserved : goal.loop-at-preserved
 loop-at-preserved c =
@@ -16,4 +25,4 @@ loop-at-preserved c =
     }
 
 pub returns-clause-there : goal.returns-clause-there
-returns-clause-there c = λ i b l sought set. c.loop-at.invariant.there i b (let f = c.loop-at-test.false in omega arith) sought set
+returns-clause-there c = λ i b sought set. c.loop-at.invariant.there i b (let f = c.loop-at-test.false in let l = c.end-at-end.ensures i set in omega arith) sought set

@@ -25,7 +25,7 @@ returns-then-bits-eq0-clause-read c = λ cube id well lt place shows operands.
     is-read g well cube t id lt shows (λ a op. (operands a op).place) c.args.wanted.bits c.width-width.result c.mask.result unknown rest
     (c.width-width.ensures ∙ ap (cell_width g) (c.cell_at-cell.ensures id lt place)) c.mask.ensures
     row (c.row_there-row.ensures ∙ ap (λ o. unwrap_or (option_and_then (slice_get t.rows) o) no_row) (sym place)) c.mask.type_inv refl refl
-    c.args.marks.now c.args.self.now c.find_all.new.self (λ i b l q. done.there i b l q) done.only done.sought done.kept (λ i j x set made l p. no-bits rest i c.if-bits-eq0.true set) (λ v h. inl (subst (λ ws. Contains ws v) done.wanted h))
+    c.args.marks.now c.args.self.now c.find_all.new.self (λ i b l. done.there i b) done.only done.sought done.kept (λ i j x set made l p. no-bits rest i c.if-bits-eq0.true set) (λ v h. inl (subst (λ ws. Contains ws v) done.wanted h))
 
 pub returns-clause-read : goal.returns-clause-read
 returns-clause-read c = three_ok c.want_makers.result (λ asked only found cube id well lt place shows operands.
@@ -43,7 +43,7 @@ returns-clause-read c = three_ok c.want_makers.result (λ asked only found cube 
     (c.width-width.ensures ∙ ap (cell_width g) it) c.mask.ensures
     row (c.row_there-row.ensures ∙ ap (λ o. unwrap_or (option_and_then (slice_get t.rows) o) no_row) (sym place)) c.mask.type_inv refl refl
     c.args.marks.now c.args.self.now c.want_makers.new.self
-    (λ i b l q set s. subst (λ bs. Contains bs b) (sym found) (done.there i b l q set s))
+    (λ i b l q set s. subst (λ bs. Contains bs b) (sym found) (done.there i b q set s))
     (λ b h. done.only b (subst (λ bs. Contains bs b) found h))
     (λ b h. done.sought b (subst (λ bs. Contains bs b) found h))
     (λ b h. subst (λ bs. Contains bs b) (sym found) (done.kept b h))
