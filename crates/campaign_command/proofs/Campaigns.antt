@@ -26,7 +26,7 @@ use Rattle.campaign_command.specs.Campaigns.{IsCampaignOf, IsTextOf, campaign_st
 use Rattle.campaign_command.specs.Refused.{IsCampaignRefused, crossings, texts}
 
 -- what can be replayed can run
-can_run : (net : Net) (domains : Domains) → CanReplay net domains → CanRun net domains
+pub can_run : (net : Net) (domains : Domains) → CanReplay net domains → CanRun net domains
 can_run net domains can = record { is = can.is_net; has = can.next_cells; opens = can_open net domains can; clocks = can.read.clocks }
 
 module _ (word text con : List ℕ) where

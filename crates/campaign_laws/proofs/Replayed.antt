@@ -26,8 +26,8 @@ use Rattle.command_files.specs.declared.status.Status.{Status}
 use Rattle.command_files.specs.declared.status.Status.TheVariants.{Record, Violations}
 use Rattle.described_design.specs.Designs.{IsDesignOf}
 use Rattle.described_design.proofs.Once.{both_nets, one_design}
-use Rattle.described_design.proofs.Opened.{can_open}
 use Rattle.campaign_command.specs.Campaigns.{IsCampaignOf, IsTextOf, campaign_status}
+use Rattle.campaign_command.proofs.Campaigns.{can_run}
 use Rattle.replay_command.specs.Replays.{IsReplayOf, IsReplayUnder}
 use Rattle.campaign_laws.specs.Laws.{CampaignsReplay, FixesRun, IsRecordOf}
 use Rattle.campaign_laws.proofs.Records.{same-fault, same-meaning}
@@ -45,9 +45,7 @@ module _ (steps seed : ℕ) (word text con : List ℕ) (status : Status) (answer
   run = there.0.run
 
   can : CanRun is.net is.domains
-  can =
-      let replay = is.design.design.can in
-      record { is = replay.is_net; has = replay.next_cells; opens = can_open is.net is.domains replay; clocks = replay.read.clocks }
+  can = can_run is.net is.domains is.design.design.can
 
   read-back : IsReadBack is.net is.domains answer run
   read-back =
