@@ -1,6 +1,11 @@
 -- The choices on the way to what a register bit takes.
-use Rattle.std.proofs.Common.{◌≡◌, ◌≢◌, ◌∙◌, sym, ap, ap₂, refl, subst, arith, ◌≤◌, Bool, true, false, length, Option, Some, None, option_map, List, ◌++◌, []}
-use Rattle.std.proofs.lemmas.List.{append_assoc, append-nil}
+use Rattle.std.proofs.Common.{◌≡◌, ◌≢◌, ◌∙◌, sym, ap, ap₂, refl, subst, inl, inr, arith, ℕ, ◌+◌, ◌<◌, ◌≤◌, Bool, true, false}
+use Rattle.std.proofs.Common.{length, Option, Some, None, option_map, List, ◌++◌, [], ◌∷◌, get_or, take}
+use Rattle.std.specs.Cmp.Lexicographic.{pointwise}
+use Rattle.std.proofs.lemmas.Bool.{and_parts}
+use Rattle.std.proofs.lemmas.List.{append_assoc, append-nil, take_more}
+use Rattle.std.proofs.lemmas.List.Elements.{Contains-push_cases}
+use Rattle.cdc_model.proofs.Ascending.{nothing_in}
 use Rattle.cdc_base.specs.declared.bit.Bit.{Bit}
 use Rattle.cell_graph.specs.declared.cell.Cell.{Cell}
 use Rattle.cell_graph.specs.declared.cell.Cell.TheVariants.{Mux, Shl, Shr, Concat, Slice, Extend, Reduce}
@@ -19,14 +24,17 @@ use Rattle.fifo_terms.specs.Takes.{always, and_under, by_own, is_own, taken}
 use Rattle.fifo_terms.specs.Terms.{Term, terms, moved_up, moved_down}
 use Rattle.gray_pointer.proofs.Trees.{tree_there, is_cell}
 use Rattle.gray_pointer.specs.Words.{IsIn}
+use Rattle.fifo_nodes.specs.contracts.search.AskedPartialEq.TheImpl as equality
+use Rattle.fifo_nodes.specs.declared.search.Asked.{Asked}
 use Rattle.fifo_nodes.specs.declared.takes.Way.{Way}
 use Rattle.fifo_nodes.specs.declared.term.Term.{Term as Found}
 use Rattle.fifo_nodes.specs.Nodes.{IsOwn, IsOwnOrZero, origin_in, passes}
-use Rattle.fifo_nodes.specs.Searches.{Searched, nothing, Covers, IsSearch}
-use Rattle.fifo_nodes.specs.Takes.{IsTaken, IsWay, IsFollowed, taken_bit, way_by}
+use Rattle.fifo_nodes.specs.Searches.{Searched, asked_terms, Covers}
+use Rattle.fifo_nodes.specs.Takes.{AreAskedIn, condition_terms, IsTaken, IsWay, IsFollowed, taken_bit, way_by}
 use Rattle.fifo_nodes.specs.Terms.{terms_at, AreTerms}
 use Rattle.fifo_nodes.proofs.Origins.{none_of, origin_stops, taken_origin}
-use Rattle.fifo_nodes.proofs.Searches.{covers_nothing, covers_then, search_starts}
+use Rattle.fifo_nodes.proofs.Asking.{same_asked}
+use Rattle.fifo_nodes.proofs.Searches.{covers_then}
 
 -- an origin is its own, or the zero bit
 pub own_origin : (g : Cells) (n : Node) (o : Option Node) → origin (tree_of g n.cell) n.at ≡ option_map (bit_of g) o → ((m : Node) → o ≡ Some m → IsNodeOf g m × (m.cell.0 ≤ n.cell.0)) → IsOwnOrZero g o
@@ -95,44 +103,78 @@ module _ (g : Cells) (well : IsWellFormed g) (x : Bit) where
         go (Reduce kind.Xor a) h p = refl
         go _ h p = refl
 
+-- ---- the conditions of choices
+
+pub one_more : (g : Cells) (qs : List Asked) (q : Asked) → condition_terms g (qs ++ q ∷ []) ≡ condition_terms g qs ++ asked_terms g q
+one_more g [] q = append-nil (asked_terms g q)
+one_more g (p ∷ qs) q =
+    ap (λ ts. asked_terms g p ++ ts) (one_more g qs q) ∙ sym (append_assoc (asked_terms g p) (condition_terms g qs) (asked_terms g q))
+
+-- no conditions have no terms
+pub no_conditions : (g : Cells) (qs : List Asked) (ts : List Found) → qs ≡ [] → ts ≡ [] → AreTerms g (condition_terms g qs) ts
+no_conditions g qs ts e f =
+    subst (λ (xs : List Asked). AreTerms g (condition_terms g xs) ts) (sym e) (subst (AreTerms g []) (sym f)
+    (record { within = λ t h. absurd (nothing_in t h); all = λ t h. absurd (nothing_in t h); only = λ t h. absurd (nothing_in t h) }))
+
+-- one condition more is asked for
+pub condition_asked : (g : Cells) (n : ℕ) (qs : List Asked) (i : ℕ) (d : Asked) → i < length qs → (old mid new : Searched)
+    → Covers g n (condition_terms g (take i qs)) old mid → Covers g n (asked_terms g (get_or qs i d)) mid new
+    → Covers g n (condition_terms g (take (i + 1) qs)) old new
+condition_asked g n qs i d l old mid new so more =
+    subst (λ ts. Covers g n ts old new) (sym (ap (condition_terms g) (take_more qs i d l) ∙ one_more g (take i qs) (get_or qs i d)))
+    (covers_then g n (condition_terms g (take i qs)) (asked_terms g (get_or qs i d)) old mid new so more)
+
+-- equal lists of conditions are one
+pub same_conditions : (xs ys : List Asked) → pointwise equality.ghosts.eq xs ys ≡ true → xs ≡ ys
+same_conditions [] [] h = refl
+same_conditions [] (y ∷ ys) h = cc
+same_conditions (x ∷ xs) [] h = cc
+same_conditions (x ∷ xs) (y ∷ ys) h =
+    let both = and_parts (equality.ghosts.eq x y) (pointwise equality.ghosts.eq xs ys) h in
+    ap₂ (λ (z : Asked) (zs : List Asked). z ∷ zs) (same_asked x y both.0) (same_conditions xs ys both.1)
+
 -- ---- the walk over choices
 
--- the terms of the choices so far, and the node that is reached
-pub record IsSoFar (g : Cells) (x : Bit) (k : rules.Taken) (reached : Option Node) (old new : Searched) : Type 0 where
-  pub under : List Term
-  pub takes : k ≡ and_under under (taken_bit x (option_map (bit_of g) reached))
+-- the conditions of the choices so far, and the node that is reached
+pub record IsSoFar (g : Cells) (x : Bit) (k : rules.Taken) (reached : Option Node) (qs : List Asked) : Type 0 where
+  pub takes : k ≡ and_under (condition_terms g qs) (taken_bit x (option_map (bit_of g) reached))
   pub own : IsOwnOrZero g reached
-  pub covers : Covers g (length g.cells) under old new
+  pub within : AreAskedIn g qs
 
 under_all : (ts us : List Term) (k : rules.Taken) → and_under ts (and_under us k) ≡ and_under (ts ++ us) k
 under_all ts us k = ap (λ (l : List Term). let r : rules.Taken = record { node = k.node; under = l } in r) (sym (append_assoc ts us k.under))
 
+abbrev asked : Way → Asked
+asked w = record { node = w.cond; value = w.value }
+
 module _ (g : Cells) (x : Bit) (k : rules.Taken) where
-  pub way_begins : (n : Node) (o : Option Node) (s : Searched) → k ≡ taken x (tree_of g n.cell) n.at → origin (tree_of g n.cell) n.at ≡ option_map (bit_of g) o
-      → ((m : Node) → o ≡ Some m → IsNodeOf g m × (m.cell.0 ≤ n.cell.0)) → IsSoFar g x k o s s
-  way_begins n o s e exact within = record {
-    under = [];
+  pub way_begins : (n : Node) (o : Option Node) (qs : List Asked) → qs ≡ [] → k ≡ taken x (tree_of g n.cell) n.at
+      → origin (tree_of g n.cell) n.at ≡ option_map (bit_of g) o → ((m : Node) → o ≡ Some m → IsNodeOf g m × (m.cell.0 ≤ n.cell.0)) → IsSoFar g x k o qs
+  way_begins n o qs none e exact within = subst (IsSoFar g x k o) (sym none) (record {
     takes = e ∙ taken_origin x (tree_of g n.cell) n.at ∙ ap (taken_bit x) exact;
     own = own_origin g n o exact within;
-    covers = covers_nothing g (length g.cells) s;
-  }
+    within = λ q h. absurd (nothing_in q h);
+  })
 
-  pub way_goes_on : (reached o : Option Node) (w : Way) (a b c : Searched) → IsSoFar g x k reached a b → IsWay g x reached (Some w) → Covers g (length g.cells) (terms_at g w.cond w.value) b c
-      → origin (tree_of g w.branch.cell) w.branch.at ≡ option_map (bit_of g) o → ((m : Node) → o ≡ Some m → IsNodeOf g m × (m.cell.0 ≤ w.branch.cell.0)) → IsSoFar g x k o a c
-  way_goes_on reached o w a b c so way more exact within = record {
-    under = so.under ++ terms_at g w.cond w.value;
-    takes = so.takes ∙ ap (and_under so.under) (way.0 ∙ ap (and_under (terms_at g w.cond w.value)) (taken_origin x (tree_of g w.branch.cell) w.branch.at ∙ ap (taken_bit x) exact))
-        ∙ under_all so.under (terms_at g w.cond w.value) (taken_bit x (option_map (bit_of g) o));
+  pub way_goes_on : (reached o : Option Node) (w : Way) (qs : List Asked) → IsSoFar g x k reached qs → IsWay g x reached (Some w)
+      → origin (tree_of g w.branch.cell) w.branch.at ≡ option_map (bit_of g) o → ((m : Node) → o ≡ Some m → IsNodeOf g m × (m.cell.0 ≤ w.branch.cell.0))
+      → IsSoFar g x k o (qs ++ record { node = w.cond; value = w.value } ∷ [])
+  way_goes_on reached o w qs so way exact within = record {
+    takes = so.takes
+        ∙ ap (and_under (condition_terms g qs)) (way.0
+        ∙ ap (and_under (terms_at g w.cond w.value)) (taken_origin x (tree_of g w.branch.cell) w.branch.at ∙ ap (taken_bit x) exact))
+        ∙ under_all (condition_terms g qs) (terms_at g w.cond w.value) (taken_bit x (option_map (bit_of g) o))
+        ∙ ap (λ ts. and_under ts (taken_bit x (option_map (bit_of g) o))) (sym (one_more g qs (asked w)));
     own = own_origin g w.branch o exact within;
-    covers = covers_then g (length g.cells) so.under (terms_at g w.cond w.value) a b c so.covers more;
+    within = λ q h. elim (Contains-push_cases qs (asked w) q h) [ inl i ↦ so.within q i | inr e ↦ subst (λ (z : Asked). IsNodeOf g z.node) e way.1 ];
   }
 
-  pub way_ends : (reached : Option Node) (a b : Searched) → IsSoFar g x k reached a b → IsWay g x reached None → IsFollowed g k reached a b
-  way_ends reached a b so way = (so.under, so.takes ∙ ap (and_under so.under) way, own_is_in g reached so.own, so.covers)
+  pub way_ends : (reached : Option Node) (qs : List Asked) → IsSoFar g x k reached qs → IsWay g x reached None → IsFollowed g k reached qs
+  way_ends reached qs so way = (so.takes ∙ ap (and_under (condition_terms g qs)) way, own_is_in g reached so.own, so.within)
 
 -- what was found of the node that is taken
-pub taken_found : (g : Cells) (k : rules.Taken) (reached : Option Node) (s : Searched) (found : List Found) → IsFollowed g k reached nothing s → ((ts : List Term) → IsSearch g ts s → AreTerms g ts found)
-    → IsTaken g k (record { node = reached; under = found })
-taken_found g k reached s found (ts, e, within, covers) terms =
-    let all : k.under ≡ ts = ap (λ (t : rules.Taken). t.under) e ∙ append-nil ts in
-    (ap (λ (t : rules.Taken). t.node) e, within, subst (λ (l : List Term). AreTerms g l found) (sym all) (terms ts (search_starts g ts (length g.cells) s covers)))
+pub taken_found : (g : Cells) (k : rules.Taken) (reached : Option Node) (qs : List Asked) (found : List Found)
+    → IsFollowed g k reached qs → AreTerms g (condition_terms g qs) found → IsTaken g k (record { node = reached; under = found })
+taken_found g k reached qs found (e, within, inside) terms =
+    let all : k.under ≡ condition_terms g qs = ap (λ (t : rules.Taken). t.under) e ∙ append-nil (condition_terms g qs) in
+    (ap (λ (t : rules.Taken). t.node) e, within, subst (λ (l : List Term). AreTerms g l found) (sym all) terms)

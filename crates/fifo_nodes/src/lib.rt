@@ -4,6 +4,7 @@
 
 pub mod bits;
 pub mod codes;
+pub mod copies;
 pub mod counts;
 pub mod inversions;
 pub mod search;
@@ -13,9 +14,10 @@ pub mod term;
 pub mod walk;
 
 pub use codes::{Code, Moment, is_code_bit};
+pub use copies::copied;
 pub use counts::counted;
 pub use inversions::{Bare, bare_node};
 pub use shows::{Apart, is_flag_test, is_test};
-pub use takes::{Taken, taken_by};
+pub use takes::{Conditions, Taken, taken_by};
 pub use term::{Term, has_term, have_one_set};
 pub use walk::terms;

@@ -1,14 +1,17 @@
 //! What a register bit takes.
-ghost use Rattle.std.specs.Prelude.{◌≡◌, [], Some, IfOk};
+ghost use Rattle.std.specs.Prelude.{◌≡◌, [], true, Some, IfOk};
+ghost use Rattle.cell_graph.specs.Cells.{Cells};
 ghost use Rattle.cell_graph.specs.Unfolded.{IsNodeOf, tree_of};
 ghost use Rattle.cdc_model.specs.Tables.{ShowsNet};
 ghost use Rattle.fifo_terms.specs.Takes.{taken, is_own};
 ghost use Rattle.gray_pointer.specs.Words.{IsPlain};
 ghost use Rattle.fifo_nodes.specs.Nodes.{IsOwnOrZero, origin_in};
-ghost use Rattle.fifo_nodes.specs.Takes.{IsTaken, IsFollowed, IsWay, way_by};
+ghost use Rattle.fifo_nodes.specs.Takes.{AreAskedIn, HaveTerms, condition_terms, IsTaken, IsFollowed, IsWay, way_by};
+ghost use Rattle.fifo_nodes.specs.Terms.{AreTerms};
 
 use crate::bits::is_bit;
-use crate::search::Search;
+use crate::copies::copied;
+use crate::search::{Asked, Search};
 use crate::term::Term;
 use crate::walk::found_terms;
 use cdc_base::{Bit, List, NoMemory};
@@ -23,38 +26,111 @@ pub struct Taken {
     pub under: List<Term>,
 }
 
-/// What a register bit takes whose next value is the node `next`. The table is the net's without a cube.
+/// The conditions of the choices that lead to what a register bit takes, at the values at which they do, and the terms of
+/// all of them.
+#[derive(Drop)]
+pub struct Conditions {
+    pub conditions: List<Asked>,
+    pub terms: List<Term>,
+}
+
+impl Conditions {
+    /// None: the bit always takes its node.
+    pub fn none(alloc: Global) -> Conditions
+        ensures { (g : Cells) → HaveTerms g result }
+    {
+        Conditions {
+            conditions: List::new(alloc),
+            terms: List::new(alloc),
+        }
+    }
+
+    /// Becomes those by these conditions, if it isn't.
+    fn renew(
+        &mut self,
+        alloc: Global,
+        net: &Net,
+        table: &Table,
+        conditions: List<Asked>,
+    ) -> Result<(), NoMemory>
+        ensures { IfOk result (λ _. IsPlain net.now.graph → ShowsNet net.now [] table.now → AreAskedIn net.now.graph conditions → HaveTerms net.now.graph self.old →
+            HaveTerms net.now.graph self.new × (self.new.conditions ≡ conditions)) }
+    {
+        if are_same(self.conditions.as_slice(), conditions.as_slice()) {
+            return Ok(());
+        }
+        self.terms = terms_of(alloc, net, table, conditions.as_slice())?;
+        self.conditions = conditions;
+        Ok(())
+    }
+}
+
+fn are_same(one: &[Asked], another: &[Asked]) -> bool
+    ensures { result ≡ true → one.now ≡ another.now }
+{
+    one == another
+}
+
+/// The terms under which all of these nodes have their values.
+fn terms_of(
+    alloc: Global,
+    net: &Net,
+    table: &Table,
+    conditions: &[Asked],
+) -> Result<List<Term>, NoMemory>
+    ensures { IfOk result (λ found. IsPlain net.now.graph → ShowsNet net.now [] table.now → AreAskedIn net.now.graph conditions.now →
+        AreTerms net.now.graph (condition_terms net.now.graph conditions.now) found) }
+{
+    let mut search = Search::new(alloc);
+    for condition in conditions {
+        search.ask(net, Some(condition.node), condition.value)?;
+    }
+    found_terms(net, table, &mut search)?;
+    Ok(search.into_terms())
+}
+
+/// What a register bit takes whose next value is the node `next`. The conditions are those of another bit, and become
+/// its own: bits of one signal mostly have the same. The table is the net's without a cube.
 pub fn taken_by(
     alloc: Global,
     net: &Net,
     table: &Table,
     bit: Bit,
     next: Node,
+    known: &mut Conditions,
 ) -> Result<Taken, NoMemory>
-    ensures { IfOk result (λ found. IsPlain net.now.graph → ShowsNet net.now [] table.now → IsNodeOf net.now.graph next →
+    ensures taken { IfOk result (λ found. IsPlain net.now.graph → ShowsNet net.now [] table.now → IsNodeOf net.now.graph next → HaveTerms net.now.graph known.old →
         IsTaken net.now.graph (taken bit (tree_of net.now.graph next.cell) next.at) found) }
+    ensures known { IfOk result (λ _. IsPlain net.now.graph → ShowsNet net.now [] table.now → IsNodeOf net.now.graph next → HaveTerms net.now.graph known.old →
+        HaveTerms net.now.graph known.new) }
 {
-    let mut search = Search::new(alloc);
-    let node = follow(net, bit, next, &mut search)?;
-    found_terms(net, table, &mut search)?;
-    Ok(Taken {
-        node,
-        under: search.into_terms(),
-    })
+    let mut conditions = List::new(alloc);
+    let node = follow(net, bit, next, &mut conditions)?;
+    known.renew(alloc, net, table, conditions)?;
+    let under = copied(alloc, known.terms.as_slice())?;
+    Ok(Taken { node, under })
 }
 
-/// The node to which the choices lead of which exactly one branch is the bit itself. The terms of their conditions are
-/// asked for.
-fn follow(net: &Net, bit: Bit, next: Node, search: &mut Search) -> Result<Option<Node>, NoMemory>
-    ensures { IfOk result (λ node. IsPlain net.now.graph → IsNodeOf net.now.graph next →
-        IsFollowed net.now.graph (taken bit (tree_of net.now.graph next.cell) next.at) node search.old search.new) }
+/// The node to which the choices lead of which exactly one branch is the bit itself. Their conditions are added, at the
+/// values at which they lead there.
+fn follow(
+    net: &Net,
+    bit: Bit,
+    next: Node,
+    conditions: &mut List<Asked>,
+) -> Result<Option<Node>, NoMemory>
+    ensures { IfOk result (λ node. IsPlain net.now.graph → IsNodeOf net.now.graph next → conditions.old ≡ [] →
+        IsFollowed net.now.graph (taken bit (tree_of net.now.graph next.cell) next.at) node conditions.new) }
 {
     let mut reached = origin(net, next);
     for _ in 0..u64::MAX {
         let Some(way) = way_on(net, bit, reached) else {
             return Ok(reached);
         };
-        search.ask(net, Some(way.cond), way.value)?;
+        conditions.push(Asked {
+            node: way.cond,
+            value: way.value,
+        })?;
         reached = origin(net, way.branch);
     }
     // No memory holds so many cells.

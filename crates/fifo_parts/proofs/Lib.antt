@@ -1,4 +1,6 @@
 pub mod Added
+pub mod Alike
+pub mod Chosen
 pub mod CodeNodes
 pub mod Comparing
 pub mod FlagOrder

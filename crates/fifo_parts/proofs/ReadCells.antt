@@ -158,6 +158,12 @@ module _ (net : Net) (domains : Domains) (plain : IsPlain net.graph) where
     | inr e ↦ absurd (none n s words e inside by read)
   ]) are
 
+  pub cell_begins : (c : CellId) (rs : List Read) → AreReadsAmong net domains (IsBefore c.0) rs → AreReadsAmong net domains (IsBeforeAt c 0) rs
+  cell_begins c rs are = reads_over (IsBefore c.0) (IsBeforeAt c 0) rs (λ n s words m inside by read. elim m [
+    | inl e ↦ e
+    | inr e ↦ absurd (omega (arith, e.1))
+  ]) are
+
   pub cell_ends : (c : CellId) (at : ℕ) → cell_width net.graph c ≤ at → (rs : List Read) → AreReadsAmong net domains (IsBeforeAt c at) rs
       → AreReadsAmong net domains (IsBefore (c.0 + 1)) rs
   cell_ends c at le rs are = reads_over (IsBeforeAt c at) (IsBefore (c.0 + 1)) rs (λ n s words m inside by read. elim (earlier_or_here c n m) [

@@ -18,7 +18,7 @@ use Rattle.fifo_terms.specs.Takes.{taken}
 use Rattle.fifo_terms.specs.Terms as terms
 use Rattle.fifo_terms.specs.Terms.{HasTerm, Term}
 use Rattle.fifo_laws.specs.Sides.{Side, side_width}
-use Rattle.fifo_laws.specs.Words.{Chooses, depth_of, IsWordBit}
+use Rattle.fifo_laws.specs.Words.{Chooses, depth_of, IsWord, IsWordBit}
 use Rattle.fifo_nodes.specs.declared.term.Term.{Term as Found}
 use Rattle.fifo_nodes.specs.declared.term.Term.TheVariants.{Is, Differ}
 use Rattle.fifo_nodes.specs.Takes.{IsTaken}
@@ -111,6 +111,11 @@ HaveCommon g ts others = (t : Found) × Contains ts t × HasTerm (terms_of g oth
 -- the register bit is a word bit for word n, and takes the node that was found
 abbrev pub IsWordBitOf : Net → Domains → (write read : Side) → ℕ → Taking → Type 0
 IsWordBitOf net domains write read n t = IsWordBit (design_of net domains) (next_tree net) write read n (option_map (bit_of net.graph) t.taken.node) t.bit
+
+-- the register bit is a word bit for this word; or it is none
+abbrev pub IsWordOf : Net → Domains → (write read : Side) → Taking → Option ℕ → Type 0
+IsWordOf net domains write read t None = IsWord (design_of net domains) (next_tree net) write read t.bit → ⊥
+IsWordOf net domains write read t (Some n) = (n < depth_of (design_of net domains) write) × IsWordBitOf net domains write read n t
 
 -- a side of 2 to 11 bits with this counter
 abbrev pub CountsBy : Net → Domains → ℕ → Side → Type 0

@@ -11,6 +11,7 @@ ghost use Rattle.fifo_terms.specs.Shows.{node_terms};
 ghost use Rattle.fifo_laws.specs.Sides.{Side as SideOf};
 ghost use Rattle.fifo_nodes.specs.Terms.{IsTermIn, term_of};
 ghost use Rattle.gray_pointer.specs.Words.{IsIn};
+ghost use Rattle.fifo_parts.specs.declared.flags.Comparisons.{Comparisons as ComparisonsOf};
 ghost use Rattle.fifo_parts.specs.declared.flags.Flag.{Flag as FlagOf};
 ghost use Rattle.fifo_parts.specs.Comparisons.{AreComparisons, CompareAll, Grows, GrowsBy, HasBit, IsAdded, IsAmong, IsAtBit, IsAtClock, IsBitOf, IsFoundBy, IsKeptBy, IsOwn};
 ghost use Rattle.fifo_parts.specs.Tellers.{flag_entry_key, IsFlagBy, IsShown, IsSideOf, MayStart};
@@ -18,8 +19,9 @@ ghost use Rattle.fifo_parts.specs.Tellers.{flag_entry_key, IsFlagBy, IsShown, Is
 use crate::pair::{Shown, own_bit};
 use crate::side::Side;
 use cdc_base::{Bit, List, NoMemory};
-use cdc_model::view::{copied_bit, next_node, register_bits, start_value};
-use cell_graph::{Net, Node};
+use cdc_model::view::{copied_bit, known_value, next_node, register_bits, start_value};
+use cell_graph::{Cell, Net, Node};
+use cofactor::origin;
 use domains::Domains;
 use fifo_nodes::{Apart, Term, is_flag_test, terms};
 use std::alloc::Global;
@@ -65,6 +67,9 @@ impl Comparisons {
             IsAdded shown.entry.net.now shown.entry.domains.now self.new (record { bit = bit; value = v })) }
     {
         if copied_bit(shown.net, shown.table, bit).is_some() {
+            return Ok(());
+        }
+        if is_choice(shown, bit) {
             return Ok(());
         }
         self.add(alloc, shown, Flag { bit, value: false })?;
@@ -149,6 +154,24 @@ impl Comparisons {
             add_there(self.by_bit.get(bit), &mut found)?;
         }
         Ok(found)
+    }
+}
+
+/// Whether the next value of a register bit is that of a choice and not known. Its one term is that it has the value
+/// itself, and compares nothing.
+fn is_choice(shown: Shown<'_>, bit: Bit) -> bool
+    ensures { result ≡ true → IsShown shown.entry.net.now shown.entry.table.now → is_register_bit shown.entry.net.now bit ≡ true →
+        (k : ComparisonsOf) (v : Bool) → IsAdded shown.entry.net.now shown.entry.domains.now k (record { bit = bit; value = v }) }
+{
+    let Some(next) = next_node(shown.net, bit) else {
+        return false;
+    };
+    let Some(node) = origin(shown.net, next) else {
+        return false;
+    };
+    match shown.net.graph.cell(node.cell) {
+        Cell::Mux { .. } => known_value(shown.table, node).is_none(),
+        _ => false,
     }
 }
 

@@ -126,9 +126,10 @@ fn add_reads(
     if width < 2 || width > MAX_WIDTH {
         return Ok(());
     }
+    let mut conditions = List::new(alloc);
     for at in 0..net.graph.width(cell) {
         let node = Node { cell, at };
-        let Some(words) = chosen(alloc, net, table, count, width, node)? else {
+        let Some(words) = chosen(alloc, net, table, count, width, node, &mut conditions)? else {
             continue;
         };
         reads.push(Read { node, count, words })?;

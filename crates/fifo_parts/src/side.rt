@@ -20,7 +20,7 @@ use cdc_model::{GrayReg, Shape};
 use cell_graph::{CellId, Net, Node};
 use cofactor::{Table, origin};
 use domains::Domains;
-use fifo_nodes::{Code, Moment, Term, counted};
+use fifo_nodes::{Code, Moment, Term, copied, counted};
 use std::alloc::Global;
 
 /// The most bits of a count: a FIFO has at most 1,024 words.
@@ -212,15 +212,4 @@ fn next_code(
         held,
         moment: Moment::Next(under),
     })
-}
-
-/// The terms again.
-pub fn copied(alloc: Global, terms: &[Term]) -> Result<List<Term>, NoMemory>
-    ensures { IfOk result (λ copies. copies ≡ terms.now) }
-{
-    let mut copies = List::new(alloc);
-    for term in terms {
-        copies.push(*term)?;
-    }
-    Ok(copies)
 }

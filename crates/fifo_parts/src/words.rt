@@ -2,14 +2,14 @@
 ghost use Rattle.std.specs.Prelude.{◌≡◌, ◌↔◌, ◌<◌, ◌≤◌, ℕ, suc, Bool, true, Some, Contains, IfOk};
 ghost use Rattle.cell_graph.specs.Cells.{Cells};
 ghost use Rattle.cell_graph.specs.Tree.{number};
-ghost use Rattle.cdc_model.specs.Nets.{design_of, next_tree};
+ghost use Rattle.cdc_model.specs.Nets.{design_of};
 ghost use Rattle.fifo_laws.specs.Sides.{Side as SideOf};
-ghost use Rattle.fifo_laws.specs.Words.{depth_of, IsWord};
+ghost use Rattle.fifo_laws.specs.Words.{depth_of};
 ghost use Rattle.fifo_nodes.specs.declared.term.Term.{Term as TermOf};
 ghost use Rattle.fifo_nodes.specs.Terms.{AreTermsIn};
 ghost use Rattle.fifo_parts.specs.Words.{SaysBit};
 ghost use Rattle.fifo_parts.specs.Tellers.{IsPair, IsShown};
-ghost use Rattle.fifo_parts.specs.Words.{AreAllowed, AreTakings, bit_said, HaveCommon, is_said, IsTaking, IsWordBitOf, said_by, says_all, says_word, word_said};
+ghost use Rattle.fifo_parts.specs.Words.{AreAllowed, AreTakings, bit_said, HaveCommon, is_said, IsTaking, IsWordBitOf, IsWordOf, said_by, says_all, says_word, word_said};
 ghost use Rattle.gray_pointer.specs.Words.{IsPlain};
 
 use crate::pair::{Pair, Shown, own_bit};
@@ -18,7 +18,7 @@ use cdc_base::{Bit, List, NoMemory};
 use cdc_model::view::{has_bit, next_node, register_bits};
 use cell_graph::{Net, Node};
 use cofactor::Table;
-use fifo_nodes::{Taken, Term, has_term, taken_by};
+use fifo_nodes::{Conditions, Taken, Term, has_term, taken_by};
 use std::alloc::Global;
 
 /// A register bit, and the node that it takes under terms.
@@ -33,10 +33,11 @@ pub fn takings(alloc: Global, net: &Net, table: &Table) -> Result<List<Taking>, 
     ensures { IfOk result (λ takings. IsShown net.now table.now → AreTakings net.now takings) }
 {
     let mut takings = List::new(alloc);
+    let mut known = Conditions::none(alloc);
     let bits = register_bits(alloc, net)?;
     for bit in bits.as_slice() {
         if let Some(next) = next_node(net, *bit) {
-            let taken = taken_by(alloc, net, table, *bit, next)?;
+            let taken = taken_by(alloc, net, table, *bit, next, &mut known)?;
             takings.push(Taking { bit: *bit, taken })?;
         }
     }
@@ -190,16 +191,33 @@ fn has_one_of(terms: &[Term], others: &[Term]) -> bool
     false
 }
 
-/// Whether the register bit is a word bit of the FIFO, for whichever word.
-pub fn is_word(shown: Shown<'_>, pair: &Pair<'_>, taking: &Taking) -> bool
+/// The word for which the register bit is a word bit of the FIFO, if it is one.
+pub fn word_of(shown: Shown<'_>, pair: &Pair<'_>, taking: &Taking) -> Option<u64>
     ensures { (write read : SideOf) → IsShown shown.entry.net.now shown.entry.table.now → IsPair shown.entry.net.now shown.entry.domains.now pair.now write read →
-        IsTaking shown.entry.net.now taking.now →
-        (result ≡ true) ↔ IsWord (design_of shown.entry.net.now shown.entry.domains.now) (next_tree shown.entry.net.now) write read taking.now.bit }
+        IsTaking shown.entry.net.now taking.now → IsWordOf shown.entry.net.now shown.entry.domains.now write read taking.now result }
 {
     let Some(word) = word_said(shown.net, pair.write.side, taking.taken.under.as_slice()) else {
-        return false;
+        return None;
     };
-    is_word_bit(shown, pair, word, taking)
+    if is_word_bit(shown, pair, word, taking) {
+        Some(word)
+    } else {
+        None
+    }
+}
+
+/// Whether the register bits are of one signal and take their nodes under the same terms, in the same order.
+pub fn are_alike(one: &Taking, another: &Taking) -> bool
+    ensures { result ≡ true → (one.now.bit.sig ≡ another.now.bit.sig) × (one.now.taken.under ≡ another.now.taken.under) }
+{
+    one.bit.sig == another.bit.sig
+        && are_same(one.taken.under.as_slice(), another.taken.under.as_slice())
+}
+
+fn are_same(one: &[Term], another: &[Term]) -> bool
+    ensures { result ≡ true → one.now ≡ another.now }
+{
+    one == another
 }
 
 /// The counts of which the terms say that bit 0 has a value.

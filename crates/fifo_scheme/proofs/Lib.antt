@@ -7,7 +7,6 @@ pub mod Gathered
 pub mod Growing
 pub mod IndexLooks
 pub mod IndexMade
-pub mod IndexMarks
 pub mod IndexPlaces
 pub mod IndexReadings
 pub mod Items
@@ -28,6 +27,7 @@ pub mod MetReads
 pub mod MetSides
 pub mod MetTests
 pub mod Numbered
+pub mod Numbers
 pub mod OneFifo
 pub mod Order
 pub mod Passed

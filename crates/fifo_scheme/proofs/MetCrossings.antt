@@ -105,7 +105,7 @@ module _ (net : Net) (domains : Domains) (table : Rows) (syncs : List Sync) (gra
     all = λ c h.
         let word = word_of c.from h.from in
         let reader = (all_readers net domains table syncs grays i p write read met places are).only c.to h.to in
-        let k = reader_place net domains table syncs grays i p write read met c.to c.from reader.register word h.reads in
+        let k = reader_place net domains table syncs grays i p write read met c.to c.from reader.register reader.clock word h.reads in
         let at = from_bits i.readings places c.to h.to in
         let same = one_place i.readings met.index.readings.ordered at.0 k.0 at.1 k.1 at.3 k.2 (at.4 ∙ sym k.3) in
         in_crossings test i.readings places k.0 k.1 c (subst (Contains places) same at.2) k.2 (sym k.3) k.4 ((tests c.from).1 (of_entries c.from h.from));

@@ -1,6 +1,7 @@
 -- The readers of a FIFO, among the register bits that read its words.
-use Rattle.std.proofs.Common.{◌≡◌, ◌∙◌, ◌↔◌, sym, ap, subst, refl, inl, inr, ◌⊎◌, arith, ℕ, zero, suc, ◌<◌, ◌≤◌, Bool, true, false, Some, List, [], ◌∷◌, length, slice_get, Contains}
-use Rattle.std.proofs.lemmas.Bool.{cases_lt, both_ways}
+use Rattle.std.proofs.Common.{◌≡◌, ◌≢◌, ◌==◌, ◌∙◌, ◌↔◌, eqb-true, sym, ap, ap₂, subst, refl, inl, inr, ◌⊎◌, arith, ℕ, zero, suc, ◌<◌, ◌≤◌, Bool, true, false, not}
+use Rattle.std.proofs.Common.{Some, option_map, List, [], ◌∷◌, length, slice_get, Contains}
+use Rattle.std.proofs.lemmas.Bool.{and_parts, both_ways, cases_lt}
 use Rattle.std.proofs.lemmas.Option.{slice_get_within}
 use Rattle.cdc_base.specs.declared.bit.Bit.{Bit}
 use Rattle.cell_graph.specs.declared.cell.Node.{Node}
@@ -11,14 +12,15 @@ use Rattle.cell_graph.specs.Unfolded.{tree_of}
 use Rattle.cofactor.specs.Shown.{Shown as Rows}
 use Rattle.domains.specs.declared.Domains.{Domains}
 use Rattle.cdc_model.specs.declared.scheme.GrayReg.{GrayReg}
-use Rattle.cdc_model.specs.Nets.{design_of, is_register_bit, next_tree}
+use Rattle.cdc_model.specs.Design.{are_async, differ}
+use Rattle.cdc_model.specs.Nets.{design_of, is_register_bit, is_within, next_tree}
 use Rattle.cdc_model.specs.Ordered.{is_before, IsAll, IsAscending}
 use Rattle.cdc_model.specs.Schemes.{Sync}
 use Rattle.cdc_model.proofs.Justify.{slice_in, in_slice}
 use Rattle.cdc_model.proofs.Ordered.{never_before}
 use Rattle.cdc_model.proofs.Synced.{unlisted}
 use Rattle.fifo_laws.specs.Fifos.{IsReader, marks_of, one_bit_key}
-use Rattle.fifo_laws.specs.Sides.{Side, side_width}
+use Rattle.fifo_laws.specs.Sides.{Side}
 use Rattle.fifo_laws.specs.Tests.{HasEmptyTest}
 use Rattle.fifo_laws.specs.Ways.{Passes}
 use Rattle.fifo_laws.specs.Words.{IsWord}
@@ -32,7 +34,14 @@ use Rattle.fifo_scheme.specs.declared.judge.Reads.{Reads as Kept}
 use Rattle.fifo_parts.specs.declared.pair.Pair.{Pair}
 use Rattle.fifo_scheme.specs.Met.{ArePlacesOf, AreReadersAt, AreReadsOf, AreWords, bits_at, column, IsMet, IsOwnOn, kept_by, MayRead, roots_at}
 use Rattle.fifo_scheme.proofs.MetPlaces.{from_bits, from_kept, in_bits_at, in_kept, kept_in_order, bits_ascend, next_root, next_there, roots_in_place, tree_there}
-use Rattle.fifo_scheme.proofs.MetSides.{listed_register, may_be_word, plain_shown, wide_of}
+use Rattle.fifo_scheme.proofs.MetSides.{listed_register}
+
+unequal : (m n : ℕ) → m ≢ n → (m == n) ≡ false
+unequal m n h = go (m == n) refl
+  where
+    go : (v : Bool) → (m == n) ≡ v → v ≡ false
+    go true e = absurd (h (eqb-true m n e))
+    go false e = refl
 
 some_at : (bs : List Bool) (k : ℕ) → k < length bs → (b : Bool) × (slice_get bs k ≡ Some b)
 some_at [] k l = absurd (omega arith)
@@ -59,9 +68,6 @@ tests_over net domains write read tests ws words rs roots e f h =
     (subst (λ (ms : List Node). (q : Guard) → IsAsked net.graph ws ms q → Contains tests q ↔ HasEmptyTest (design_of net domains) (next_tree net) write read (guard_terms net.graph q)) f h)
 
 module _ (net : Net) (domains : Domains) (table : Rows) (syncs : List Sync) (grays : List GrayReg) (i : Index) (p : Pair) (write read : Side) (met : IsMet net domains table syncs grays i p write read) where
-  wide : 2 ≤ side_width (design_of net domains) write
-  wide = (wide_of net domains p.write.side.now write met.pair.write_tells.side).0
-
   -- the clock of the side that reads
   at_read : (x : Bit) → (design_of net domains).clock x ≡ Some p.read.side.now.clock → (design_of net domains).clock x ≡ Some read.clock
   at_read x e = e ∙ ap Some (sym met.pair.read_tells.side.clock)
@@ -69,18 +75,28 @@ module _ (net : Net) (domains : Domains) (table : Rows) (syncs : List Sync) (gra
   register_at : (n : ℕ) (r : Reading) → slice_get i.readings n ≡ Some r → is_register_bit net r.bit ≡ true
   register_at n r at = unlisted net met.shown.is_net r.bit r.bit (met.index.readings.only r (slice_in i.readings n r at))
 
+  -- a word is of another group than what is on the clock of the side that reads
+  other_group : (b x : Bit) → IsWord (design_of net domains) (next_tree net) write read b → (design_of net domains).clock x ≡ Some read.clock
+      → are_async (design_of net domains) b x ≡ true
+  other_group b x word on =
+      let d = design_of net domains in
+      ap₂ differ (ap (option_map d.group_of) word.3.clock) (ap (option_map d.group_of) on)
+      ∙ ap not (unequal (d.group_of write.clock) (d.group_of read.clock) met.apart)
+
   -- the place of a register bit that reads a word
-  pub reader_place : (x b : Bit) → is_register_bit net x ≡ true → IsWord (design_of net domains) (next_tree net) write read b → reads [] (next_tree net x.sig) x.at b ≡ true
+  pub reader_place : (x b : Bit) → is_register_bit net x ≡ true → (design_of net domains).clock x ≡ Some read.clock
+      → IsWord (design_of net domains) (next_tree net) write read b → reads [] (next_tree net x.sig) x.at b ≡ true
       → (n : ℕ) × (r : Reading) × (slice_get i.readings n ≡ Some r) × (r.bit ≡ x) × Contains r.reads b
-  reader_place x b register word h =
-      let r = met.index.readings.all x b (listed_register net domains x register) (may_be_word net domains (plain_shown net table met.shown) syncs grays i met.index write read met.listed wide b word) h in
+  reader_place x b register on word h =
+      let within = (and_parts _ (is_within net b) word.3.register).1 in
+      let r = met.index.readings.all x b (listed_register net domains x register) within (other_group b x word on) h in
       (r.1.0, r.0, in_slice i.readings r.0 r.1, r.2, r.3)
 
   -- the bits at the readers' places are the readers
   pub all_readers : (places : List ℕ) → AreReadersAt net domains i write read places → IsAll (IsReader (design_of net domains) (next_tree net) write read) one_bit_key (bits_at i.readings places)
   all_readers places are = record {
     all = λ x h.
-        let k = reader_place x h.reads.0 h.register h.reads.1 h.reads.2 in
+        let k = reader_place x h.reads.0 h.register h.clock h.reads.1 h.reads.2 in
         subst (Contains (bits_at i.readings places)) k.3
         (in_bits_at i.readings places k.0 k.1 (are.all k.0 k.1 k.2 (subst (IsReader (design_of net domains) (next_tree net) write read) (sym k.3) h)) k.2);
     only = λ x h.
@@ -145,7 +161,7 @@ module _ (net : Net) (domains : Domains) (table : Rows) (syncs : List Sync) (gra
           );
       all = λ n r there h.
           let b = h.reads in
-          let place = reader_place r.bit b.0 h.register b.1 b.2 in
+          let place = reader_place r.bit b.0 h.register h.clock b.1 b.2 in
           let same = one_place i.readings met.index.readings.ordered place.0 n place.1 r place.2 there place.3 in
           let e : Some place.1 ≡ Some r = sym place.2 ∙ ap (slice_get i.readings) same ∙ there in
           let f : place.1 ≡ r = cc in

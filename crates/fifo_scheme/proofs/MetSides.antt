@@ -29,7 +29,7 @@ use Rattle.fifo_parts.specs.declared.words.Taking.{Taking}
 use Rattle.fifo_parts.specs.Brought.{places_at}
 use Rattle.fifo_parts.specs.Comparisons.{var_bit}
 use Rattle.fifo_parts.specs.Words.{lowest, SaysBit, SaysLowest}
-use Rattle.fifo_scheme.specs.Indexed.{IsCounter, IsIndex, MayBeWord}
+use Rattle.fifo_scheme.specs.Indexed.{IsCounter, IsIndex}
 use Rattle.fifo_scheme.specs.Met.{AreGathered, AreWords, IsWordAt}
 use Rattle.fifo_parts.specs.Tellers.{IsShown, IsSideOf}
 use Rattle.fifo_parts.specs.Words.{AreTakings, IsTaking}
@@ -90,9 +90,6 @@ module _ (net : Net) (domains : Domains) where
     word_found b (n, value, l, word) =
         let t = taking_of i.takings is.takings b word.register in
         (t.0, t.1, t.2, says_lowest plain write read n value t.0 wide (is.takings.each t.0 t.1) (subst (IsWordBit (design_of net domains) (next_tree net) write read n value) (sym t.2) word))
-
-    pub may_be_word : (b : Bit) → IsWord (design_of net domains) (next_tree net) write read b → MayBeWord net i.sides.items i.takings b
-    may_be_word b h = let t = word_found b h in (t.0, t.1, t.2, (write.reg.count, counter, t.3))
 
     -- the words that were gathered are all
     pub all_words : (words : List Bit) → AreGathered (IsWordAt net domains i write read) (places_at i.takings_by_count (lowest write.reg.count)) words → AreWords net domains write read words

@@ -7,6 +7,7 @@ use Rattle.cell_graph.specs.Shared.{IsShared}
 use Rattle.cell_graph.specs.Unfolded.{IsWellFormed}
 use Rattle.cofactor.specs.Shown.{Shown as Rows}
 use Rattle.domains.specs.declared.Domains.{Domains}
+use Rattle.domains.specs.Fit.{Fit}
 use Rattle.domains.specs.Nets.{IsNet}
 use Rattle.cdc_model.specs.declared.scheme.Crossing.{Crossing}
 use Rattle.cdc_model.specs.declared.scheme.GrayReg.{GrayReg}
@@ -40,7 +41,8 @@ pub record IsSearched (net : Net) (domains : Domains) (entries : List SyncEntry)
   pub after : Rows
   pub same : after ≡ table
   pub shows : IsWellFormed net.graph → ShowsNet net [] table
-  pub index : (syncs : List Sync) → IsNet net → HasNextCells net → IsShared net.graph → ShowsNet net [] table → entries ≡ map sync_entry syncs → IsIndex net domains syncs grays i
+  pub index : (syncs : List Sync) → IsNet net → HasNextCells net → Fit net domains → IsShared net.graph → ShowsNet net [] table
+      → entries ≡ map sync_entry syncs → IsIndex net domains syncs grays i
   pub candidates : AreLookedUp i → AreAt i.sides.items P m
   pub made : (syncs : List Sync) (grays : List GrayReg) → AreGiven net domains entries syncs → IsShown net after → IsIndex net domains syncs grays i → AreKept i.sides.items m
       → AreMade net domains syncs grays i.sides.items m.entries fifos
@@ -52,7 +54,7 @@ module _ (net : Net) (domains : Domains) (entries : List SyncEntry) (grays : Lis
   plain = record { well = given.is_net.graph; shared = given.is_shared }
 
   index : IsIndex net domains syncs grays i
-  index = is.index syncs given.is_net given.has_next given.is_shared (is.shows given.is_net.graph) given.listed
+  index = is.index syncs given.is_net given.has_next given.fits given.is_shared (is.shows given.is_net.graph) given.listed
 
   at : AreAt i.sides.items P m
   at = is.candidates index.sides_at

@@ -1,18 +1,16 @@
 -- What a search for FIFOs has found in a net before it judges sides.
-use Rattle.std.specs.Prelude.{◌≡◌, ◌↔◌, ◌⊎◌, ℕ, ◌<◌, true, is_some, Option, Some, None, List, [], filter, length, slice_get, Contains}
+use Rattle.std.specs.Prelude.{◌≡◌, ◌↔◌, ◌⊎◌, ℕ, Bool, true, is_some, Option, Some, None, List, [], filter, slice_get, Contains}
 use Rattle.std.specs.HashMap as hash
 use Rattle.std.specs.HashMap.{HashMap}
 use Rattle.std.specs.declared.vec.Vec.{Vec}
 use Rattle.cdc_base.specs.contracts.bit.BitPartialEq.TheImpl as equality
 use Rattle.cdc_base.specs.declared.bit.Bit.{Bit}
 use Rattle.cell_graph.specs.declared.net.Net.{Net}
-use Rattle.cell_graph.specs.Cofactor.{reads}
-use Rattle.cofactor.specs.Walked.{is_sought}
 use Rattle.domains.specs.declared.Domains.{Domains}
+use Rattle.domains.specs.Assignment.{group_of}
 use Rattle.cdc_model.specs.declared.scheme.GrayReg.{GrayReg}
 use Rattle.cdc_model.specs.Found.{bits_read_by}
-use Rattle.cdc_model.specs.Nets.{bit_count, next_tree}
-use Rattle.cdc_model.specs.Readers.{IsMarked}
+use Rattle.cdc_model.specs.Design.{differ}
 use Rattle.cdc_model.specs.Schemes.{Sync}
 use Rattle.fifo_terms.specs.Terms as rules
 use Rattle.fifo_scheme.specs.declared.index.Index.{Index}
@@ -48,23 +46,18 @@ IsFoundFrom net sides count t = (is_some (hash.get equality.ghosts.eq sides (low
 abbrev pub AddsAt : {Z S : Type 0} → (Bit → Type 0) → ℕ → HashMap Bit (Vec ℕ Z) S → HashMap Bit (Vec ℕ Z) S → Type 0
 AddsAt Q place old new = (b : Bit) (n : ℕ) → Contains (places_at new b) n ↔ (Contains (places_at old b) n ⊎ ((n ≡ place) × Q b))
 
--- Each signal of the net has a place, and those of bits that may be words are marked.
-pub record AreMarked {Z S : Type 0} (net : Net) (sides : HashMap Bit (Vec ℕ Z) S) (ts : List Taking) (marks : List (Option ℕ)) : Type 0 where
-  pub places : length marks ≡ length net.graph.signals
-  pub marked : (t : Taking) (count : ℕ) → Contains ts t → IsFoundFrom net sides count t → t.bit.sig < length net.graph.signals → IsMarked marks t.bit.sig
+-- the bit is of another group than x
+abbrev pub is_apart : Domains → Bit → Bit → Bool
+is_apart domains x b = differ (group_of domains b) (group_of domains x)
 
--- a bit of a signal that is marked
-abbrev pub IsMarkedBit : Net → List (Option ℕ) → Bit → Type 0
-IsMarkedBit net marks b = (b.at < bit_count net.graph.signals b.sig) × IsMarked marks b.sig
+-- the bits of other groups that a register bit reads
+abbrev pub reads_apart : Net → Domains → Bit → List Bit
+reads_apart net domains x = filter (is_apart domains x) (bits_read_by net [] x)
 
--- the register bit with the bits of marked signals that it reads; or it reads none
-abbrev pub IsReading : Net → List (Option ℕ) → Bit → Option Reading → Type 0
-IsReading net marks x None = (b : Bit) → IsMarkedBit net marks b → reads [] (next_tree net x.sig) x.at b ≡ true → ⊥
-IsReading net marks x (Some r) = (r.bit ≡ x) × (r.reads ≡ filter (is_sought marks) (bits_read_by net [] x))
-
--- the bit may be a word of some FIFO
-abbrev pub MayBeWord : Net → List Side → List Taking → Bit → Type 0
-MayBeWord net sides ts b = (t : Taking) × Contains ts t × (t.bit ≡ b) × ((count : ℕ) × IsCounter sides count × SaysLowest net count t)
+-- the register bit with them; or it reads none
+abbrev pub IsReading : Net → Domains → Bit → Option Reading → Type 0
+IsReading net domains x None = reads_apart net domains x ≡ []
+IsReading net domains x (Some r) = (r.bit ≡ x) × (r.reads ≡ reads_apart net domains x)
 
 -- the place is that of what the bit takes; or the list has nothing of it
 abbrev pub IsPlaceOf : List Taking → Bit → Option ℕ → Type 0
@@ -78,7 +71,7 @@ pub record IsIndex (net : Net) (domains : Domains) (syncs : List Sync) (grays : 
   pub sides : AreSides net domains grays i.sides.items
   pub takings : AreTakings net i.takings
   pub reads : AreReads net domains i.reads
-  pub readings : AreReadings net (MayBeWord net i.sides.items i.takings) i.readings
+  pub readings : AreReadings net domains i.readings
   pub sides_at : (count : ℕ) → ArePlaces (λ (s : Side). s.reg.count ≡ count) i.sides.items (places_at i.sides_by_count (lowest count))
   pub takings_at : (count : ℕ) → IsCounter i.sides.items count → ArePlaces (SaysLowest net count) i.takings (places_at i.takings_by_count (lowest count))
   pub taking_at : (b : Bit) → IsPlaceOf i.takings b (hash.get equality.ghosts.eq i.taking_by_bit b)

@@ -1,6 +1,7 @@
 -- Two sides that a search judges, and what it finds of the FIFO that they may make.
 use Rattle.std.specs.Prelude.{◌≡◌, ◌≢◌, ◌↔◌, ℕ, ◌<◌, ◌≤◌, Bool, true, cond, Option, Some, None, option_map, List, [], ◌∷◌, ◌++◌, map, filter, slice_get, Contains}
 use Rattle.std.specs.HashMap as hash
+use Rattle.std.specs.HashMap.{HashMap}
 use Rattle.std.specs.declared.vec.Vec.{Vec}
 use Rattle.cdc_base.specs.declared.bit.Bit.{Bit}
 use Rattle.cell_graph.specs.declared.cell.Node.{Node}
@@ -14,19 +15,21 @@ use Rattle.cdc_model.specs.Design.{Design}
 use Rattle.cdc_model.specs.Nets.{design_of, is_register_bit, next_node_of, next_tree}
 use Rattle.cdc_model.specs.Ordered.{IsAll}
 use Rattle.cdc_model.specs.Schemes.{Sync}
+use Rattle.cell_graph.specs.Origin.{TreeBit}
 use Rattle.cell_graph.specs.Tree.{Tree}
 use Rattle.fifo_terms.specs.Takes.{taken}
 use Rattle.gray_pointer.specs.Words.{IsIn}
 use Rattle.fifo_laws.specs.Fifos.{IsReader, IsPassed, column_key}
 use Rattle.fifo_laws.specs.Sides.{Side, IsSide, side_width}
 use Rattle.fifo_laws.specs.Tests.{HasFullTest, HasEmptyTest}
-use Rattle.fifo_laws.specs.Words.{IsWord, IsColumn, IsReadOf, Column}
+use Rattle.fifo_laws.specs.Words.{IsWord, IsWordBit, IsColumn, IsReadOf, Column}
 use Rattle.fifo_nodes.specs.declared.shows.Apart.{Apart}
-use Rattle.fifo_ways.specs.Marked.{same_node}
+use Rattle.fifo_ways.specs.Marked.{same_bit, same_node}
 use Rattle.fifo_scheme.specs.declared.found.Column.{Column as ColumnEntry}
 use Rattle.fifo_scheme.specs.declared.index.Index.{Index}
 use Rattle.fifo_scheme.specs.declared.index.Reading.{Reading}
 use Rattle.fifo_scheme.specs.declared.judge.FoundRead.{FoundRead}
+use Rattle.fifo_scheme.specs.declared.judge.Numbered.{Numbered}
 use Rattle.fifo_scheme.specs.declared.judge.Reads.{Reads}
 use Rattle.fifo_parts.specs.declared.pair.Pair.{Pair}
 use Rattle.fifo_parts.specs.declared.pair.Teller.{Teller}
@@ -37,6 +40,7 @@ use Rattle.fifo_parts.specs.Brought.{AreBrought}
 use Rattle.fifo_scheme.specs.Entries.{column_of}
 use Rattle.fifo_scheme.specs.Indexed.{IsIndex, IsCounter}
 use Rattle.fifo_parts.specs.Tellers.{IsPair, IsShown, IsSideOf, IsTeller}
+use Rattle.fifo_parts.specs.Words.{IsTaking, IsWordOf}
 
 -- ---- two sides
 
@@ -68,11 +72,12 @@ abbrev pub MayTell : Net → Domains → List Sync → (near far : SideEntry) �
 MayTell net domains syncs near far apart None = (over : List Sync) → AreBrought net domains syncs far.reg.gray near.clock over → ⊥
 MayTell net domains syncs near far apart (Some t) = IsTold net domains syncs near far apart t
 
--- What a search has found, and two sides with what they tell, of which the one that writes is among those found.
+-- What a search has found, and two sides of two groups with what they tell, of which the one that writes is among those found.
 pub record IsMet (net : Net) (domains : Domains) (table : Rows) (syncs : List Sync) (grays : List GrayReg) (i : Index) (p : Pair) (write read : Side) : Type 0 where
   pub shown : IsShown net table
   pub index : IsIndex net domains syncs grays i
   pub pair : IsPair net domains p write read
+  pub apart : (design_of net domains).group_of write.clock ≢ (design_of net domains).group_of read.clock
   pub listed : IsCounter i.sides.items write.reg.count
 
 -- P holds of the sides of the pair
@@ -95,6 +100,16 @@ AreGathered {A} {B} F xs ys = (y : B) → Contains ys y ↔ ((x : A) × Contains
 -- exactly the word bits
 abbrev pub AreWords : Net → Domains → (write read : Side) → List Bit → Type 0
 AreWords net domains write read words = (b : Bit) → Contains words b ↔ IsWord (design_of net domains) (next_tree net) write read b
+
+-- each bit that is there is a word bit for its number
+abbrev pub AreNumbers : {S : Type 0} → Net → Domains → (write read : Side) → HashMap Bit ℕ S → Type 0
+AreNumbers net domains write read numbers = (b : Bit) (n : ℕ) → hash.get same_bit numbers b ≡ Some n
+    → (value : TreeBit) × IsWordBit (design_of net domains) (next_tree net) write read n value b
+
+-- what was told of the last register bit is so
+abbrev pub IsLast : Net → Domains → (write read : Side) → Option Numbered → Type 0
+IsLast net domains write read None = Unit {0}
+IsLast net domains write read (Some k) = IsTaking net k.taking.now × IsWordOf net domains write read k.taking.now k.number
 
 -- the word bit at a place of what register bits take
 abbrev pub IsWordAt : Net → Domains → Index → (write read : Side) → ℕ → Bit → Type 0

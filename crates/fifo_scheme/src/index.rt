@@ -1,14 +1,15 @@
 //! What a search for FIFOs looks up, made once for a net.
-ghost use Rattle.std.specs.Prelude.{◌≡◌, ◌↔◌, ◌<◌, ℕ, [], List, map, option_and_then, slice_get, Contains, IfOk};
+ghost use Rattle.std.specs.Prelude.{◌≡◌, ◌↔◌, ◌<◌, ℕ, [], List, map, option_and_then, filter, slice_get, Contains, IfOk};
 ghost use Rattle.std.specs.HashMap as hash;
 ghost use Rattle.std.specs.Option.{option_copied};
 ghost use Rattle.cdc_base.specs.contracts.bit.BitPartialEq.TheImpl as equality;
 ghost use Rattle.cdc_base.specs.declared.bit.Bit.{Bit as BitOf};
+ghost use Rattle.domains.specs.Fit.{Fit};
 ghost use Rattle.domains.specs.Nets.{IsNet};
+ghost use Rattle.crossings.specs.Groups.{ShowsGroups};
 ghost use Rattle.cell_graph.specs.Shared.{IsShared};
 ghost use Rattle.cdc_model.specs.Listed.{sync_entry};
 ghost use Rattle.cdc_model.specs.Nets.{HasNextCells, bit_count};
-ghost use Rattle.cdc_model.specs.Readers.{ShowsBelow};
 ghost use Rattle.cdc_model.specs.Schemes.{Sync as SyncOf};
 ghost use Rattle.cdc_model.specs.Tables.{ShowsNet};
 ghost use Rattle.fifo_scheme.specs.declared.index.Reading.{Reading as ReadingOf};
@@ -17,15 +18,16 @@ ghost use Rattle.fifo_parts.specs.declared.side.Side.{Side as SideOf};
 ghost use Rattle.fifo_parts.specs.Brought.{places_at};
 ghost use Rattle.fifo_parts.specs.Comparisons.{AreComparisons};
 ghost use Rattle.fifo_parts.specs.Words.{lowest};
-ghost use Rattle.fifo_scheme.specs.Indexed.{AddsAt, AreMarked, AreSides, IsFoundFrom, IsIndex, IsMarkedBit, IsPlaceOf, IsReading};
+ghost use Rattle.fifo_scheme.specs.Indexed.{AddsAt, AreSides, is_apart, IsFoundFrom, IsIndex, IsPlaceOf, IsReading};
 ghost use Rattle.fifo_scheme.specs.Judged.{AreReadings, ArePlaces};
 ghost use Rattle.fifo_parts.specs.Tellers.{IsShown};
 
 use cdc_base::{Bit, List, NoMemory};
-use cdc_model::view::{mark, marked_bits_read, reads_marked, register_bits, unmarked};
+use cdc_model::view::{are_apart, bits_read, register_bits};
 use cdc_model::{Below, GrayReg, Sync};
 use cell_graph::Net;
 use cofactor::Table;
+use crossings::{groups_below, may_cross};
 use domains::Domains;
 use fifo_parts::brought::{Sources, add_place};
 use fifo_parts::flags::Comparisons;
@@ -37,15 +39,15 @@ use fifo_parts::words::{Taking, counts_said, takings};
 use std::alloc::Global;
 use std::collections::{HashMap, HashSet};
 
-/// A register bit, and the bits that may be words of FIFOs which it reads, ascending.
+/// A register bit, and the bits of other groups that it reads, ascending.
 #[derive(Drop)]
 pub struct Reading {
     pub bit: Bit,
     pub reads: List<Bit>,
 }
 
-/// The synchronizers by their sources, what may be flags, the sides, what register bits take, the reads, and the register bits that read what may be words; each with its places
-/// by what it is looked up by.
+/// The synchronizers by their sources, what may be flags, the sides, what register bits take, the reads, and the register bits that read bits of
+/// other groups; each with its places by what it is looked up by.
 #[derive(Drop)]
 pub struct Index {
     pub sources: Sources,
@@ -88,7 +90,7 @@ impl Index {
         syncs: &[Sync],
         grays: &[GrayReg],
     ) -> Result<Index, NoMemory>
-        ensures found { IfOk result (λ index. (meant : List SyncOf) → IsNet net.now → HasNextCells net.now → IsShared net.now.graph → ShowsNet net.now [] table.old →
+        ensures found { IfOk result (λ index. (meant : List SyncOf) → IsNet net.now → HasNextCells net.now → Fit net.now domains.now → IsShared net.now.graph → ShowsNet net.now [] table.old →
             syncs.now ≡ map sync_entry meant → IsIndex net.now domains.now meant grays.now index) }
         ensures unchanged { table.new ≡ table.old }
     {
@@ -101,8 +103,7 @@ impl Index {
         let taking_by_bit = by_bit(alloc, takings.as_slice())?;
         let reads = reads(alloc, net, table)?;
         let reads_by_count = by_read_count(alloc, reads.as_slice())?;
-        let marks = marks(alloc, net, takings.as_slice(), &sides_by_count)?;
-        let readings = readings(alloc, net, table, marks.as_slice())?;
+        let readings = readings(alloc, net, domains, table)?;
         let readings_by_word = by_word(alloc, readings.as_slice())?;
         Ok(Index {
             sources,
@@ -296,68 +297,69 @@ fn by_bit(alloc: Global, takings: &[Taking]) -> Result<HashMap<Bit, usize>, NoMe
     Ok(places)
 }
 
-/// Marks the signals of bits which may be words: those whose terms say a bit of a side's count.
-fn marks(
-    alloc: Global,
-    net: &Net,
-    takings: &[Taking],
-    sides: &HashMap<Bit, Vec<usize>>,
-) -> Result<Vec<Option<u32>>, NoMemory>
-    ensures { IfOk result (λ marks. AreMarked net.now sides.now takings.now marks.items) }
-{
-    let mut marks = unmarked(alloc, net)?;
-    for taking in takings {
-        let counters = counters_said(alloc, net, taking, sides)?;
-        if counters.len() > 0 {
-            mark(&mut marks, taking.bit);
-        }
-    }
-    Ok(marks)
-}
-
-/// The register bits that read bits of marked signals.
+/// The register bits that read bits of other groups.
 fn readings(
     alloc: Global,
     net: &Net,
+    domains: &Domains,
     table: &mut Table,
-    marks: &[Option<u32>],
 ) -> Result<List<Reading>, NoMemory>
-    ensures found { IfOk result (λ readings. IsNet net.now → HasNextCells net.now → ShowsNet net.now [] table.old → AreReadings net.now (IsMarkedBit net.now marks.now) readings) }
+    ensures found { IfOk result (λ readings. IsNet net.now → HasNextCells net.now → Fit net.now domains.now → ShowsNet net.now [] table.old →
+        AreReadings net.now domains.now readings) }
     ensures unchanged { table.new ≡ table.old }
 {
-    let below = Below::find(alloc, &net.graph, marks)?;
+    let groups = groups_below(alloc, net, domains)?;
     let bits = register_bits(alloc, net)?;
     let mut readings = List::new(alloc);
     for bit in bits.as_slice() {
-        if let Some(reading) = reading_of(alloc, net, table, &below, marks, *bit)? {
+        if let Some(reading) = reading_of(alloc, net, domains, table, &groups, *bit)? {
             readings.push(reading)?;
         }
     }
     Ok(readings)
 }
 
-/// The register bit with the bits of marked signals that it reads, if it reads any.
+/// The register bit with the bits of other groups that it reads, if it reads any.
 fn reading_of(
     alloc: Global,
     net: &Net,
+    domains: &Domains,
     table: &mut Table,
-    below: &Below,
-    marks: &[Option<u32>],
+    groups: &Below,
     bit: Bit,
 ) -> Result<Option<Reading>, NoMemory>
-    ensures found { IfOk result (λ found. IsNet net.now → HasNextCells net.now → ShowsNet net.now [] table.old → ShowsBelow net.now marks.now below.now →
-        bit.at < bit_count net.now.graph.signals bit.sig → IsReading net.now marks.now bit found) }
+    ensures found { IfOk result (λ found. IsNet net.now → HasNextCells net.now → Fit net.now domains.now → ShowsNet net.now [] table.old →
+        ShowsGroups net.now domains.now groups.now → bit.at < bit_count net.now.graph.signals bit.sig → IsReading net.now domains.now bit found) }
     ensures unchanged { table.new ≡ table.old }
 {
-    if !reads_marked(net, below, bit) {
+    if !may_cross(net, domains, groups, bit) {
         return Ok(None);
     }
-    let reads = marked_bits_read(alloc, net, table, bit, marks)?;
+    let all = bits_read(alloc, net, table, bit)?;
+    let reads = of_other_groups(alloc, domains, all.as_slice(), bit)?;
     if reads.len() > 0 {
         Ok(Some(Reading { bit, reads }))
     } else {
         Ok(None)
     }
+}
+
+/// Those of the bits that are of another group than a bit.
+fn of_other_groups(
+    alloc: Global,
+    domains: &Domains,
+    bits: &[Bit],
+    bit: Bit,
+) -> Result<List<Bit>, NoMemory>
+    ensures { IfOk result (λ found. found ≡ filter (is_apart domains.now bit) bits.now) }
+{
+    let mut found = List::new(alloc);
+    for other in bits {
+        if are_apart(domains, *other, bit) {
+            found.push(*other)?;
+        }
+    }
+    Ok(found)
 }
 
 /// The places of register bits by the bits that they read.

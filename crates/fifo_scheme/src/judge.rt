@@ -29,10 +29,10 @@ ghost use Rattle.fifo_parts.specs.declared.reads.Read.{Read as ReadOf};
 ghost use Rattle.fifo_parts.specs.Brought.{AreSources};
 ghost use Rattle.fifo_parts.specs.Comparisons.{AreComparisons};
 ghost use Rattle.fifo_scheme.specs.Given.{AreGiven};
-ghost use Rattle.fifo_parts.specs.Words.{lowest};
+ghost use Rattle.fifo_parts.specs.Words.{IsTaking, IsWordBitOf, IsWordOf, lowest};
 ghost use Rattle.fifo_scheme.specs.Indexed.{IsIndex};
 ghost use Rattle.fifo_scheme.specs.Judged.{IsJudged};
-ghost use Rattle.fifo_scheme.specs.Met.{ForMet, IsPaired, MayTell, IsOne, AreWords, IsWordAt, IsTakenBy, IsValue, IsFoundRead, AreReadsOf, ArePlacesInOrder, ArePlacesOf, IsOwnAt, ReadsAt, MayRead, AreReadersAt, bits_at, roots_at, kept_by, entry_column, column_at, HaveOneValue, ArePassed, IsOfEntries, crossings_into, crossings_at};
+ghost use Rattle.fifo_scheme.specs.Met.{AreNumbers, ForMet, IsLast, IsPaired, MayTell, AreWords, IsTakenBy, IsValue, IsFoundRead, AreReadsOf, ArePlacesInOrder, ArePlacesOf, IsOwnAt, ReadsAt, MayRead, AreReadersAt, bits_at, roots_at, kept_by, entry_column, column_at, HaveOneValue, ArePassed, IsOfEntries, crossings_into, crossings_at};
 ghost use Rattle.fifo_parts.specs.Tellers.{IsPair, IsShown};
 
 use crate::found::{Column, Fifo};
@@ -41,11 +41,11 @@ use cdc_base::{Bit, List, NoMemory};
 use cdc_model::view::{are_apart, next_node};
 use cdc_model::{Crossing, Sync};
 use cell_graph::{Net, Node};
-use fifo_nodes::{Apart, terms};
+use fifo_nodes::{Apart, copied, terms};
 use fifo_parts::brought::brought;
 use fifo_parts::pair::{Pair, Shown, Teller, is_register_on};
 use fifo_parts::side::Side;
-use fifo_parts::words::{is_word, is_word_bit};
+use fifo_parts::words::{Taking, are_alike, is_word_bit, word_of};
 use fifo_ways::{Guard, Sought, guards, leads, passes};
 use std::alloc::Global;
 use std::collections::{BTreeMap, HashMap, HashSet};
@@ -66,15 +66,15 @@ pub fn fifo_of(
     let Some(pair) = pair_of(alloc, shown, index, syncs, write, read)? else {
         return Ok(None);
     };
-    let words = words_of(alloc, shown, index, &pair)?;
-    let reads = reads_of(alloc, shown, index, &pair)?;
-    let candidates = candidates_of(alloc, shown, index, &pair, words.as_slice())?;
+    let Words { bits, numbers } = words_of(alloc, shown, index, &pair)?;
+    let reads = reads_of(alloc, shown, index, &pair, &numbers)?;
+    let candidates = candidates_of(alloc, shown, index, &pair, bits.as_slice())?;
     let readers = readers_of(
         alloc,
         shown,
         index,
         &pair,
-        words,
+        bits,
         &reads,
         candidates.as_slice(),
     )?;
@@ -184,36 +184,79 @@ fn are_of_two_groups(shown: Shown<'_>, write: &Side, read: &Side) -> bool
     are_apart(shown.domains, one, another)
 }
 
+/// The word bits of a FIFO, and for which word each is one.
+#[derive(Drop)]
+struct Words {
+    bits: List<Bit>,
+    numbers: HashMap<Bit, u64>,
+}
+
+impl Words {
+    fn add(&mut self, bit: Bit, number: u64) -> Result<(), NoMemory>
+        ensures bits { OnOk result (self.new.bits ≡ self.old.bits ++ bit ∷ []) }
+        ensures numbers { OnOk result ((b : BitOf) → hash.get same_bit self.new.numbers b ≡
+            cond (same_bit bit b) (Some number) (hash.get same_bit self.old.numbers b)) }
+    {
+        self.bits.push(bit)?;
+        self.numbers.insert(bit, number).map_err(|_| NoMemory)?;
+        Ok(())
+    }
+}
+
 /// The word bits of the FIFO.
 fn words_of(
     alloc: Global,
     shown: Shown<'_>,
     index: &Index,
     pair: &Pair<'_>,
-) -> Result<List<Bit>, NoMemory>
-    ensures { IfOk result (λ words. ForMet shown.entry.net.now shown.entry.domains.now shown.entry.table.now index.now pair.now (λ write read.
-        AreWords shown.entry.net.now shown.entry.domains.now write read words)) }
+) -> Result<Words, NoMemory>
+    ensures bits { IfOk result (λ words. ForMet shown.entry.net.now shown.entry.domains.now shown.entry.table.now index.now pair.now (λ write read.
+        AreWords shown.entry.net.now shown.entry.domains.now write read words.bits)) }
+    ensures numbers { IfOk result (λ words. ForMet shown.entry.net.now shown.entry.domains.now shown.entry.table.now index.now pair.now (λ write read.
+        AreNumbers shown.entry.net.now shown.entry.domains.now write read words.numbers)) }
 {
-    let mut words = List::new(alloc);
+    let mut words = Words {
+        bits: List::new(alloc),
+        numbers: HashMap::new(alloc),
+    };
+    let mut last = None;
     for place in index.takings_of(pair.write.side.reg.count) {
-        if let Some(word) = word_at(shown, index, pair, *place) {
-            words.push(word)?;
+        let Some(taking) = index.takings.as_slice().get(*place) else {
+            continue;
+        };
+        let number = number_after(shown, pair, taking, last);
+        last = Some(Numbered { taking, number });
+        if let Some(number) = number {
+            words.add(taking.bit, number)?;
         }
     }
     Ok(words)
 }
 
-/// The register bit that takes what is at the place, if it is a word bit.
-fn word_at(shown: Shown<'_>, index: &Index, pair: &Pair<'_>, place: usize) -> Option<Bit>
-    ensures { ForMet shown.entry.net.now shown.entry.domains.now shown.entry.table.now index.now pair.now (λ write read.
-        IsOne (IsWordAt shown.entry.net.now shown.entry.domains.now index.now write read place) result) }
+/// A register bit, and the word for which it is a word bit, if it is one.
+#[derive(Clone, Copy, Drop)]
+struct Numbered<'a> {
+    taking: &'a Taking,
+    number: Option<u64>,
+}
+
+/// The word for which the register bit is a word bit, if it is one: that of the last bit, where they are alike.
+fn number_after(
+    shown: Shown<'_>,
+    pair: &Pair<'_>,
+    taking: &Taking,
+    last: Option<Numbered<'_>>,
+) -> Option<u64>
+    ensures { (write read : SideOf) → IsShown shown.entry.net.now shown.entry.table.now → IsPair shown.entry.net.now shown.entry.domains.now pair.now write read →
+        IsTaking shown.entry.net.now taking.now → IsLast shown.entry.net.now shown.entry.domains.now write read last.entry →
+        IsWordOf shown.entry.net.now shown.entry.domains.now write read taking.now result }
 {
-    let taking = index.takings.as_slice().get(place)?;
-    if is_word(shown, pair, taking) {
-        Some(taking.bit)
-    } else {
-        None
+    if let Some(last) = last {
+        if are_alike(last.taking, taking) {
+            return last.number;
+        }
     }
+    word_of(shown, pair, taking)
 }
 
 /// The reads of columns of a FIFO: their nodes, and the place of each among the reads of the net with the node that its
@@ -244,16 +287,17 @@ fn reads_of(
     shown: Shown<'_>,
     index: &Index,
     pair: &Pair<'_>,
+    numbers: &HashMap<Bit, u64>,
 ) -> Result<Reads, NoMemory>
     ensures { IfOk result (λ reads. ForMet shown.entry.net.now shown.entry.domains.now shown.entry.table.now index.now pair.now (λ write read.
-        AreReadsOf shown.entry.net.now shown.entry.domains.now index.now write read reads)) }
+        AreNumbers shown.entry.net.now shown.entry.domains.now write read numbers.now → AreReadsOf shown.entry.net.now shown.entry.domains.now index.now write read reads)) }
 {
     let mut reads = Reads {
         nodes: List::new(alloc),
         columns: HashMap::new(alloc),
     };
     for place in index.reads_of(pair.read.side.reg.count) {
-        if let Some(found) = read_at(shown, index, pair, *place) {
+        if let Some(found) = read_at(shown, index, pair, numbers, *place) {
             reads.add(found.node, *place, found.value)?;
         }
     }
@@ -268,26 +312,38 @@ struct FoundRead {
 }
 
 /// The read at the place, which is one by the count of the side that reads, if its words are those of a column.
-fn read_at(shown: Shown<'_>, index: &Index, pair: &Pair<'_>, place: usize) -> Option<FoundRead>
+fn read_at(
+    shown: Shown<'_>,
+    index: &Index,
+    pair: &Pair<'_>,
+    numbers: &HashMap<Bit, u64>,
+    place: usize,
+) -> Option<FoundRead>
     ensures { ForMet shown.entry.net.now shown.entry.domains.now shown.entry.table.now index.now pair.now (λ write read.
-        ((r : ReadOf) → slice_get index.now.reads place ≡ Some r → r.count ≡ read.reg.count) →
+        AreNumbers shown.entry.net.now shown.entry.domains.now write read numbers.now → ((r : ReadOf) → slice_get index.now.reads place ≡ Some r → r.count ≡ read.reg.count) →
         IsFoundRead shown.entry.net.now shown.entry.domains.now index.now write read place result) }
 {
     let read = index.reads.as_slice().get(place)?;
-    let value = value_of(shown, index, pair, read.words.as_slice())?;
+    let value = value_of(shown, index, pair, numbers, read.words.as_slice())?;
     let node = read.node;
     Some(FoundRead { node, value })
 }
 
 /// The node that all the words take, where they are the words of a column: Some(None) is the zero bit.
-fn value_of(shown: Shown<'_>, index: &Index, pair: &Pair<'_>, words: &[Bit]) -> Option<Option<Node>>
+fn value_of(
+    shown: Shown<'_>,
+    index: &Index,
+    pair: &Pair<'_>,
+    numbers: &HashMap<Bit, u64>,
+    words: &[Bit],
+) -> Option<Option<Node>>
     ensures { ForMet shown.entry.net.now shown.entry.domains.now shown.entry.table.now index.now pair.now (λ write read.
-        length words.now ≡ depth_of (design_of shown.entry.net.now shown.entry.domains.now) write → IsValue shown.entry.net.now shown.entry.domains.now write read words.now result) }
+        AreNumbers shown.entry.net.now shown.entry.domains.now write read numbers.now → length words.now ≡ depth_of (design_of shown.entry.net.now shown.entry.domains.now) write → IsValue shown.entry.net.now shown.entry.domains.now write read words.now result) }
 {
     let first = words.first()?;
     let value = taken_by(index, *first)?;
     for word in 0..words.len() {
-        if !takes(shown, index, pair, word as u64, words[word], value) {
+        if !takes(shown, index, pair, numbers, word as u64, words[word], value) {
             return None;
         }
     }
@@ -309,18 +365,47 @@ fn takes(
     shown: Shown<'_>,
     index: &Index,
     pair: &Pair<'_>,
+    numbers: &HashMap<Bit, u64>,
     word: u64,
     bit: Bit,
     value: Option<Node>,
 ) -> bool
     ensures { ForMet shown.entry.net.now shown.entry.domains.now shown.entry.table.now index.now pair.now (λ write read.
-        word < depth_of (design_of shown.entry.net.now shown.entry.domains.now) write → IsIn shown.entry.net.now.graph value → (result ≡ true) ↔
+        AreNumbers shown.entry.net.now shown.entry.domains.now write read numbers.now → word < depth_of (design_of shown.entry.net.now shown.entry.domains.now) write → IsIn shown.entry.net.now.graph value → (result ≡ true) ↔
         IsWordBit (design_of shown.entry.net.now shown.entry.domains.now) (next_tree shown.entry.net.now) write read word (option_map (bit_of shown.entry.net.now.graph) value) bit) }
 {
     match index.taking(bit) {
         Some(taking) => {
-            are_same(taking.taken.node, value) && is_word_bit(shown, pair, word, taking)
+            are_same(taking.taken.node, value) && is_word_for(shown, pair, numbers, word, taking)
         }
+        None => false,
+    }
+}
+
+/// Whether the register bit is a word bit for the word, which it mostly is by its number.
+fn is_word_for(
+    shown: Shown<'_>,
+    pair: &Pair<'_>,
+    numbers: &HashMap<Bit, u64>,
+    word: u64,
+    taking: &Taking,
+) -> bool
+    ensures { (write read : SideOf) → IsShown shown.entry.net.now shown.entry.table.now → IsPair shown.entry.net.now shown.entry.domains.now pair.now write read →
+        IsTaking shown.entry.net.now taking.now → AreNumbers shown.entry.net.now shown.entry.domains.now write read numbers.now →
+        word < depth_of (design_of shown.entry.net.now shown.entry.domains.now) write →
+        (result ≡ true) ↔ IsWordBitOf shown.entry.net.now shown.entry.domains.now write read word taking.now }
+{
+    if is_number(numbers, taking.bit, word) {
+        return true;
+    }
+    is_word_bit(shown, pair, word, taking)
+}
+
+fn is_number(numbers: &HashMap<Bit, u64>, bit: Bit, word: u64) -> bool
+    ensures { result ≡ true → hash.get same_bit numbers.now bit ≡ Some word }
+{
+    match numbers.get(&bit) {
+        Some(number) => *number == word,
         None => false,
     }
 }
@@ -428,7 +513,7 @@ fn sought_of(
         Contains sought.tests p ↔ HasEmptyTest (design_of shown.entry.net.now shown.entry.domains.now) (next_tree shown.entry.net.now) write read (guard_terms shown.entry.net.now.graph p)) }
 {
     let tests = tests_of(alloc, shown, pair, words.as_slice(), roots)?;
-    let reads = nodes_again(alloc, reads.nodes.as_slice())?;
+    let reads = copied(alloc, reads.nodes.as_slice())?;
     Ok(Sought {
         words,
         reads,
@@ -456,16 +541,6 @@ fn is_true(answers: &[bool], place: usize) -> bool
         Some(answer) => *answer,
         None => false,
     }
-}
-
-fn nodes_again(alloc: Global, nodes: &[Node]) -> Result<List<Node>, NoMemory>
-    ensures { IfOk result (λ copies. copies ≡ nodes.now) }
-{
-    let mut copies = List::new(alloc);
-    for node in nodes {
-        copies.push(*node)?;
-    }
-    Ok(copies)
 }
 
 /// The nodes of the next values of register bits.

@@ -1,4 +1,5 @@
 pub mod Choices
+pub mod Conditions
 pub mod Decides
 pub mod Fed
 pub mod GuardLists

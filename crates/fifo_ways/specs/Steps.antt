@@ -1,5 +1,5 @@
 -- One word after the other of a choice by a count.
-use Rattle.std.specs.Prelude.{◌≡◌, ℕ, zero, suc, ◌+◌, ◌≤◌, Bool, true, Option, Some, None, option_map, List, [], ◌∷◌, ◌++◌}
+use Rattle.std.specs.Prelude.{◌≡◌, ℕ, zero, suc, ◌+◌, ◌≤◌, Bool, true, Option, Some, None, option_map, List, [], ◌∷◌, ◌++◌, slice_get}
 use Rattle.std.specs.List.{Contains}
 use Rattle.cdc_base.specs.declared.bit.Bit.{Bit}
 use Rattle.cell_graph.specs.declared.cell.Cell.TheVariants.{Var}
@@ -55,6 +55,10 @@ ChoosesFirst d s n x word rest = (c : Tree) × (a : Tree) × (b : Tree) × (i : 
 abbrev pub IsStep : Cells → Design → Side → ℕ → TreeBit → Option Step → Type 0
 IsStep g d s n x None = (word : Bit) (rest : TreeBit) → ChoosesFirst d s n x word rest → ⊥
 IsStep g d s n x (Some step) = ChoosesFirst d s n x step.word (option_map (bit_of g) step.rest) × IsIn g step.rest
+
+-- the conditions are that a side's count is at 0, 1 and so on
+abbrev pub AreConditions : Cells → Design → Side → List CellId → Type 0
+AreConditions g d s conditions = (n : ℕ) (c : CellId) → slice_get conditions n ≡ Some c → HaveOneSet (terms (tree_of g c) 0 true) (index_terms d s n)
 
 -- a term that a bit of the signal's cell has a value
 abbrev pub IsTermOf : Cells → ℕ → CellId → Term → Type 0

@@ -1,5 +1,5 @@
 //! Among which words a node chooses.
-ghost use Rattle.std.specs.Prelude.{◌≡◌, ◌↔◌, ◌≤◌, [], true, Some, option_map, IfOk};
+ghost use Rattle.std.specs.Prelude.{◌≡◌, ◌↔◌, ◌≤◌, ◌⊎◌, ◌++◌, [], ◌∷◌, true, Some, length, option_map, slice_get, IfOk};
 ghost use Rattle.cell_graph.specs.Unfolded.{IsNodeOf, bit_of};
 ghost use Rattle.domains.specs.declared.Domains.{Domains};
 ghost use Rattle.cdc_model.specs.Nets.{design_of};
@@ -10,7 +10,7 @@ ghost use Rattle.fifo_laws.specs.Words.{index_terms};
 ghost use Rattle.gray_pointer.specs.Words.{IsPlain, IsIn};
 ghost use Rattle.fifo_nodes.specs.Terms.{terms_at};
 ghost use Rattle.fifo_ways.specs.Chosen.{IsChosen};
-ghost use Rattle.fifo_ways.specs.Steps.{IsIndexOf, IsSignalBit, IsEnded, AreBranches, IsStep, IsSignalCell, IsIndexCell, place_terms};
+ghost use Rattle.fifo_ways.specs.Steps.{AreConditions, IsIndexOf, IsSignalBit, IsEnded, AreBranches, IsStep, IsSignalCell, IsIndexCell, place_terms};
 
 use cdc_base::{Bit, List, NoMemory};
 use cell_graph::word::{low_bits, shifted_left, shifted_right};
@@ -21,7 +21,8 @@ use std::alloc::Global;
 
 /// The words, from word 0 on, among which the node chooses by all bits but the highest of a count of this width, 2 to
 /// 11 bits: multiplexers, one below the other, whose conditions are that the bits are those of 0, 1 and so on. None
-/// where it is no such choice among as many words as those bits tell apart.
+/// where it is no such choice among as many words as those bits tell apart. `conditions` are those that are known to be
+/// that the bits are those of 0, 1 and so on: each is looked at once for all nodes that choose by it.
 pub fn chosen(
     alloc: Global,
     net: &Net,
@@ -29,10 +30,16 @@ pub fn chosen(
     count: u32,
     width: u8,
     node: Node,
+    conditions: &mut List<CellId>,
 ) -> Result<Option<List<Bit>>, NoMemory>
     ensures exact { IfOk result (λ found. (domains : Domains) (side : Side) → IsPlain net.now.graph → ShowsNet net.now [] table.now → IsNodeOf net.now.graph node →
         side.reg.count ≡ count → side_width (design_of net.now domains) side ≡ width → 2 ≤ width → width ≤ 11 →
+        AreConditions net.now.graph (design_of net.now domains) side conditions.old →
         IsChosen (design_of net.now domains) side (Some (bit_of net.now.graph node)) found) }
+    ensures conditions { IfOk result (λ _. (domains : Domains) (side : Side) → IsPlain net.now.graph → ShowsNet net.now [] table.now → IsNodeOf net.now.graph node →
+        side.reg.count ≡ count → side_width (design_of net.now domains) side ≡ width → 2 ≤ width → width ≤ 11 →
+        AreConditions net.now.graph (design_of net.now domains) side conditions.old →
+        AreConditions net.now.graph (design_of net.now domains) side conditions.new) }
 {
     let index = Index {
         count,
@@ -42,7 +49,7 @@ pub fn chosen(
     let mut rest = Some(node);
     let last = shifted_left(1, u64::from(index.bits)).saturating_sub(1);
     for place in 0..last {
-        let Some(step) = step_of(alloc, net, table, index, place, rest)? else {
+        let Some(step) = step_of(alloc, net, table, index, conditions, place, rest)? else {
             return Ok(None);
         };
         words.push(step.word)?;
@@ -96,11 +103,14 @@ fn step_of(
     net: &Net,
     table: &Table,
     index: Index,
+    conditions: &mut List<CellId>,
     place: u64,
     node: Option<Node>,
 ) -> Result<Option<Step>, NoMemory>
     ensures { IfOk result (λ step. (domains : Domains) (side : Side) → IsPlain net.now.graph → ShowsNet net.now [] table.now → IsIn net.now.graph node →
-        IsIndexOf (design_of net.now domains) side index → IsStep net.now.graph (design_of net.now domains) side place (option_map (bit_of net.now.graph) node) step) }
+        IsIndexOf (design_of net.now domains) side index → AreConditions net.now.graph (design_of net.now domains) side conditions.old →
+        IsStep net.now.graph (design_of net.now domains) side place (option_map (bit_of net.now.graph) node) step
+        × AreConditions net.now.graph (design_of net.now domains) side conditions.new) }
 {
     let Some(branches) = branches_of(net, node) else {
         return Ok(None);
@@ -108,7 +118,7 @@ fn step_of(
     let Some(word) = signal_bit(net, branches.yes) else {
         return Ok(None);
     };
-    if !is_place(alloc, net, table, index, place, branches.cond)? {
+    if !is_condition(alloc, net, table, index, conditions, place, branches.cond)? {
         return Ok(None);
     }
     Ok(Some(Step {
@@ -137,6 +147,53 @@ fn branches_of(net: &Net, node: Option<Node>) -> Option<Branches>
             other: origin(net, Node { cell: other, at }),
         }),
         _ => None,
+    }
+}
+
+/// Whether the condition is that the index is `place`, by those that are known; where it is the first one beyond them, it is
+/// known from then on.
+fn is_condition(
+    alloc: Global,
+    net: &Net,
+    table: &Table,
+    index: Index,
+    conditions: &mut List<CellId>,
+    place: u64,
+    cond: Node,
+) -> Result<bool, NoMemory>
+    ensures { IfOk result (λ is. (domains : Domains) (side : Side) → IsPlain net.now.graph → ShowsNet net.now [] table.now → IsNodeOf net.now.graph cond → cond.at ≡ 0 →
+        IsIndexOf (design_of net.now domains) side index → AreConditions net.now.graph (design_of net.now domains) side conditions.old →
+        ((is ≡ true) ↔ HaveOneSet (terms_at net.now.graph cond true) (index_terms (design_of net.now domains) side place))
+        × AreConditions net.now.graph (design_of net.now domains) side conditions.new) }
+{
+    if is_known(conditions.as_slice(), place, cond.cell) {
+        return Ok(true);
+    }
+    if !is_place(alloc, net, table, index, place, cond)? {
+        return Ok(false);
+    }
+    add_next(conditions, place, cond.cell)?;
+    Ok(true)
+}
+
+/// Whether the cell is the condition that is known for the place.
+fn is_known(conditions: &[CellId], place: u64, cell: CellId) -> bool
+    ensures { result ≡ true → slice_get conditions.now place ≡ Some cell }
+{
+    match conditions.get(place as usize) {
+        Some(known) => *known == cell,
+        None => false,
+    }
+}
+
+/// Adds the condition for the place, where it is the next one.
+fn add_next(conditions: &mut List<CellId>, place: u64, cell: CellId) -> Result<(), NoMemory>
+    ensures { IfOk result (λ _. (conditions.new ≡ conditions.old) ⊎ ((place ≡ length conditions.old) × (conditions.new ≡ conditions.old ++ cell ∷ []))) }
+{
+    if conditions.len() as u64 == place {
+        conditions.push(cell)
+    } else {
+        Ok(())
     }
 }
 

@@ -24,12 +24,19 @@ returns-then-is_empty c = λ meant grays given shown is iw ir.
     let ew = told.2 in
     let er = told.3 in
     let match = told.4 in
-    let met : IsMet net domains table meant grays i pair w r = record { shown = shown; index = is; pair = told.5; listed = (c.args.write.now, iw, ap (λ (g : GrayReg). g.count) (sym ew)) } in
-    let words = c.in_ok-words.ensures meant grays w r met in
-    let reads = c.in_ok-reads.ensures meant grays w r met in
+    let met : IsMet net domains table meant grays i pair w r = record {
+      shown = shown;
+      index = is;
+      pair = told.5;
+      apart = match.apart;
+      listed = (c.args.write.now, iw, ap (λ (g : GrayReg). g.count) (sym ew));
+    } in
+    let words = c.in_ok-bits.ensures.bits meant grays w r met in
+    let reads = c.in_ok-reads.ensures meant grays w r met (c.in_ok-bits.ensures.numbers meant grays w r met) in
     let may = subst (λ (bs : List Bit). ArePlacesOf i (MayRead net domains pair.read.side.now.clock bs) c.in_ok-candidates.candidates.items) c.as_slice.ensures (c.in_ok-candidates.ensures meant grays w r met) in
     let places = c.in_ok-readers.readers.items in
-    let readers = c.in_ok-readers.ensures meant grays w r met words reads (subst (ArePlacesOf i (MayRead net domains pair.read.side.now.clock c.in_ok-words.words)) (sym c.as_slice-2.ensures.value) may) in
+    let readers = c.in_ok-readers.ensures meant grays w r met words reads
+    (subst (ArePlacesOf i (MayRead net domains pair.read.side.now.clock c.in_ok-bits.field-0.bits)) (sym c.as_slice-2.ensures.value) may) in
     let l : length c.in_ok-readers.readers.items ≡ 0 = grind (arith, nat_tests) in
     no_reader net domains table meant grays i pair c.args.write.now c.args.read.now w r met ew er match places readers (empty_of places l)
 
@@ -46,12 +53,19 @@ returns c = λ meant grays given shown is iw ir.
     let ew = told.2 in
     let er = told.3 in
     let match = told.4 in
-    let met : IsMet net domains table meant grays i pair w r = record { shown = shown; index = is; pair = told.5; listed = (c.args.write.now, iw, ap (λ (g : GrayReg). g.count) (sym ew)) } in
-    let words = c.in_ok-words.ensures meant grays w r met in
-    let reads = c.in_ok-reads.ensures meant grays w r met in
+    let met : IsMet net domains table meant grays i pair w r = record {
+      shown = shown;
+      index = is;
+      pair = told.5;
+      apart = match.apart;
+      listed = (c.args.write.now, iw, ap (λ (g : GrayReg). g.count) (sym ew));
+    } in
+    let words = c.in_ok-bits.ensures.bits meant grays w r met in
+    let reads = c.in_ok-reads.ensures meant grays w r met (c.in_ok-bits.ensures.numbers meant grays w r met) in
     let may = subst (λ (bs : List Bit). ArePlacesOf i (MayRead net domains pair.read.side.now.clock bs) c.in_ok-candidates.candidates.items) c.as_slice.ensures (c.in_ok-candidates.ensures meant grays w r met) in
     let places = c.in_ok-readers.readers.items in
-    let readers = c.in_ok-readers.ensures meant grays w r met words reads (subst (ArePlacesOf i (MayRead net domains pair.read.side.now.clock c.in_ok-words.words)) (sym c.as_slice-2.ensures.value) may) in
+    let readers = c.in_ok-readers.ensures meant grays w r met words reads
+    (subst (ArePlacesOf i (MayRead net domains pair.read.side.now.clock c.in_ok-bits.field-0.bits)) (sym c.as_slice-2.ensures.value) may) in
     let columns = c.in_ok-columns.columns in
     let passed = c.in_ok-columns.ensures pair meant grays w r met reads (subst (AreReadersAt net domains i w r) (sym c.as_slice-3.ensures.value) readers) in
     let cross = subst (λ (cs : List Column). (test : Bit → Bool) × ((b : Bit) → (test b ≡ true) ↔ IsOfEntries cs b) × (c.in_ok-crossings.crossings ≡ crossings_at test i.readings c.as_slice-5.result.now)) c.as_slice-4.ensures c.in_ok-crossings.ensures in

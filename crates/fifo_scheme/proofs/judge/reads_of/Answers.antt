@@ -10,14 +10,14 @@ use Rattle.fifo_scheme.proofs.judge.reads_of.Goals as goal
 use Rattle.fifo_scheme.proofs.judge.reads_of.Goals.{in-Some+in_ok-add, in_default}
 
 pub loop-place-preserved : goal.loop-place-preserved
-loop-place-preserved c = λ syncs grays write read met.
+loop-place-preserved c = λ syncs grays write read met numbers.
     let net = c.args.shown.net.now in
     let domains = c.args.shown.domains.now in
     let i = c.args.index.now in
     let ns = c.reads_of-place-items.result.now in
     let k = c.loop-place.place-index in
-    let so_far = c.loop-place.invariant syncs grays write read met in
-    let found = c.read_at.ensures syncs grays write read met
+    let so_far = c.loop-place.invariant syncs grays write read met numbers in
+    let found = c.read_at.ensures syncs grays write read met numbers
     (counted_at c.args.shown.net.now c.args.shown.domains.now c.args.shown.table.now syncs grays c.args.index.now c.args.pair.now write read met ns c.reads_of-place-items.ensures (get_or ns k 0) (Contains-get_or ns k 0 c.loop-place-test.true)) in
     elim c.match-read_at.branch [
       | in-Some+in_ok-add w ↦
@@ -30,8 +30,8 @@ loop-place-preserved c = λ syncs grays write read met.
     ]
 
 pub returns : goal.returns
-returns c = λ syncs grays write read met.
+returns c = λ syncs grays write read met numbers.
     let ns = c.reads_of-place-items.result.now in
     reads_end c.args.shown.net.now c.args.shown.domains.now c.args.shown.table.now syncs grays c.args.index.now c.args.pair.now write read met ns c.loop-place.reads c.reads_of-place-items.ensures
     (subst (λ (ms : List ℕ). AreReadsSoFar c.args.shown.net.now c.args.shown.domains.now c.args.index.now write read ms c.loop-place.reads) (take_all c.loop-place.place-index ns (let l = c.loop-place-test.false in omega arith))
-    (c.loop-place.invariant syncs grays write read met))
+    (c.loop-place.invariant syncs grays write read met numbers))

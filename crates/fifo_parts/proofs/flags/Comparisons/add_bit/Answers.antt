@@ -15,3 +15,6 @@ returns-clause-found c = λ shown reg v own.
     each_value (λ u. IsAdded net domains new (record { bit = c.args.bit; value = u }))
     (still_added (λ (f : Flag). f ≡ high) c.add.new.self new c.in_ok-add-2.ensures.kept net domains low (c.in_ok-add.ensures.found shown reg))
     (c.in_ok-add-2.ensures.found shown reg) v
+
+pub returns-then-is_choice-clause-found : goal.returns-then-is_choice-clause-found
+returns-then-is_choice-clause-found c = λ shown reg v own. c.is_choice.ensures c.if-is_choice.true shown reg c.args.self.now v

@@ -1,4 +1,4 @@
-use Rattle.std.proofs.Common.{◌≡◌, ℕ, Option, List, Contains, subst}
+use Rattle.std.proofs.Common.{◌≡◌, ℕ, List, Contains, subst}
 use Rattle.std.specs.HashMap as hash
 use Rattle.cdc_base.specs.contracts.bit.BitPartialEq.TheImpl as equality
 use Rattle.cdc_base.specs.declared.bit.Bit.{Bit}
@@ -8,15 +8,14 @@ use Rattle.fifo_parts.specs.declared.side.Side.{Side}
 use Rattle.fifo_parts.specs.declared.words.Taking.{Taking}
 use Rattle.fifo_parts.specs.Brought.{places_at}
 use Rattle.fifo_parts.specs.Words.{lowest}
-use Rattle.fifo_scheme.specs.Indexed.{AreMarked, IsFoundFrom, IsMarkedBit, IsPlaceOf, MayBeWord}
-use Rattle.fifo_scheme.specs.Judged.{AreReadings, ArePlaces}
+use Rattle.fifo_scheme.specs.Indexed.{IsFoundFrom, IsPlaceOf}
+use Rattle.fifo_scheme.specs.Judged.{ArePlaces}
 use Rattle.fifo_parts.specs.Tellers.{IsShown}
-use Rattle.fifo_scheme.proofs.IndexMade.{said_at, words_marked}
-use Rattle.fifo_scheme.proofs.IndexReadings.{fewer_words}
+use Rattle.fifo_scheme.proofs.IndexMade.{said_at}
 use Rattle.fifo_scheme.proofs.index.Index.of.Goals as goal
 
 pub returns-clause-found : goal.returns-clause-found
-returns-clause-found c = λ meant is has shared shows listed.
+returns-clause-found c = λ meant is has fits shared shows listed.
     let net = c.args.net.now in
     let shown : IsShown net c.args.table.now = record { is_net = is; has_next = has; is_shared = shared; shows = shows } in
     let sides = c.in_ok-sides.sides.items in
@@ -29,19 +28,13 @@ returns-clause-found c = λ meant is has shared shows listed.
     let said : (count : ℕ) → ArePlaces (IsFoundFrom net by count) ts (places_at c.in_ok-takings_by_count.takings_by_count (lowest count)) =
     subst (λ (xs : List Taking). (count : ℕ) → ArePlaces (IsFoundFrom net by count) xs
     (places_at c.in_ok-takings_by_count.takings_by_count (lowest count))) c.as_slice-2.ensures c.in_ok-takings_by_count.ensures in
-    let marks = c.in_ok-marks.marks.items in
-    let marked : AreMarked net by ts marks = subst (λ (xs : List Taking). AreMarked net by xs marks) c.as_slice-5.ensures c.in_ok-marks.ensures in
-    let readings : AreReadings net (IsMarkedBit net marks) c.in_ok-readings.readings =
-    subst (λ (xs : List (Option ℕ)). AreReadings net (IsMarkedBit net xs) c.in_ok-readings.readings) c.as_slice-6.ensures.value
-    (c.in_ok-readings.ensures.found is has shows) in
     record {
       sources = c.in_ok-sources.ensures meant listed;
       comparisons = c.in_ok-comparisons.ensures shown;
       sides = c.in_ok-sides.ensures shown;
       takings = takings;
       reads = c.in_ok-reads.ensures c.args.domains.now shown;
-      readings = fewer_words net (IsMarkedBit net marks) (MayBeWord net sides ts) c.in_ok-readings.readings
-          (words_marked net sides by ts at marks marked takings) readings;
+      readings = c.in_ok-readings.ensures.found is has fits shows;
       sides_at = at;
       takings_at = λ count counter. said_at net sides by ts at count counter (places_at c.in_ok-takings_by_count.takings_by_count (lowest count))
           (said count);
@@ -50,5 +43,5 @@ returns-clause-found c = λ meant is has shared shows listed.
       reads_at = subst (λ (xs : List Read). (count : ℕ) → ArePlaces (λ (r : Read). r.count ≡ count) xs
           (places_at c.in_ok-reads_by_count.reads_by_count (lowest count))) c.as_slice-4.ensures c.in_ok-reads_by_count.ensures;
       readings_at = subst (λ (xs : List Reading). (b : Bit) → ArePlaces (λ (r : Reading). Contains r.reads b) xs
-          (places_at c.in_ok-readings_by_word.readings_by_word b)) c.as_slice-7.ensures c.in_ok-readings_by_word.ensures;
+          (places_at c.in_ok-readings_by_word.readings_by_word b)) c.as_slice-5.ensures c.in_ok-readings_by_word.ensures;
     }
