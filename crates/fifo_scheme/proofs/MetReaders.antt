@@ -1,6 +1,6 @@
 -- The readers of a FIFO, among the register bits that read its words.
-use Rattle.std.proofs.Common.{◌≡◌, ◌≢◌, ◌==◌, ◌∙◌, ◌↔◌, eqb-true, sym, ap, ap₂, subst, refl, inl, inr, ◌⊎◌, arith, ℕ, zero, suc, ◌<◌, ◌≤◌, Bool, true, false, not}
-use Rattle.std.proofs.Common.{Some, option_map, List, [], ◌∷◌, length, slice_get, Contains}
+use Rattle.std.proofs.Common.{◌≡◌, ◌≢◌, ◌==◌, ◌∙◌, ◌↔◌, eqb-true, sym, ap, ap₂, subst, refl, inl, inr, ◌⊎◌, arith, ℕ, zero, suc, ◌<◌, ◌≤◌}
+use Rattle.std.proofs.Common.{Bool, true, false, not, Some, option_map, List, [], ◌∷◌, length, slice_get, Contains}
 use Rattle.std.proofs.lemmas.Bool.{and_parts, both_ways, cases_lt}
 use Rattle.std.proofs.lemmas.Option.{slice_get_within}
 use Rattle.cdc_base.specs.declared.bit.Bit.{Bit}

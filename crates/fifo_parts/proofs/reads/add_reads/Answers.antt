@@ -1,5 +1,5 @@
 -- One bit more is a read, or isn't.
-use Rattle.std.proofs.Common.{◌≡◌, ◌≤◌, ◌∙◌, ◌+◌, sym, subst, ap, arith, refl, Some}
+use Rattle.std.proofs.Common.{◌≤◌, ◌∙◌, ◌+◌, sym, subst, ap, arith, refl, Some}
 use Rattle.cell_graph.specs.declared.cell.Node.{Node}
 use Rattle.cell_graph.specs.Cells.{cell_width}
 use Rattle.cell_graph.specs.Unfolded.{IsNodeOf, bit_of}

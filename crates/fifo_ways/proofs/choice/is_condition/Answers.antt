@@ -1,5 +1,5 @@
 -- By what is known, or by the place.
-use Rattle.std.proofs.Common.{◌≡◌, ◌∙◌, sym, ap, refl, true, Some, List, slice_get}
+use Rattle.std.proofs.Common.{◌≡◌, ◌∙◌, sym, ap, refl, true, List, slice_get}
 use Rattle.cell_graph.specs.declared.cell.CellId.{CellId}
 use Rattle.cdc_model.specs.Nets.{design_of}
 use Rattle.fifo_ways.proofs.Conditions.{known_condition, more_conditions}
