@@ -32,12 +32,9 @@ use Rattle.flat_process.proofs.Ended.{all-push}
 use Rattle.flat_design.specs.StartValues.{is_processed_at, start_assigned, start_unless_held, starts_from, are_sized, GrowsBy}
 use Rattle.flat_design.specs.Visiting.{IsFitDesign}
 use Rattle.flat_design.proofs.Finished.{word-narrow}
-use Rattle.flat_design.proofs.Wired.{whole-keeps}
+use Rattle.flat_design.proofs.Wired.{whole-keeps, number-keeps}
 
 -- ---- what is pushed
-
-number-keeps : (v w : ℕ) → keeps_sizes (e.Number v w) ≡ true
-number-keeps v w = ap (λ (k : Kept). k.right) (ap kept_width (sym (e.rolls-Number v w)) ∙ fold-roll-FExpr Kept width_step (FExpr-F.Number v w))
 
 -- nothing more
 pub grows-not : (xs : List FlatAssign) → GrowsBy xs xs []

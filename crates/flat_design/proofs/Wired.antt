@@ -38,6 +38,23 @@ whole-keeps s = ap target_keeps_sizes (sym (t.rolls-Whole s)) ∙ fold-roll-FTar
 read-keeps : (s at w : ℕ) → keeps_sizes (e.Read s at w) ≡ true
 read-keeps s at w = ap (λ (k : Kept). k.right) (ap width_of (sym (e.rolls-Read s at w)) ∙ fold-roll-FExpr Kept width_step (FExpr-F.Read s at w))
 
+pub number-keeps : (v w : ℕ) → keeps_sizes (e.Number v w) ≡ true
+number-keeps v w = ap (λ (k : Kept). k.right) (ap width_of (sym (e.rolls-Number v w)) ∙ fold-roll-FExpr Kept width_step (FExpr-F.Number v w))
+
+-- what a port reads as
+bits-keep : (o : Option Reset) (s at w : ℕ) → keeps_sizes (bits_of o false s at w) ≡ true
+bits-keep None s at w = read-keeps s at w
+bits-keep (Some q) s at w = number-keeps _ w
+
+pub port-reads : (k : Look) (l : n.Look) → Shows k l → k.active ≡ false → (s w : ℕ) (x : FExpr) → s < length l.entries → w ≡ option_map_or (λ (y : Entry). y.width) (slice_get k.entries.now s) 1
+    → (1 ≤ w → x ≡ bits_of (option_and_then (λ (y : Entry). y.reset) (slice_get k.entries.now s)) k.active s 0 w) → (expr_of x ≡ n.whole_of l s) × (keeps_sizes x ≡ true)
+port-reads k l h f s w x i j d =
+    let o = option_and_then (λ (y : Entry). y.reset) (slice_get k.entries.now s) in
+    let own : w ≡ width_at l.entries s = j ∙ width-is k l h s i in
+    let is = d (subst (λ n. 1 ≤ n) (sym own) (has_bits l.entries s i)) in
+    (ap expr_of is ∙ bits-expr o (reset_at l.entries s) k.active s 0 w (level-is k l h s) l refl (sym h.active) ∙ ap (n.bits_of l s 0) own,
+    ap keeps_sizes is ∙ ap (λ a. keeps_sizes (bits_of o a s 0 w)) f ∙ bits-keep o s 0 w)
+
 module _ (pins : List ResetPin) (d : Design) (v : Vec FlatAssign Global) (s : ℕ) where
   -- a port that is driven
   pub drives-port : (o : u.Design) (link : Link) (x : FExpr) (q : Option Reset) → IsEnd pins (ends.Input x q) link → ((r : Option ResetPin) → IsReset pins q r → ShowsDesign pins d (record o { entries = change_entry (resolving_to r) s o.entries }))
@@ -47,11 +64,12 @@ module _ (pins : List ResetPin) (d : Design) (v : Vec FlatAssign Global) (s : �
   drives-port o (out_of y w) x q h k i = absurd h
 
   -- a port that drives
-  pub port-drives : (o : u.Design) (link : Link) (x : FTarget) (w : ℕ) → IsEnd pins (ends.Output x) link → ShowsDesign pins d o → w ≡ width_at o.entries s
-      → v.items ≡ d.assigns.items ++ (record { target = x; value = e.Read s 0 w }) ∷ [] → ShowsDesign pins (record d { assigns = v }) (connect_at o s link)
-  port-drives o (into y z r) x w h k c i = absurd h
-  port-drives o (out_of y z) x w h k c i = shows-assign pins d o k v (record { target = x; value = e.Read s 0 w }) z (Read s 0 (width_at o.entries s)) i
-      record { target = λ a. h.0; value = λ a. expr_of-Read s 0 w ∙ ap (Read s 0) c; sizes = λ a. ap₂ (λ b c. b && c) h.1 (read-keeps s 0 w) }
+  pub port-drives : (o : u.Design) (link : Link) (x : FTarget) (y : FExpr) → IsEnd pins (ends.Output x) link → ShowsDesign pins d o
+      → (expr_of y ≡ bits_read false s 0 (width_at o.entries s) (reset_at o.entries s)) × (keeps_sizes y ≡ true)
+      → v.items ≡ d.assigns.items ++ (record { target = x; value = y }) ∷ [] → ShowsDesign pins (record d { assigns = v }) (connect_at o s link)
+  port-drives o (into a z r) x y h k c i = absurd h
+  port-drives o (out_of a z) x y h k c i = shows-assign pins d o k v (record { target = x; value = y }) z (bits_read false s 0 (width_at o.entries s) (reset_at o.entries s)) i
+      record { target = λ b. h.0; value = λ b. c.0; sizes = λ b. ap₂ (λ b c. b && c) h.1 c.1 }
 
 -- ---- ports that are signals
 

@@ -7,6 +7,7 @@ ghost use Rattle.cdc_base.specs.declared.fault.Place as at;
 ghost use Rattle.cdc_base.specs.Words.{is_in};
 ghost use Rattle.verilog_reading.specs.ExprTree as tree;
 ghost use Rattle.verilog_reading.specs.ExprTree.{tree_of};
+ghost use Rattle.flat_form.specs.View.{expr_of};
 ghost use Rattle.verilog_reading.specs.SourceTree.{maybe, DeclTree, PortTree, ModuleTree, named, decl_of, port_of, conn_of, conns_of, item_of, module_of};
 ghost use Rattle.flat_unfolding.specs.Outcome.{Text, breaks_if};
 ghost use Rattle.flat_unfolding.specs.Names as n;
@@ -15,7 +16,8 @@ ghost use Rattle.flat_unfolding.specs.Declarations.{header_of, decl_in};
 ghost use Rattle.flat_unfolding.specs.Instances.{Joint, joints, Link, if_among, ordered_joints, named_joint, unmet, override_rules, connection_rules, connect_one, connect_all};
 ghost use Rattle.flat_unfolding.specs.Instances as of;
 ghost use Rattle.flat_unfolding.specs.Design as grown;
-ghost use Rattle.flat_unfolding.specs.Design.{Stage};
+ghost use Rattle.flat_unfolding.specs.Design.{Stage, look_of};
+ghost use Rattle.flat_unfolding.specs.Widths.{keeps_sizes};
 ghost use Rattle.flat_unfolding.specs.Parameters as law_parameters;
 ghost use Rattle.flat_unfolding.specs.Formed.{IsFormed, IsFormedIf, AreConnsFormed};
 ghost use Rattle.flat_unfolding.specs.Expressions.{read};
@@ -640,6 +642,7 @@ fn named_reset(look: &Look, name: &Name) -> Option<Reset>
 
 /// Adds the connections as assignments in the direction of their ports. `inner` has the names of the instance's module.
 pub fn add_connections(
+    alloc: Global,
     ports: &Ports,
     connections: Vec<Connection>,
     inner: &Names,
@@ -649,13 +652,14 @@ pub fn add_connections(
         → AllZip (IsLinkOf pins ports.now) connections.items links → IfOk result (λ _. ShowsDesign pins design.new (connect_all names e links)) }
 {
     for connection in connections {
-        connect_port(ports, connection, inner, design)?;
+        connect_port(alloc, ports, connection, inner, design)?;
     }
     Ok(())
 }
 
 /// Adds a connection, where its port is a signal.
 fn connect_port(
+    alloc: Global,
     ports: &Ports,
     connection: Connection,
     inner: &Names,
@@ -665,7 +669,7 @@ fn connect_port(
         → IsLinkOf pins ports.now connection link → IfOk result (λ _. ShowsDesign pins design.new (connect_one names e link)) }
 {
     match inner_signal(ports, connection.port, inner) {
-        Some(sig) => add_connection(sig, connection.end, design),
+        Some(sig) => add_connection(alloc, sig, connection.end, inner, design),
         None => Ok(()),
     }
 }
@@ -690,8 +694,15 @@ fn signal_meant(meaning: Meaning) -> Option<u32>
     }
 }
 
-fn add_connection(sig: u32, end: End, design: &mut Design) -> Result<(), NoMemory>
-    ensures { (pins : List ResetPin) (e : grown.Design) (link : Link) → ShowsDesign pins design.old e → IsEnd pins end link → sig < length e.entries → IfOk result (λ _. ShowsDesign pins design.new (connect_at e sig link)) }
+fn add_connection(
+    alloc: Global,
+    sig: u32,
+    end: End,
+    inner: &Names,
+    design: &mut Design,
+) -> Result<(), NoMemory>
+    ensures { (pins : List ResetPin) (names : n.Names) (e : grown.Design) (link : Link) → ShowsNames inner.now names → ShowsDesign pins design.old e → IsEnd pins end link → sig < length e.entries
+        → IfOk result (λ _. ShowsDesign pins design.new (connect_at e sig link)) }
 {
     let assign = match end {
         End::Input { value, reset } => {
@@ -703,14 +714,18 @@ fn add_connection(sig: u32, end: End, design: &mut Design) -> Result<(), NoMemor
         }
         End::Output(target) => FlatAssign {
             target,
-            value: FExpr::Read {
-                sig,
-                at: 0,
-                width: signal_width(design, sig),
-            },
+            value: port_value(alloc, sig, inner, design),
         },
     };
     push(&mut design.assigns, assign)
+}
+
+/// What a port of an instance reads as: a reset as its inactive level.
+fn port_value(alloc: Global, sig: u32, inner: &Names, design: &Design) -> FExpr
+    ensures { (pins : List ResetPin) (s : Stage) → ShowsStage pins inner.now design.now s → sig < length s.design.entries → (expr_of result ≡ n.whole_of (look_of s) sig) × (keeps_sizes result ≡ true) }
+{
+    let look = design.look(alloc, inner);
+    look.read(sig, 0, look.width(sig))
 }
 
 /// A port reads as the reset that is connected to it, unless it is declared as one itself.

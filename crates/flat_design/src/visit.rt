@@ -610,7 +610,7 @@ fn enter_module(
     ensures numbered { IfErr result (HasNumberIn unfolding_numbers) }
 {
     let (ports, connections, given) = ends;
-    add_connections(ports, connections, &names, &mut visit.design)?;
+    add_connections(library.alloc, ports, connections, &names, &mut visit.design)?;
     open_module(library, number, names, given, visit)
 }
 

@@ -24,9 +24,9 @@ use Rattle.flat_unfolding.specs.Sized.{IsSized, IsTargetSized}
 use Rattle.flat_unfolding.proofs.Steps.{none_of_both, some_is}
 use Rattle.flat_unfolding.proofs.Entries.{from_keeps, OnlyResets}
 use Rattle.flat_unfolding.proofs.Known.{reg_at, top_at, IsNamed, AreNamed, StandsIf, stands}
-use Rattle.flat_unfolding.proofs.Terms.{IsWide, size_wide}
+use Rattle.flat_unfolding.proofs.Terms.{IsWide, size_wide, whole_sized}
 use Rattle.flat_unfolding.proofs.Grown.{told, told_same, expr_agrees, target_agrees, Grows, grows_on, names_on, all_on}
-use Rattle.flat_unfolding.proofs.Stages.{IsEntry, drivable_at, IsAssignIn, IsCombIn, IsClockedIn, IsDesign, IsStage, design_on, words, read_next, driven_next}
+use Rattle.flat_unfolding.proofs.Stages.{IsEntry, drivable_at, IsAssignIn, IsCombIn, IsClockedIn, IsDesign, IsStage, design_on, words_of, words, read_next, driven_next}
 use Rattle.flat_unfolding.proofs.Directed.{KnowsPorts}
 use Rattle.flat_unfolding.proofs.Declared.{change_all, AreFresh, meant_fresh, IsDeclaring, declared_stage, AreWide}
 
@@ -225,7 +225,7 @@ module _ (m : ModuleTree) (start : Design) (own : Names) (fresh : AreFresh (leng
   out_links d t (Some (a_param p)) i k h = h
   out_links d t (Some (a_memory p)) i k h = h
   out_links d t (Some no_value) i k h = h
-  out_links d t (Some (a_signal n)) i k h = further d t _ h (k.0, k.1, (i, (let l : 0 + width_at d.entries n ≤ width_at d.entries n = omega arith in l)))
+  out_links d t (Some (a_signal n)) i k h = further d t _ h (k.0, k.1, whole_sized (record { names = []; entries = d.entries; active = false }) (words_of d.entries h.design.entries) n i)
 
   one_links : (d : Design) (l : Link) → IsLink m start.entries l → IsLinking d → IsLinking (connect_one own d l)
   one_links d (into x e r) k h = into_links d x e r (meaning_in own x) refl (stands d.entries own x h.names) (link_on m start.entries d.entries h.grows (into x e r) k) h

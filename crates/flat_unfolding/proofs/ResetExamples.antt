@@ -262,3 +262,19 @@ reset_of_an_instance : unfolded (
     })
 unfolding keyword_of is_left_out
 reset_of_an_instance = refl
+
+-- module n(input c, output b); endmodule module m(input c, output q); n u(c, q); endmodule
+-- with the reset u.b, active low, which nothing drives: q reads its inactive level
+output_that_is_a_reset : unfolded (
+    a_module "n" [] (input "c" ∷ output "b" ∷ []) []
+    ∷ a_module "m" [] (input "c" ∷ output "q" ∷ []) (instance_of "n" "u" (v "c" ∷ v "q" ∷ []) ∷ [])
+    ∷ []) (codes "m") (record { name = codes "u.b"; high = false } ∷ []) []
+    ≡ good (record {
+      signals = one_bit "c" 1 Input ∷ one_bit "q" 1 Wire ∷ one_bit "u.c" 1 Wire ∷ one_bit "u.b" 1 Input ∷ [];
+      assigns = (f.Whole 2, f.Read 0 0 1) ∷ (f.Whole 1, f.Number 1 1) ∷ [];
+      combs = [];
+      clocked = [];
+      outputs = 1 ∷ [];
+    })
+unfolding keyword_of is_left_out
+output_that_is_a_reset = refl

@@ -1,6 +1,6 @@
 -- Designs that are well sized as they grow, and what the items of a module make of them.
 use Rattle.std.proofs.Common.{◌≡◌, ℕ, zero, suc, ◌+◌, ◌<◌, ◌≤◌, Bool, true, false, cond, not, ◌&&◌, ◌||◌, ◌==◌, List, [], ◌∷◌, ◌++◌, length, map, Option, Some, None, refl, sym, ap, ap₂, subst, ◌∙◌, arith, rules, eqb-true}
-use Rattle.std.specs.Prelude.{slice_get, All, is_some, is_none, flat_map, unwrap_or, option_map}
+use Rattle.std.specs.Prelude.{slice_get, All, is_none, flat_map, unwrap_or}
 use Rattle.std.specs.Option.{option_map_or}
 use Rattle.std.specs.List.{list_any}
 use Rattle.std.proofs.lemmas.Bool.{and_parts}
@@ -24,7 +24,7 @@ use Rattle.flat_unfolding.specs.Targets.{is_input, of_wires, takes, first_pick, 
 use Rattle.flat_unfolding.specs.Statements.{of_wires as wires, clocked, neither, Done, masks_broken, ways_broken, chained, nothing_done, mask_of, done, done_all, ways}
 use Rattle.flat_unfolding.specs.Reads.{is_latch, latch_rule}
 use Rattle.flat_unfolding.specs.Resets.{peeled, peeled_rows, Tested, tested, item_tested, ResetForm, other_branch, left, form_with, items_form, form_in, reset_form}
-use Rattle.flat_unfolding.specs.Processes.{delay_rules, later_rules, level_rules, is_of_wires, edges_of, has_form, first_edge, meant_edge, edge_rules, meant_signal, edge_signal, is_wide, names_reset, clock_of, event_rules, edge_kind, form_of, as_one, kept, all_kept, branch_kept, rows_kept, with_kept, body_without, reset_branch, body_with, wires_process, clocked_process, always_item}
+use Rattle.flat_unfolding.specs.Processes.{delay_rules, later_rules, level_rules, is_of_wires, edges_of, has_form, first_edge, meant_edge, edge_rules, meant_signal, edge_signal, is_wide, names_reset, clock_of, event_rules, edge_kind, form_of, as_one, kept, all_kept, branch_kept, rows_kept, with_kept, body_with, wires_process, clocked_process, always_item}
 use Rattle.flat_unfolding.specs.Starts.{Starts, with_starts, start_of}
 use Rattle.flat_unfolding.specs.Wires.{assign_item, has_terminals, gate_op, is_inverted, gate_value, output_rule, input_rules, count_rule, gate_item}
 use Rattle.flat_unfolding.specs.Design.{Design, Stage, look_of, with_design, assigned}

@@ -1,10 +1,9 @@
 -- Statements that break no rule are well sized.
-use Rattle.std.proofs.Common.{◌≡◌, ℕ, zero, suc, ◌+◌, ◌-◌, ◌^◌, ◌<◌, ◌≤◌, max, Bool, true, false, cond, ◌&&◌, ◌||◌, List, [], ◌∷◌, ◌++◌, Option, refl, arith, rules}
-use Rattle.std.specs.Prelude.{All, map, is_some}
+use Rattle.std.proofs.Common.{◌≡◌, ℕ, zero, suc, ◌+◌, ◌-◌, ◌^◌, ◌<◌, ◌≤◌, max, Bool, true, false, cond, ◌&&◌, List, [], ◌∷◌, ◌++◌, refl, arith, rules}
+use Rattle.std.specs.Prelude.{All, map}
 use Rattle.std.proofs.lemmas.Nat.{pow_pos}
 use Rattle.std.proofs.lemmas.List.Elements.{All-head, All-tail}
-use Rattle.verilog_reading.specs.ExprTree.{ExprTree, TargetTree}
-use Rattle.verilog_ast.specs.declared.Delay.{Delay}
+use Rattle.verilog_reading.specs.ExprTree.{TargetTree}
 use Rattle.verilog_reading.specs.StmtTree.{StmtTree, null, set, when, either, switch, switch_else, block, StmtTrees, no_rows, and_rows, LabelTree, by_value, by_mask, ArmTrees, no_arms, and_arms}
 use Rattle.flat_meaning.specs.Flat.{Expr, Binary, logical_or, size, case_size, Stmt, Null, Items, no_items, default_item, item}
 use Rattle.flat_meaning.specs.Full.{is_full}
@@ -16,7 +15,7 @@ use Rattle.flat_unfolding.specs.Targets.{of_registers, Goal, fixed, a_word, goal
 use Rattle.flat_unfolding.specs.Memories.{writes_from}
 use Rattle.cell_graph.proofs.Words.{number-lt}
 use Rattle.flat_unfolding.specs.Statements.{Kind, is_stray, Done, Arms, Mask, masks_broken, masks_size, without_open, mask_test, also_tests, way_test, chain, chained, ways_broken, ways_size, nothing_done, word_set, goal_broken, is_word, with_last, missing_last, set_done, label_term, read_list, mask_of, done, done_all, arms, ways}
-use Rattle.flat_unfolding.specs.Formed.{IsFormed, IsLabelFormed, AreLabels, IsStmtFormed, AreRowsFormed, AreArmsFormed}
+use Rattle.flat_unfolding.specs.Formed.{IsLabelFormed, AreLabels, IsStmtFormed, AreRowsFormed, AreArmsFormed}
 use Rattle.flat_unfolding.specs.Sized.{IsSized, AreSized, AreLabelsSized, IsStmtSized, AreItemsSized, AreStmtsSized}
 use Rattle.flat_unfolding.proofs.Steps.{not_broken, none_of_both}
 use Rattle.flat_unfolding.proofs.Known.{reg_at, Stands, StandsIf}

@@ -152,7 +152,7 @@ module _ (look : Look) (words : AreWords (width_at look.entries)) where
       let small = bit_small (at == 0) (level look.active r) 0 (level_small look.active r) (let z : 0 ≤ 1 = omega arith in z) in
       (h, (let x : w ≤ 64 = omega arith in x), (let y : cond (at == 0) (level look.active r) 0 < 2 ^ w = omega arith in y))
 
-  whole_sized : (s : ℕ) → 1 ≤ wid s → IsSized wid (whole_of look s)
+  pub whole_sized : (s : ℕ) → 1 ≤ wid s → IsSized wid (whole_of look s)
   whole_sized s h = read_sized (reset_at look.entries s) s 0 (wid s) h (let l : 0 + wid s ≤ wid s = omega arith in l)
 
   -- ---- names

@@ -1,5 +1,5 @@
 -- Delays of nonblocking assignments: on one path a name has one.
-use Rattle.std.specs.Prelude.{Bool, true, false, cond, ◌==◌, List, [], ◌∷◌, ◌++◌, Option, Some, None, bytes_eq}
+use Rattle.std.specs.Prelude.{Bool, true, false, cond, ◌==◌, List, [], ◌∷◌, Option, Some, None, bytes_eq}
 use Rattle.std.specs.Option.{option_or}
 use Rattle.verilog_ast.specs.declared.Delay.{Delay}
 use Rattle.verilog_ast.specs.declared.Delay.TheVariants as delay

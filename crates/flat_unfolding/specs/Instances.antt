@@ -6,9 +6,9 @@ use Rattle.cdc_base.specs.declared.signal.ResetPin.{ResetPin}
 use Rattle.cdc_base.specs.Words.{is_in}
 use Rattle.verilog_reading.specs.ExprTree.{ExprTree, name, paren}
 use Rattle.verilog_reading.specs.SourceTree.{DeclTree, ConnTree, ConnsTree, ordered, named, ModuleTree}
-use Rattle.flat_meaning.specs.Flat.{Expr, size, Read, Target, Whole}
+use Rattle.flat_meaning.specs.Flat.{Expr, size, Target, Whole}
 use Rattle.flat_unfolding.specs.Outcome.{Text, Broken, breaks_if}
-use Rattle.flat_unfolding.specs.Names.{span, Meaning, a_param, a_signal, Names, Direction, inward, Entry, Look, meaning, meaning_in, reset_at, width_at}
+use Rattle.flat_unfolding.specs.Names.{span, Meaning, a_param, a_signal, Names, Direction, inward, Entry, Look, meaning, meaning_in, reset_at, width_at, bits_read}
 use Rattle.flat_unfolding.specs.Constants.{is_counted}
 use Rattle.flat_unfolding.specs.Signs.{is_signed, leans}
 use Rattle.flat_unfolding.specs.Expressions.{as_constant, read}
@@ -119,13 +119,13 @@ abbrev pub resolving_to : Option ResetPin → Entry → Entry
 resolving_to r a = record a { reset = option_or a.reset r }
 
 -- a connection is an assignment in the port's direction, before the items of the instance's module; `names` are those of the instance's module.
--- A port that is no declared reset itself resolves to the one that is connected
+-- A port that is no declared reset itself resolves to the one that is connected, and an output that is one reads as its inactive level
 abbrev pub into_port : Design → Expr → Option ResetPin → Option Meaning → Design
 into_port d e r (Some (a_signal s)) = assigned (record d { entries = change_entry (resolving_to r) s d.entries }) (Whole s) e
 into_port d e r m = d
 
 abbrev pub out_of_port : Design → Target → Option Meaning → Design
-out_of_port d t (Some (a_signal s)) = assigned d t (Read s 0 (width_at d.entries s))
+out_of_port d t (Some (a_signal s)) = assigned d t (bits_read false s 0 (width_at d.entries s) (reset_at d.entries s))
 out_of_port d t m = d
 
 abbrev pub connect_one : Names → Design → Link → Design

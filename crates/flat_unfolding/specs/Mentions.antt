@@ -1,5 +1,5 @@
 -- The names that expressions and statements mention.
-use Rattle.std.specs.Prelude.{Bool, true, false, cond, not, ◌||◌, List, [], ◌∷◌, ◌++◌, filter, flat_map, Option, Some, None, is_some}
+use Rattle.std.specs.Prelude.{Bool, true, cond, not, ◌||◌, List, [], ◌∷◌, ◌++◌, filter, flat_map, Option, Some, None, is_some}
 use Rattle.cdc_base.specs.Words.{is_in}
 use Rattle.verilog_ast.specs.declared.Delay.{Delay}
 use Rattle.verilog_reading.specs.ExprTree.{ExprTree, number, name, index, part, unary, binary, choice, join, repeat, paren, ExprTrees, no_trees, and_trees, TargetTree, whole, index_of, part_of, join_of, TargetTrees, no_parts, and_parts}

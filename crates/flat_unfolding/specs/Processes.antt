@@ -11,7 +11,7 @@ use Rattle.verilog_ast.specs.declared.Event.TheVariants as event
 use Rattle.verilog_reading.specs.StmtTree.{StmtTree}
 use Rattle.flat_meaning.specs.Flat.{Read, Target, Whole, Part, Pick, Group, Targets, no_targets, target, Stmt, Null, Set, If, Case, Block, Stmts, no_stmts, stmt, assigns}
 use Rattle.flat_unfolding.specs.Outcome.{Text, Broken, breaks, breaks_if, Outcome, then_, judged, by_number}
-use Rattle.flat_unfolding.specs.Names.{Meaning, a_param, a_signal, a_memory, Look, meaning, width_at, unknown}
+use Rattle.flat_unfolding.specs.Names.{Meaning, a_signal, a_memory, Look, meaning, width_at, unknown}
 use Rattle.flat_unfolding.specs.Mentions.{unlisted, first_mixed}
 use Rattle.flat_unfolding.specs.Delays.{first_clash}
 use Rattle.flat_unfolding.specs.Statements.{of_wires, clocked, neither, Kind, done}

@@ -8,8 +8,8 @@ use Rattle.verilog_ast.specs.declared.BinaryOp.TheVariants as op
 use Rattle.verilog_ast.specs.declared.Edge.{Edge}
 use Rattle.verilog_ast.specs.declared.EdgeKind.{EdgeKind}
 use Rattle.verilog_ast.specs.declared.EdgeKind.TheVariants as edge
-use Rattle.verilog_reading.specs.ExprTree.{ExprTree, number, name, index, part, unary, binary, choice, join, repeat, paren, ExprTrees, no_trees, and_trees, TargetTree, whole, index_of, part_of, join_of, TargetTrees, no_parts, and_parts}
-use Rattle.verilog_reading.specs.StmtTree.{StmtTree, null, set, when, either, Subject, switch, switch_else, block, StmtTrees, no_rows, and_rows, ArmTrees, no_arms, and_arms}
+use Rattle.verilog_reading.specs.ExprTree.{ExprTree, binary, paren, TargetTree, whole, index_of, part_of, join_of, TargetTrees, no_parts, and_parts}
+use Rattle.verilog_reading.specs.StmtTree.{StmtTree, set, when, either, Subject, switch, switch_else, block, StmtTrees, no_rows, and_rows, ArmTrees, no_arms, and_arms}
 use Rattle.flat_meaning.specs.Flat.{Expr, size, Target, Whole, Part, Pick, Group, Targets, no_targets, target, target_sizes, Stmt, If}
 use Rattle.flat_unfolding.specs.Outcome.{Text, Broken, breaks_if}
 use Rattle.flat_unfolding.specs.Names.{Meaning, a_param, a_signal, Look, meaning, width_at, reset_at}

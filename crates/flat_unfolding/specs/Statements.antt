@@ -1,8 +1,8 @@
 -- Statements of processes with their names resolved, and the rules that they break.
-use Rattle.std.specs.Prelude.{ℕ, zero, suc, ◌-◌, ◌^◌, max, Bool, true, false, cond, not, ◌&&◌, List, [], ◌∷◌, ◌++◌, map, flat_map}
-use Rattle.verilog_reading.specs.ExprTree.{ExprTree, TargetTree}
+use Rattle.std.specs.Prelude.{ℕ, zero, suc, ◌-◌, ◌^◌, max, Bool, true, false, cond, ◌&&◌, List, [], ◌∷◌, ◌++◌, map, flat_map}
+use Rattle.verilog_reading.specs.ExprTree.{TargetTree}
 use Rattle.cell_graph.specs.Tree.{number}
-use Rattle.verilog_reading.specs.StmtTree.{StmtTree, null, set, when, either, Subject, switch, switch_else, block, StmtTrees, no_rows, and_rows, LabelTree, by_value, by_mask, ArmTrees, no_arms, and_arms}
+use Rattle.verilog_reading.specs.StmtTree.{StmtTree, null, set, when, either, switch, switch_else, block, StmtTrees, no_rows, and_rows, LabelTree, by_value, by_mask, ArmTrees, no_arms, and_arms}
 use Rattle.flat_meaning.specs.Flat.{Expr, Number, Binary, is_equal, bitwise_and, logical_or, size, Join, no_exprs, expr, case_size, Group, no_targets, Stmt, Null, Set, If, Case, Block, Items, no_items, default_item, item, Stmts, no_stmts, stmt}
 use Rattle.flat_meaning.specs.Full.{is_full, nothing}
 use Rattle.flat_meaning.specs.Meaning.{value}

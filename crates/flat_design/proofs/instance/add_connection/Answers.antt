@@ -10,7 +10,7 @@ use Rattle.flat_design.proofs.instance.add_connection.Goals as goal
 use Rattle.flat_design.proofs.instance.add_connection.Goals.{in-Input, in-Output}
 
 pub returns : goal.returns
-returns c = λ pins e link h end few.
+returns c = λ pins names e link named h end few.
     let d = c.match-end.design in
     let v = c.push.new.items in
     let sig = c.args.sig in
@@ -20,7 +20,8 @@ returns c = λ pins e link h end few.
           drives-port pins d v sig e link w.in-Input.value w.in-Input.reset (subst (λ z. IsEnd pins z link) w.in-Input.is end) (λ r k. subst (λ z. ShowsDesign pins z (record e { entries = change_entry (resolving_to r) sig e.entries })) (sym w.design-is) (w.set_reset.ensures pins e r h k))
           (pushed ∙ ap (λ (z : FlatAssign). d.assigns.items ++ z ∷ []) w.assign-is)
       | in-Output w ↦
-          port-drives pins d v sig e link w.in-Output.target w.signal_width.result (subst (λ z. IsEnd pins z link) w.in-Output.is end) (subst (λ z. ShowsDesign pins z e) (sym w.design-is) h) (w.signal_width.ensures pins e h few)
+          port-drives pins d v sig e link w.in-Output.target w.port_value.result (subst (λ z. IsEnd pins z link) w.in-Output.is end) (subst (λ z. ShowsDesign pins z e) (sym w.design-is) h)
+          (w.port_value.ensures pins (record { names = names; design = e }) (record { names = named; design = h }) few)
           (pushed ∙ ap (λ (z : FlatAssign). d.assigns.items ++ z ∷ []) w.assign-is)
     ])
     c.push.ensures.pushed
