@@ -1,9 +1,11 @@
 -- A connection as an assignment.
-use Rattle.std.proofs.Common.{◌≡◌, ◌<◌, ℕ, Bool, true, length, ◌&&◌, List, [], ◌∷◌, ◌++◌, Option, Some, None, refl, sym, ap, ap₂, subst, ◌∙◌, rules, Vec, Global}
+use Rattle.std.proofs.Common.{◌≡◌, ◌<◌, ℕ, ◌≤◌, Bool, true, false, length, ◌&&◌, List, [], ◌∷◌, ◌++◌, Option, Some, None, refl, sym, ap, ap₂, subst, ◌∙◌, rules, Vec, Global}
+use Rattle.std.specs.Prelude.{option_and_then, slice_get}
+use Rattle.std.specs.Option.{option_map_or}
 use Rattle.std.specs.List.{AllZip}
 use Rattle.indexmap.specs.IndexMap.{IndexMap}
 use Rattle.cdc_base.specs.declared.signal.ResetPin.{ResetPin}
-use Rattle.flat_meaning.specs.Flat.{Read, Whole}
+use Rattle.flat_meaning.specs.Flat.{Whole}
 use Rattle.flat_form.specs.declared.flat.FExpr.{FExpr}
 use Rattle.flat_form.specs.declared.flat.FExpr.TheOpen.{FExpr-F}
 use Rattle.flat_form.specs.declared.flat.FExpr.TheFolds.{fold-roll-FExpr}
@@ -13,19 +15,25 @@ use Rattle.flat_form.specs.declared.flat.FTarget.TheOpen.{FTarget-F}
 use Rattle.flat_form.specs.declared.flat.FTarget.TheFolds.{fold-roll-FTarget}
 use Rattle.flat_form.specs.declared.flat.FTarget.TheVariants as t
 use Rattle.flat_form.specs.declared.flat.FlatAssign.{FlatAssign}
+use Rattle.flat_form.specs.View.{expr_of}
 use Rattle.flat_form.specs.Sizes.{Kept}
-use Rattle.flat_form.proofs.Folds.{expr_of-Read, target_of-Whole}
+use Rattle.flat_form.proofs.Folds.{target_of-Whole}
 use Rattle.flat_unfolding.specs.Names as n
 use Rattle.flat_unfolding.specs.Outcome.{Text}
-use Rattle.flat_unfolding.specs.Names.{width_at, meaning_in}
+use Rattle.flat_unfolding.specs.Names.{width_at, reset_at, bits_read, meaning_in}
 use Rattle.flat_unfolding.specs.Instances.{Link, into, out_of, resolving_to, into_port, out_of_port, connect_one, connect_all}
 use Rattle.flat_unfolding.specs.Design as u
 use Rattle.flat_unfolding.specs.Design.{change_entry}
 use Rattle.flat_unfolding.specs.Widths.{width_step, width_of, keeps_sizes, target_step, target_keeps_sizes}
 use Rattle.flat_unfolding.proofs.Steps.{some_is}
+use Rattle.flat_unfolding.proofs.Grown.{has_bits}
+use Rattle.flat_names.specs.declared.scope.Look.{Look}
 use Rattle.flat_names.specs.declared.design.Reset.{Reset}
+use Rattle.flat_names.specs.declared.design.Entry.{Entry}
 use Rattle.flat_names.specs.declared.design.Design.{Design}
+use Rattle.flat_names.specs.Looks.{bits_of, Shows}
 use Rattle.flat_names.specs.Designs.{ShowsDesign, IsReset}
+use Rattle.flat_names.proofs.Looked.{width-is, level-is, bits-expr}
 use Rattle.flat_process.proofs.Ended.{shows-assign}
 use Rattle.flat_design.specs.declared.instance.End.TheVariants as ends
 use Rattle.flat_design.specs.declared.instance.Connection.{Connection}
