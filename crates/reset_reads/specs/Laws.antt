@@ -1,5 +1,5 @@
 -- A flat design reads no input that is a declared reset.
-use Rattle.std.specs.Prelude.{◌≡◌, ℕ, Bool, true, false, not, ◌&&◌, ◌==◌, List, All, Option, is_some, find, bytes_eq, slice_get}
+use Rattle.std.specs.Prelude.{◌≡◌, ℕ, Bool, true, false, not, ◌&&◌, ◌==◌, List, All, is_some, find, bytes_eq, slice_get}
 use Rattle.std.specs.Option.{option_map_or}
 use Rattle.cdc_base.specs.declared.signal.ResetPin.{ResetPin}
 use Rattle.cdc_base.specs.declared.signal.Signal.{Signal}

@@ -1,0 +1,11 @@
+pub mod Spares
+pub mod Terms
+pub mod Aims
+pub mod Stmts
+pub mod Processes
+pub mod Settled
+pub mod Stages
+pub mod Declared
+pub mod Ports
+pub mod Visited
+pub mod Unread
