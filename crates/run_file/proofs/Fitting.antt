@@ -48,7 +48,7 @@ pub required_ok : {A : Type 0} (number : ℕ) (name : Text) (o : Option A) (x : 
 required_ok number name None x e = cc
 required_ok number name (Some y) x e = cc
 
-passing_some : {A : Type 0} (test : A → Bool) (o : Option A) (x : A) → passing test o ≡ Some x → (o ≡ Some x) × (test x ≡ true)
+pub passing_some : {A : Type 0} (test : A → Bool) (o : Option A) (x : A) → passing test o ≡ Some x → (o ≡ Some x) × (test x ≡ true)
 passing_some test None x e = cc
 passing_some test (Some y) x e = go (test y) refl e
   where
