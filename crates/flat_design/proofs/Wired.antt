@@ -59,9 +59,10 @@ pub port-reads : (k : Look) (l : n.Look) → Shows k l → k.active ≡ false �
 port-reads k l h f s w x i j d =
     let o = option_and_then (λ (y : Entry). y.reset) (slice_get k.entries.now s) in
     let own : w ≡ width_at l.entries s = j ∙ width-is k l h s i in
-    let is = d (subst (λ n. 1 ≤ n) (sym own) (has_bits l.entries s i)) in
-    (ap expr_of is ∙ bits-expr o (reset_at l.entries s) k.active s 0 w (level-is k l h s) l refl (sym h.active) ∙ ap (n.bits_of l s 0) own,
-    ap keeps_sizes is ∙ ap (λ a. keeps_sizes (bits_of o a s 0 w)) f ∙ bits-keep o s 0 w)
+    let is = d (subst (λ n. 1 ≤ n) (sym own) (has_bits l.entries s i)) in (
+      ap expr_of is ∙ bits-expr o (reset_at l.entries s) k.active s 0 w (level-is k l h s) l refl (sym h.active) ∙ ap (n.bits_of l s 0) own,
+      ap keeps_sizes is ∙ ap (λ a. keeps_sizes (bits_of o a s 0 w)) f ∙ bits-keep o s 0 w,
+    )
 
 module _ (pins : List ResetPin) (d : Design) (v : Vec FlatAssign Global) (s : ℕ) where
   -- a port that is driven
