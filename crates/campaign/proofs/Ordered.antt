@@ -9,6 +9,7 @@ use Rattle.std.proofs.lemmas.List.{length-set, get_or-set_same, get_or-set_other
 use Rattle.std.proofs.lemmas.Option.{unwrap_or-slice_get}
 use Rattle.cdc_model.specs.Replay.{has_edge}
 use Rattle.settling_sim.specs.Edges.{mark_in, is_marked}
+use Rattle.settling_sim.proofs.Ticks.{marked}
 use Rattle.campaign.specs.Numbers.{numbers_from, one_if}
 
 map-at : {A B : Type 0} (f : A → B) (xs : List A) (k : ℕ) (d : A) (e : B) → k < length xs → get_or (map f xs) k e ≡ f (get_or xs k d)
@@ -29,31 +30,6 @@ sorted-map f key cmp xs h k e low high =
     let d = item xs k (omega arith) in
     ap₂ (λ x y. is_lt (cmp (key x) (key y))) (map-at f xs (k + 1) d e lt) (map-at f xs k d e (omega arith)) ∙ h k d low lt
 
-or-yes : (b : Bool) → (b || true) ≡ true
-or-yes true = refl
-or-yes false = refl
-
-or-no : (b : Bool) → (b || false) ≡ b
-or-no true = refl
-or-no false = refl
-
--- a clock is marked that is one of the edges, or was before
-mark-get : (ts : List Bool) (es : List ℕ) (c : ℕ) → c < length ts → get_or (mark_in ts es) c false ≡ (has_edge es c || get_or ts c false)
-mark-get ts [] c h = refl
-mark-get ts (e ∷ es) c h = mark-get (set ts e true) es c (let n = length-set ts e true in omega arith) ∙ go (e == c) refl
-  where
-    go : (t : Bool) → (e == c) ≡ t → (has_edge es c || get_or (set ts e true) c false) ≡ ((t || has_edge es c) || get_or ts c false)
-    go true f =
-        let at = eqb-true e c f in
-        ap (λ v. has_edge es c || v) (subst (λ (k : ℕ). get_or (set ts e true) k false ≡ true) at (get_or-set_same ts e true false (omega arith))) ∙ or-yes (has_edge es c)
-    go false f = ap (λ v. has_edge es c || v) (get_or-set_other ts e c true false (λ g. eqb-false e c f (sym g)))
-
-pub marked-is : (n : ℕ) (es : List ℕ) (c : ℕ) → c < n → is_marked (mark_in (replicate n false) es) (Some c) ≡ has_edge es c
-marked-is n es c h =
-    unwrap_or-slice_get (mark_in (replicate n false) es) c false
-    ∙ mark-get (replicate n false) es c (let l = length-replicate n false in omega arith)
-    ∙ ap (λ v. has_edge es c || v) (get_or-replicate n c false false h) ∙ or-no (has_edge es c)
-
 -- numbers that pass like tests are the same
 pub numbers-same : (f g : ℕ → Bool) (j n : ℕ) → ((c : ℕ) → c < j + n → f c ≡ g c) → numbers_from f j n ≡ numbers_from g j n
 numbers-same f g j zero h = refl
@@ -63,5 +39,5 @@ pub marked-clocks : {E : Type 0} (n : ℕ) (es : List ℕ) (ticking : List Bool)
     → IfOk r (λ listed. n ≤ 2 ^ 32 → listed ≡ numbers_from (λ c. is_marked ticking (Some c)) 0 n) → IfOk r (λ listed. n ≤ 2 ^ 32 → listed ≡ numbers_from (has_edge es) 0 n)
 marked-clocks n es ticking (Ok listed) is h = λ small.
     h small ∙ ap (λ ts. numbers_from (λ c. is_marked ts (Some c)) 0 n) is
-    ∙ numbers-same (λ c. is_marked (mark_in (replicate n false) es) (Some c)) (has_edge es) 0 n (λ c l. marked-is n es c (omega arith))
+    ∙ numbers-same (λ c. is_marked (mark_in (replicate n false) es) (Some c)) (has_edge es) 0 n (λ c l. marked n es c (omega arith))
 marked-clocks n es ticking (Err e) is h = h

@@ -16,6 +16,7 @@ use Rattle.domains.specs.declared.Domains.{Domains}
 use Rattle.domains.specs.Assignment.{clock_of, port_roles}
 use Rattle.domains.specs.Clocks.{Roles, static_signals}
 use Rattle.domains.specs.Nets.{is_register}
+use Rattle.domains.specs.Tables.{first_signal}
 use Rattle.cdc_model.specs.declared.record.Given.{Given}
 use Rattle.cdc_model.specs.declared.record.Race.{Race}
 use Rattle.cdc_model.specs.declared.record.Record.{Record}
@@ -29,7 +30,7 @@ use Rattle.run_file.specs.declared.document.Entry.{Entry}
 use Rattle.run_file.specs.declared.document.RaceEntry.{RaceEntry}
 use Rattle.run_file.specs.declared.document.StepEntry.{StepEntry}
 use Rattle.run_file.specs.Files.{IsBroken, IsMeaning, record_of}
-use Rattle.run_file.specs.Names.{bit_named, each, edge, given, input_value, known, other_bits, passing, race, register_bit, signal_named, start_value, starting, state_bit, step}
+use Rattle.run_file.specs.Names.{bit_named, each, edge, given, input_value, known, other_bits, passing, race, register_bit, start_value, starting, state_bit, step}
 use Rattle.run_file.specs.Shapes.{document}
 use Rattle.flat_meaning.specs.Design.{Flat}
 use Rattle.flat_meaning.specs.Trees.{Selects}
@@ -39,10 +40,10 @@ use Rattle.described_design.proofs.Once.{one_design}
 -- ---- what a record says, by the signals that pass a test
 
 abbrev start-by : (ℕ → Bool) → List Signal → Entry → Result Given Fault
-start-by test signals e = known e.name (passing test (signal_named signals e.name)) >>= (λ (sig : ℕ). given signals e sig >>= (λ (g : Given). starting signals e.name g))
+start-by test signals e = known e.name (passing test (first_signal signals e.name)) >>= (λ (sig : ℕ). given signals e sig >>= (λ (g : Given). starting signals e.name g))
 
 abbrev input-by : (ℕ → Bool) → List Signal → Entry → Result Given Fault
-input-by test signals e = known e.name (passing test (signal_named signals e.name)) >>= (λ (sig : ℕ). given signals e sig)
+input-by test signals e = known e.name (passing test (first_signal signals e.name)) >>= (λ (sig : ℕ). given signals e sig)
 
 abbrev bit-by : (ℕ → Bool) → List Signal → Text → Result Bit Fault
 bit-by test signals name = known name (passing (λ (b : Bit). test b.sig) (bit_named signals name))

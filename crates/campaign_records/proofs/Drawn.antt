@@ -25,6 +25,7 @@ use Rattle.cell_graph.specs.Tree.{bit_at}
 use Rattle.domains.specs.declared.Domains.{Domains}
 use Rattle.domains.specs.Assignment.{clock_of}
 use Rattle.domains.specs.Fit.{IsClockedAs}
+use Rattle.domains.specs.Tables.{first_signal}
 use Rattle.cdc_model.specs.declared.record.Given.{Given}
 use Rattle.cdc_model.specs.declared.record.Race.{Race}
 use Rattle.cdc_model.specs.declared.record.RecordStep.{RecordStep}
@@ -38,7 +39,6 @@ use Rattle.cdc_model.proofs.Ascending.{Ascends, filtered_ascend, from_filter, pa
 use Rattle.cdc_model.proofs.Found.{by_bit, registers_ascend}
 use Rattle.settling_sim.specs.Runs.{IsInput}
 use Rattle.settling_sim.specs.State.{has_kind, is_clocked_input, is_input, is_state_signal, is_static}
-use Rattle.run_file.specs.Names.{signal_named}
 use Rattle.campaign.specs.declared.toss.Toss.{Toss}
 use Rattle.campaign.specs.Campaign.{captured_races, captured_step, captures, is_before, own_race, race_if, races_before, races_behind}
 use Rattle.campaign.specs.Draws.{behind, behind_all, with_words, word}
@@ -342,7 +342,7 @@ module _ (net : Net) (domains : Domains) (can : CanRun net domains) where
     same-text t u e = search (rules, bytes_eq-Decides)
 
     one-signal : (a b : ℕ) → a < length signals → b < length signals → name_of signals a ≡ name_of signals b → a ≡ b
-    one-signal a b l m e = one (sym (found.signals a l).1 ∙ ap (signal_named signals) e ∙ (found.signals b m).1)
+    one-signal a b l m e = one (sym (found.signals a l).1 ∙ ap (first_signal signals) e ∙ (found.signals b m).1)
       where
         one : Some a ≡ Some b → a ≡ b
         one f = cc

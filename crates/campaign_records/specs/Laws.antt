@@ -6,13 +6,14 @@ use Rattle.cdc_base.specs.declared.fault.Stop.TheVariants.{Refused}
 use Rattle.cell_graph.specs.declared.net.Net.{Net}
 use Rattle.clock_constraints.specs.Refusals.{Text}
 use Rattle.domains.specs.declared.Domains.{Domains}
+use Rattle.domains.specs.Tables.{first_clock, first_signal}
 use Rattle.cdc_model.specs.declared.record.Record.{Record}
 use Rattle.cdc_model.specs.Nets.{design_of, is_within}
 use Rattle.cdc_model.specs.Replay.{replayed, Ran}
 use Rattle.cdc_model.specs.Runs.{Trace}
 use Rattle.report.specs.Names.{bit_of}
 use Rattle.run_file.specs.Files.{IsBroken, IsMeaning}
-use Rattle.run_file.specs.Names.{bit_named, clock_named, signal_named}
+use Rattle.run_file.specs.Names.{bit_named}
 use Rattle.run_report.specs.Printed.{IsRunText}
 use Rattle.campaign.specs.declared.found.Found.{Found}
 use Rattle.campaign.specs.Campaign.{IsAnswer}
@@ -26,8 +27,8 @@ StandsFor named name x = IsUtf8 name × (named name ≡ Some x)
 
 -- Each signal, each clock and each bit is found by its printed name.
 pub record AreFound (net : Net) (domains : Domains) : Type 0 where
-  pub signals : (sig : ℕ) → sig < length net.graph.signals → StandsFor (signal_named net.graph.signals) (name_of net.graph.signals sig) sig
-  pub clocks : (c : ℕ) → c < length domains.clocks → StandsFor (clock_named domains.clocks) (clock_name domains c) c
+  pub signals : (sig : ℕ) → sig < length net.graph.signals → StandsFor (first_signal net.graph.signals) (name_of net.graph.signals sig) sig
+  pub clocks : (c : ℕ) → c < length domains.clocks → StandsFor (first_clock domains.clocks) (clock_name domains c) c
   pub bits : (b : Bit) → is_within net b ≡ true → StandsFor (bit_named net.graph.signals) (bit_of net.graph.signals b) b
 
 -- The text means this record and no other, and breaks no rule of records; the record fixes a run, whose text isn't refused.

@@ -107,7 +107,7 @@ none_in a i = omega (arith, i.1)
 
 module _ (d : Design) (t : Trees) (laws : AreTrees d t) (syncs : List Sync) (ok : (s : Sync) → Contains syncs s → IsSync d t s) where
   -- a bit that copies no bit but itself and unsettled ones of its clock is no settling flop
-  own_settled : (c : ℕ) (others : List Bit) (b : Bit) → IsOwn d c others b → ((a : Bit) → Contains others a → (d.clock a ≡ Some c) × (is_settling d syncs a ≡ false)) → is_settling d syncs b ≡ false
+  pub own_settled : (c : ℕ) (others : List Bit) (b : Bit) → IsOwn d c others b → ((a : Bit) → Contains others a → (d.clock a ≡ Some c) × (is_settling d syncs a ≡ false)) → is_settling d syncs b ≡ false
   own_settled c others b k each = false_from_ne_true (is_settling d syncs b) (λ h. let (s, i, p) = settling_sync d t laws syncs ok b h in go s i p.0 p.1 p.2)
     where
       go : (s : Sync) (i : Contains syncs s) (j : ℕ) → j < settle_of d s.first → IsAt j b (flops s) → ⊥
@@ -125,10 +125,10 @@ module _ (d : Design) (t : Trees) (laws : AreTrees d t) (syncs : List Sync) (ok 
             | inr m ↦ both_ways (is_settling d syncs x.0) (each x.0 m).1 (place_settling d t laws syncs ok s i j x.0 (omega arith) x.1)
           ]
 
-  count_settled : (c : ℕ) (b : Bit) → IsOwn d c [] b → is_settling d syncs b ≡ false
+  pub count_settled : (c : ℕ) (b : Bit) → IsOwn d c [] b → is_settling d syncs b ≡ false
   count_settled c b o = own_settled c [] b o (λ a i. absurd (none_in a i))
 
-  code_settled : (c : ℕ) (count : List Bit) → AllByRecursion (IsOwn d c []) count → (b : Bit) → IsOwn d c count b → is_settling d syncs b ≡ false
+  pub code_settled : (c : ℕ) (count : List Bit) → AllByRecursion (IsOwn d c []) count → (b : Bit) → IsOwn d c count b → is_settling d syncs b ≡ false
   code_settled c count all b o = own_settled c count b o (λ a i.
       let p = All-contains (IsOwn d c []) count a (All-from_recursion (IsOwn d c []) count all) i in
       (p.clock, count_settled c a p))

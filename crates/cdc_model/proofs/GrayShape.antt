@@ -8,6 +8,7 @@ use Rattle.cell_graph.specs.Reading.{bit_eq, Reading}
 use Rattle.cell_graph.specs.Tree.{Tree, Var, Const, Xor, Add, Shl, Shr, Mux, Concat, Slice, Extend, width, bit_at, number}
 use Rattle.cell_graph.specs.Cofactor.{known_xor, chosen, known_number, known_plus, on_number, known, is_known, if_known_to_be, agreed_bit, same}
 use Rattle.cell_graph.specs.Origin.{TreeBit, const_of, origin}
+use Rattle.cell_graph.proofs.OriginSound.{origin_sound}
 use Rattle.cdc_model.specs.declared.scheme.GrayReg.{GrayReg}
 use Rattle.cdc_model.specs.declared.scheme.Shape.{Shape}
 use Rattle.cdc_model.specs.declared.scheme.Shape.TheVariants.{G1, G2, G3}
@@ -16,7 +17,7 @@ use Rattle.cdc_model.specs.Gray.{increment, gray_code, Codes, IsOwn, IsGray}
 use Rattle.cdc_model.proofs.Codes.{word_has}
 use Rattle.cdc_model.specs.Word.{cells, origins, own_word, IsCount, Own, Plus, Choose, IsXorOf, IsTopOf, IsGrayWord, IsJoint, Coded, Stay, Both, values}
 use Rattle.cdc_model.specs.GrayShape.{AreNextTrees, HasShape, IsGrayReg}
-use Rattle.cdc_model.proofs.Words.{origin_sound, count_sound, gray_sound, joint_sound}
+use Rattle.cdc_model.proofs.Words.{count_sound, gray_sound, joint_sound}
 
 -- ---- the bit that a node is
 

@@ -34,3 +34,4 @@ pub mod ReadBits
 pub mod Noted
 pub mod Synced
 pub mod Tables
+pub mod Keys

@@ -1,21 +1,19 @@
 -- Where readers are kept, and what notes of them make of a bit's readers.
-use Rattle.std.proofs.Common.{◌≡◌, ◌∙◌, ◌⊎◌, inl, inr, refl, sym, ap, ap₂, subst, arith, ℕ, zero, suc, ◌+◌, ◌<◌, ◌≤◌, ◌||◌, nat_lt, ltb-true, ltb-false, lt-ltb, Bool, true, false, cond, Option, Some, None, is_some, unwrap_or, List, [], ◌∷◌, ◌++◌, map, length, drop, get_or, set, replicate, slice_get, append_assoc, Contains, ◌↔◌}
+use Rattle.std.proofs.Common.{◌≡◌, ◌∙◌, inl, inr, refl, sym, ap, ap₂, subst, arith, ℕ, zero, suc, ◌+◌, ◌<◌, ◌≤◌, ◌||◌, nat_lt, ltb-true, ltb-false, lt-ltb, Bool, true, false, cond, Option, Some, None, is_some, unwrap_or, List, [], ◌∷◌, ◌++◌, map, length, drop, get_or, set, replicate, slice_get, append_assoc, Contains, ◌↔◌}
 use Rattle.std.specs.List.{list_any}
 use Rattle.std.specs.Option.{option_map_or}
 use Rattle.std.specs.Prelude.{filter, option_and_then, option_map, if◌then◌else◌}
-use Rattle.std.proofs.lemmas.Bool.{cases_lt, or_cases}
+use Rattle.std.proofs.lemmas.Bool.{cases_lt}
 use Rattle.std.proofs.lemmas.List.{drop_more, at_drop_all, map-append, get_or-set_same, get_or-set_other}
 use Rattle.std.proofs.lemmas.Option.{slice_get-map, slice_get_past, slice_get-get_or, unwrap_or-slice_get}
 use Rattle.std.proofs.lemmas.List.Elements.{Contains-get_or}
 use Rattle.cdc_base.specs.declared.bit.Bit.{Bit}
 use Rattle.cdc_base.specs.declared.signal.Signal.{Signal}
 use Rattle.cell_graph.specs.declared.cell.CellId.{CellId}
-use Rattle.cell_graph.specs.declared.cell.Node.{Node}
 use Rattle.cell_graph.specs.declared.net.Net.{Net}
-use Rattle.cell_graph.specs.Cells.{cell_width}
 use Rattle.cell_graph.specs.Cofactor.{reads}
 use Rattle.cell_graph.specs.Reading.{bit_eq, Cube}
-use Rattle.cell_graph.specs.Tree.{Tree, width, any_below}
+use Rattle.cell_graph.specs.Tree.{width, any_below}
 use Rattle.cell_graph.specs.Unfolded.{tree_of}
 use Rattle.cell_graph.proofs.CellValues.{no-tree}
 use Rattle.cell_graph.proofs.Bits.{bit_eq-true, eq-bit_eq}

@@ -1,7 +1,7 @@
 -- The list of all synchronizers of a net has exactly its synchronizers, in order.
-use Rattle.std.proofs.Common.{◌≡◌, ◌∙◌, ◌⊎◌, inl, inr, refl, sym, ap, ap₂, subst, arith, ℕ, zero, suc, ◌+◌, ◌-◌, ◌<◌, ◌≤◌, ◌==◌, ◌&&◌, ◌||◌, nat_lt, ltb-true, lt-ltb, eqb-true, eq-eqb, Bool, true, false, cond, Option, Some, None, is_some, unwrap_or, List, [], ◌∷◌, ◌++◌, map, length, slice_get, Contains}
+use Rattle.std.proofs.Common.{◌≡◌, ◌∙◌, ◌⊎◌, inl, inr, refl, sym, ap, ap₂, subst, arith, ℕ, zero, suc, ◌+◌, ◌-◌, ◌<◌, ◌≤◌, ◌==◌, ◌&&◌, nat_lt, ltb-true, lt-ltb, eqb-true, eq-eqb, Bool, true, false, cond, Option, Some, None, is_some, unwrap_or, List, [], ◌∷◌, ◌++◌, map, length, slice_get, Contains}
 use Rattle.std.specs.Option.{option_map_or}
-use Rattle.std.specs.Prelude.{filter, if◌then◌else◌}
+use Rattle.std.specs.Prelude.{if◌then◌else◌}
 use Rattle.std.proofs.lemmas.Bool.{and_parts, and_from, or_cases}
 use Rattle.std.proofs.lemmas.List.Elements.{Contains-append_left, Contains-append_right, Contains-append_cases}
 use Rattle.cdc_base.specs.declared.bit.Bit.{Bit}
@@ -28,10 +28,9 @@ use Rattle.cdc_model.specs.Ordered.{is_before, IsAll}
 use Rattle.cdc_model.specs.Readers.{reader_among, registers_reading, readers_of, state_width, IsStateBit}
 use Rattle.cdc_model.specs.Schemes.{IsCrossing, Follows, Sync, IsChain, IsSync, flops}
 use Rattle.cdc_model.specs.Syncs.{copies, on_one_clock, copy_among, next_flop, flops_behind, sync_of, is_sync, syncs_from, syncs_among, syncs_of}
-use Rattle.cdc_model.specs.Verdict.{bit_key, crossing_key, sync_key}
+use Rattle.cdc_model.specs.Verdict.{crossing_key, sync_key}
 use Rattle.cdc_model.proofs.Ascending.{here, later, parts, nothing_in, in_filter, from_filter, Ascends, ascending, filtered_ascend, less_before, same_before}
 use Rattle.cdc_model.proofs.Found.{by_bit, net_ascends, from_registers, registers_ascend, has_next, among_ascends as among_crossings, crossings_are_all}
-use Rattle.cdc_model.proofs.Justify.{in_slice}
 use Rattle.cdc_model.proofs.Net.{self_reads}
 use Rattle.cdc_model.proofs.NetDesign.{in_bits, settles}
 use Rattle.cdc_model.proofs.Ordered.{never_before}

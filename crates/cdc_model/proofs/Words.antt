@@ -1,11 +1,11 @@
 -- What count words and Gray words give in each reading.
-use Rattle.std.proofs.Common.{◌≡◌, ℕ, zero, suc, ◌+◌, ◌-◌, ◌*◌, ◌^◌, ◌/◌, ◌%◌, ◌<◌, ◌≤◌, Bool, true, false, cond, not, ◌&&◌, ◌==◌, nat_lt, Option, Some, None, List, [], ◌∷◌, ◌⊎◌, inl, inr, refl, sym, ap, ap₂, subst, ◌∙◌, arith, pow-suc, pow_pos, add-zero, zero-add, add_comm}
+use Rattle.std.proofs.Common.{◌≡◌, ℕ, zero, suc, ◌+◌, ◌*◌, ◌^◌, ◌/◌, ◌%◌, ◌<◌, ◌≤◌, Bool, true, false, cond, not, ◌&&◌, ◌==◌, Option, List, [], ◌∷◌, ◌⊎◌, inl, inr, refl, sym, ap, ap₂, subst, ◌∙◌, arith, pow-suc, pow_pos, add-zero, zero-add, add_comm}
 use Rattle.std.proofs.lemmas.Nat.{div-mul-add}
 use Rattle.std.proofs.lemmas.Bool.{and_parts}
 use Rattle.cell_graph.specs.Reading.{Reading}
-use Rattle.cell_graph.specs.Tree.{Tree, Const, Add, Shl, Shr, Mux, Concat, Slice, Extend, width, bit_at, bit, number, all_below}
-use Rattle.cell_graph.specs.Cofactor.{on_number}
-use Rattle.cell_graph.specs.Origin.{TreeBit, const_of, origin, tree_bit}
+use Rattle.cell_graph.specs.Tree.{Tree, Add, Mux, bit_at, bit, number, all_below}
+use Rattle.cell_graph.specs.Origin.{TreeBit, tree_bit}
+use Rattle.cell_graph.proofs.OriginSound.{origin_sound}
 use Rattle.cell_graph.proofs.Sound.{known_sound, Knows}
 use Rattle.cdc_model.specs.Gray.{increment, gray_code, exclusive_or}
 use Rattle.cdc_model.specs.Word.{cells, origins, own_word, IsStepOfOne, IsCount, Own, Plus, Choose, IsZero, IsXorOf, IsTopOf, IsGrayWord, IsJoint, Coded, Stay, Both, values}
@@ -112,50 +112,13 @@ swap_sum f g w = same_bits (λ j. bit_at (number f (suc j) + number g (suc j)) j
     (λ j l m. ap (λ x. bit_at x j) (add_comm (number f (suc j)) (number g (suc j))))
 
 module _ (r : Reading) where
-  pub origin_sound : (t : Tree) (i : ℕ) → bit r t i ≡ tree_bit r (origin t i)
-  origin_sound (Concat high low) i = go (nat_lt i (width low)) (origin_sound low i) (origin_sound high (i - width low))
-    where
-      go : (v : Bool) → bit r low i ≡ tree_bit r (origin low i) → bit r high (i - width low) ≡ tree_bit r (origin high (i - width low))
-          → cond v (bit r low i) (bit r high (i - width low)) ≡ tree_bit r (cond v (origin low i) (origin high (i - width low)))
-      go true h k = h
-      go false h k = k
-  origin_sound (Slice a at w) i = origin_sound a (at + i)
-  origin_sound (Extend a w) i = go (nat_lt i (width a)) (origin_sound a i)
-    where
-      go : (v : Bool) → bit r a i ≡ tree_bit r (origin a i) → cond v (bit r a i) false ≡ tree_bit r (cond v (origin a i) None)
-      go true h = h
-      go false h = refl
-  origin_sound (Shl a by) i = go by (λ n. origin_sound a (i - n))
-    where
-      two : (u v : Bool) (n : ℕ) → bit r a (i - n) ≡ tree_bit r (origin a (i - n))
-          → cond u false (cond v (bit r a (i - n)) false) ≡ tree_bit r (cond u None (cond v (origin a (i - n)) None))
-      two true v n h = refl
-      two false true n h = h
-      two false false n h = refl
-
-      go : (by : Tree) → ((n : ℕ) → bit r a (i - n) ≡ tree_bit r (origin a (i - n)))
-          → bit r (Shl a by) i ≡ tree_bit r (on_number (const_of by) (Some (Shl a by, i)) (λ n. cond (nat_lt i n) None (cond (nat_lt (i - n) (width a)) (origin a (i - n)) None)))
-      go (Const w v) h = let n = number (bit_at v) w in two (nat_lt i n) (nat_lt (i - n) (width a)) n (h n)
-      go _ h = refl
-  origin_sound (Shr a by) i = go by (λ n. origin_sound a (i + n))
-    where
-      two : (v : Bool) (n : ℕ) → bit r a (i + n) ≡ tree_bit r (origin a (i + n)) → cond v (bit r a (i + n)) false ≡ tree_bit r (cond v (origin a (i + n)) None)
-      two true n h = h
-      two false n h = refl
-
-      go : (by : Tree) → ((n : ℕ) → bit r a (i + n) ≡ tree_bit r (origin a (i + n)))
-          → bit r (Shr a by) i ≡ tree_bit r (on_number (const_of by) (Some (Shr a by, i)) (λ n. cond (nat_lt (i + n) (width a)) (origin a (i + n)) None))
-      go (Const w v) h = let n = number (bit_at v) w in two (nat_lt (i + n) (width a)) n (h n)
-      go _ h = refl
-  origin_sound _ i = refl
-
   cells_are : (t : Tree) (i n : ℕ) → values r (cells t i n) ≡ bits_of (bit r t) i n
   cells_are t i zero = refl
   cells_are t i (suc n) = ap (λ xs. bit r t i ∷ xs) (cells_are t (suc i) n)
 
   origins_are : (t : Tree) (i n : ℕ) → values r (origins t i n) ≡ bits_of (bit r t) i n
   origins_are t i zero = refl
-  origins_are t i (suc n) = ap₂ (λ x xs. x ∷ xs) (sym (origin_sound t i)) (origins_are t (suc i) n)
+  origins_are t i (suc n) = ap₂ (λ x xs. x ∷ xs) (sym (origin_sound r t i)) (origins_are t (suc i) n)
 
   chosen_cells : (c x y : Tree) (i n : ℕ) → values r (cells (Mux c x y) i n) ≡ cond (bit r c 0) (values r (origins x i n)) (values r (origins y i n))
   chosen_cells c x y i n = cells_are (Mux c x y) i n ∙ go (bit r c 0) ∙ ap₂ (cond (bit r c 0)) (sym (origins_are x i n)) (sym (origins_are y i n))
@@ -202,8 +165,8 @@ module _ (r : Reading) where
       go false e h (inr k) = inr (is false e ∙ k)
 
   xor_sound : (g x y : TreeBit) → IsXorOf g x y → tree_bit r g ≡ exclusive_or (tree_bit r x) (tree_bit r y)
-  xor_sound g x y (a, b, k, e, inl h) = ap (tree_bit r) e ∙ ap₂ (λ v w. cond v (not w) w) (origin_sound a k ∙ ap (tree_bit r) h.0) (origin_sound b k ∙ ap (tree_bit r) h.1)
-  xor_sound g x y (a, b, k, e, inr h) = ap (tree_bit r) e ∙ ap₂ (λ v w. cond v (not w) w) (origin_sound a k ∙ ap (tree_bit r) h.0) (origin_sound b k ∙ ap (tree_bit r) h.1)
+  xor_sound g x y (a, b, k, e, inl h) = ap (tree_bit r) e ∙ ap₂ (λ v w. cond v (not w) w) (origin_sound r a k ∙ ap (tree_bit r) h.0) (origin_sound r b k ∙ ap (tree_bit r) h.1)
+  xor_sound g x y (a, b, k, e, inr h) = ap (tree_bit r) e ∙ ap₂ (λ v w. cond v (not w) w) (origin_sound r a k ∙ ap (tree_bit r) h.0) (origin_sound r b k ∙ ap (tree_bit r) h.1)
       ∙ swapped (tree_bit r x) (tree_bit r y)
     where
       swapped : (v w : Bool) → cond w (not v) v ≡ exclusive_or v w
@@ -213,17 +176,17 @@ module _ (r : Reading) where
       swapped false false = refl
 
   zero_sound : (t : Tree) (k : ℕ) → IsZero t k → bit r t k ≡ false
-  zero_sound t k (inl h) = origin_sound t k ∙ ap (tree_bit r) h
+  zero_sound t k (inl h) = origin_sound r t k ∙ ap (tree_bit r) h
   zero_sound t k (inr h) = subst (λ (o : Option Bool). Knows o (bit r t k)) h (known_sound [] r tt t k)
 
   top_sound : (g x : TreeBit) → IsTopOf g x → tree_bit r g ≡ tree_bit r x
   top_sound g x (inl e) = ap (tree_bit r) e
-  top_sound g x (inr (a, b, k, e, inl h)) = ap (tree_bit r) e ∙ ap₂ (λ v w. cond v (not w) w) (origin_sound a k ∙ ap (tree_bit r) h.0) (zero_sound b k h.1) ∙ with_zero (tree_bit r x)
+  top_sound g x (inr (a, b, k, e, inl h)) = ap (tree_bit r) e ∙ ap₂ (λ v w. cond v (not w) w) (origin_sound r a k ∙ ap (tree_bit r) h.0) (zero_sound b k h.1) ∙ with_zero (tree_bit r x)
     where
       with_zero : (v : Bool) → cond v true false ≡ v
       with_zero true = refl
       with_zero false = refl
-  top_sound g x (inr (a, b, k, e, inr h)) = ap (tree_bit r) e ∙ ap₂ (λ v w. cond v (not w) w) (zero_sound a k h.1) (origin_sound b k ∙ ap (tree_bit r) h.0)
+  top_sound g x (inr (a, b, k, e, inr h)) = ap (tree_bit r) e ∙ ap₂ (λ v w. cond v (not w) w) (zero_sound a k h.1) (origin_sound r b k ∙ ap (tree_bit r) h.0)
 
   -- a Gray word is the code of its count
   pub gray_sound : (m n : List TreeBit) → IsGrayWord m n → values r m ≡ gray_code (values r n)
@@ -241,7 +204,7 @@ module _ (r : Reading) where
   joint_sound b g w n m (Both c e x y u v same h k) =
       subst (λ (ns : List Bool). (values r m ≡ gray_code ns) ⊎ ((ns ≡ values r (own_word b w)) × (values r m ≡ values r (own_word g w)))) (sym (chosen_cells c x y 0 w))
       (subst (λ (ms : List Bool). (ms ≡ gray_code (cond (bit r c 0) (values r (origins x 0 w)) (values r (origins y 0 w)))) ⊎ ((cond (bit r c 0) (values r (origins x 0 w)) (values r (origins y 0 w)) ≡ values r (own_word b w)) × (ms ≡ values r (own_word g w))))
-      (ap (λ t. cond t (values r (origins u 0 w)) (values r (origins v 0 w))) (origin_sound c 0 ∙ ap (tree_bit r) same ∙ sym (origin_sound e 0)) ∙ sym (chosen_cells e u v 0 w))
+      (ap (λ t. cond t (values r (origins u 0 w)) (values r (origins v 0 w))) (origin_sound r c 0 ∙ ap (tree_bit r) same ∙ sym (origin_sound r e 0)) ∙ sym (chosen_cells e u v 0 w))
       (go (bit r c 0) (joint_sound b g w (origins x 0 w) (origins u 0 w) h) (joint_sound b g w (origins y 0 w) (origins v 0 w) k)))
     where
       go : (t : Bool) → (values r (origins u 0 w) ≡ gray_code (values r (origins x 0 w))) ⊎ ((values r (origins x 0 w) ≡ values r (own_word b w)) × (values r (origins u 0 w) ≡ values r (own_word g w)))

@@ -1,6 +1,6 @@
 -- The values that words of arithmetic give to cells are those of their trees.
-use Rattle.std.proofs.Common.{◌≡◌, ◌∙◌, sym, ap, ap₂, subst, refl, arith, ℕ, zero, suc, ◌+◌, ◌-◌, ◌*◌, ◌/◌, ◌%◌, ◌^◌, ◌<◌, ◌≤◌, ◌==◌, min, Bool, true, false, cond, not, ◌&&◌, ◌||◌, nat_lt, List, [], ◌∷◌, length, map, Option, Some, None, slice_get, unwrap_or, option_map, ◌++◌, length-append, set, ◌≢◌, ltb-true, ltb-false}
-use Rattle.std.specs.Prelude.{bit_and, bit_or, bit_xor, count_ones}
+use Rattle.std.proofs.Common.{◌≡◌, ◌∙◌, sym, ap, ap₂, subst, refl, arith, ℕ, zero, suc, ◌+◌, ◌-◌, ◌*◌, ◌%◌, ◌^◌, ◌<◌, ◌≤◌, ◌==◌, min, Bool, true, false, cond, not, nat_lt, List, [], ◌∷◌, length, map, Option, Some, None, slice_get, unwrap_or, ◌++◌, length-append, set, ◌≢◌, ltb-true, ltb-false}
+use Rattle.std.specs.Prelude.{bit_or, count_ones}
 use Rattle.std.specs.Option.{option_map_or}
 use Rattle.std.proofs.lemmas.List.{length-map}
 use Rattle.cdc_base.specs.declared.signal.Signal.{Signal}
@@ -10,12 +10,12 @@ use Rattle.cell_graph.specs.declared.cell.CellId.{CellId}
 use Rattle.cell_graph.specs.declared.cell.ReduceKind.{ReduceKind}
 use Rattle.cell_graph.specs.declared.cell.ReduceKind.TheVariants as kind
 use Rattle.cell_graph.specs.Reading.{Reading}
-use Rattle.cell_graph.specs.Tree.{Tree, width, bit_at, bit, number, all_below, any_below, odd_below}
+use Rattle.cell_graph.specs.Tree.{Tree, width, bit, number}
 use Rattle.cell_graph.specs.Cells.{Cells, in_order, cell_width, cell_at, signal_width}
-use Rattle.cell_graph.specs.Unfolded.{tree_at, unfolded, reduced, trees, tree_of, IsCellOf, IsWellFormed}
+use Rattle.cell_graph.specs.Unfolded.{unfolded, reduced, trees, tree_of, IsCellOf, IsWellFormed}
 use Rattle.cell_graph.specs.Values.{word_at, reading_of, AreWordsOf, tree_value, values_of, reduced_word, cell_word}
 use Rattle.cell_graph.proofs.Trees.{width-tree_of, tree_of-cell}
-use Rattle.cell_graph.proofs.Words.{HasBits, number-has, has-number, has-same, has-64, bit-has, not-has, and-has, or-has, xor-has, add-has, sub-has, up-has, down-has, slice-has, wider-has, joined-has, equal-bits, any-bit, all-bits, odd-bits}
+use Rattle.cell_graph.proofs.Words.{HasBits, number-has, has-number, has-same, bit-has, not-has, and-has, or-has, xor-has, add-has, sub-has, up-has, down-has, slice-has, wider-has, joined-has, equal-bits, any-bit, all-bits, odd-bits}
 
 width-reduced : (k : ReduceKind) (t : Tree) → width (reduced k t) ≡ 1
 width-reduced kind.And t = refl

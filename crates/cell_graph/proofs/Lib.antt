@@ -11,3 +11,4 @@ pub mod Words
 pub mod CellValues
 pub mod Cones
 pub mod Unread
+pub mod Once

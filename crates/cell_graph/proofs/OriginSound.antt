@@ -1,5 +1,5 @@
 -- The origin of a bit has its value.
-use Rattle.std.proofs.Common.{◌≡◌, ℕ, ◌+◌, ◌-◌, Bool, true, false, cond, nat_lt, Option, Some, None, refl}
+use Rattle.std.proofs.Common.{◌≡◌, ℕ, ◌+◌, ◌-◌, Bool, true, false, cond, nat_lt, Some, None, refl}
 use Rattle.cell_graph.specs.Reading.{Reading}
 use Rattle.cell_graph.specs.Tree.{Tree, Const, Shl, Shr, Concat, Slice, Extend, width, bit_at, bit, number}
 use Rattle.cell_graph.specs.Cofactor.{on_number}

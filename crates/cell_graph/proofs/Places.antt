@@ -1,6 +1,5 @@
 -- The table of places and the widths, where one more cell is added.
-use Rattle.std.proofs.Common.{◌≡◌, ◌∙◌, sym, ap, ap₂, subst, refl, arith, rules, ℕ, ◌+◌, ◌<◌, ◌≤◌, ◌^◌, Bool, true, false, cond, List, [], ◌∷◌, ◌++◌, length, map, Option, Some, None, is_some, unwrap_or, slice_get, get_or, nat_lt, ltb-true, inl, inr, length-append}
-use Rattle.std.specs.Prelude.{position}
+use Rattle.std.proofs.Common.{◌≡◌, ◌∙◌, sym, ap, ap₂, subst, refl, arith, rules, ℕ, ◌+◌, ◌<◌, ◌^◌, Bool, true, false, cond, List, [], ◌∷◌, ◌++◌, length, Option, Some, None, is_some, unwrap_or, slice_get, get_or, nat_lt, ltb-true, inl, inr, length-append}
 use Rattle.std.specs.List.{position_from, position_or_len}
 use Rattle.std.specs.Cmp.Rules.{comparing}
 use Rattle.std.proofs.lemmas.Bool.{cases_Bool}
@@ -14,7 +13,7 @@ use Rattle.cdc_base.specs.declared.signal.Signal.{Signal}
 use Rattle.cell_graph.specs.declared.cell.Cell.{Cell}
 use Rattle.cell_graph.specs.declared.cell.Entry.{Entry}
 use Rattle.cell_graph.specs.Cells.{same_cell, place_in, place_of, with_cell, in_order, widths, width_of}
-use Rattle.cell_graph.specs.Kept.{IsKept, cells_of, widths_of}
+use Rattle.cell_graph.specs.Kept.{IsKept, cells_of}
 
 pub in_order-push : {A : Type 0} (f : List A → Cell → A) (before : List A) (cs : List Cell) (c : Cell)
     → in_order f before (cs ++ c ∷ []) ≡ in_order f before cs ++ f (in_order f before cs) c ∷ []

@@ -1,5 +1,5 @@
 -- The tree of a cell, by the trees of its operands.
-use Rattle.std.proofs.Common.{◌≡◌, ◌∙◌, sym, ap, ap₂, refl, arith, ℕ, zero, suc, ◌+◌, ◌<◌, ◌≤◌, min, List, [], ◌∷◌, ◌++◌, length, map, take, Option, Some, None, slice_get, unwrap_or, option_map}
+use Rattle.std.proofs.Common.{◌≡◌, ◌∙◌, sym, ap, ap₂, refl, arith, ℕ, zero, suc, ◌+◌, ◌<◌, min, List, [], ◌∷◌, ◌++◌, length, map, Option, Some, None, slice_get, unwrap_or, option_map}
 use Rattle.std.proofs.lemmas.List.{map-append}
 use Rattle.std.proofs.lemmas.Option.{slice_get-map}
 use Rattle.cdc_base.specs.declared.signal.Signal.{Signal}
@@ -9,7 +9,7 @@ use Rattle.cell_graph.specs.declared.cell.CellId.{CellId}
 use Rattle.cell_graph.specs.declared.cell.ReduceKind.{ReduceKind}
 use Rattle.cell_graph.specs.declared.cell.ReduceKind.TheVariants as kind
 use Rattle.cell_graph.specs.Tree.{Tree, width}
-use Rattle.cell_graph.specs.Cells.{Cells, in_order, widths, width_at, width_of, cell_width, cell_at}
+use Rattle.cell_graph.specs.Cells.{Cells, in_order, width_at, width_of, cell_width}
 use Rattle.cell_graph.specs.Unfolded.{tree_at, unfolded, reduced, trees, tree_of, IsCellOf, IsWellFormed}
 
 -- ---- widths

@@ -1,9 +1,9 @@
 -- Words by their bits.
-use Rattle.std.proofs.Common.{◌≡◌, ◌∙◌, sym, ap, ap₂, subst, refl, arith, ℕ, zero, suc, ◌+◌, ◌-◌, ◌*◌, ◌/◌, ◌%◌, ◌^◌, ◌<◌, ◌≤◌, ◌==◌, min, max, Bool, true, false, cond, not, ◌&&◌, ◌||◌, nat_lt, ◌⊎◌, inl, inr, ltb-true, ltb-false, lt-ltb, eqb-true, eq-eqb, ◌≢◌}
+use Rattle.std.proofs.Common.{◌≡◌, ◌∙◌, sym, ap, ap₂, subst, refl, arith, ℕ, zero, suc, ◌+◌, ◌-◌, ◌*◌, ◌/◌, ◌%◌, ◌^◌, ◌<◌, ◌≤◌, ◌==◌, min, max, Bool, true, false, cond, not, ◌&&◌, ◌||◌, nat_lt, ltb-true, ltb-false, eqb-true, eq-eqb, ◌≢◌}
 use Rattle.std.specs.Prelude.{bit_and, bit_or, bit_xor, count_ones}
 use Rattle.std.specs.Int.{bit_at as digit, w64}
 use Rattle.std.proofs.lemmas.Bool.{both_ways, eqb-false}
-use Rattle.std.proofs.lemmas.Nat.{pow-add, pow_pos, mod-pow-add, shr-shr, ones_cat, ones_le_self, zero_from_ones, div-add-mod', and_le_l, or_lt, xor_lt, shr_le, or_shifted, div_below, shl_below}
+use Rattle.std.proofs.lemmas.Nat.{pow-add, pow_pos, mod-pow-add, shr-shr, ones_cat, ones_le_self, zero_from_ones, div-add-mod', and_le_l, or_lt, xor_lt, shr_le, div_below, shl_below}
 use Rattle.std.proofs.lemmas.Nat.Bits.{bit_at_and, bit_at_or, bit_at_xor, bit_at-lt, bit_at_above, bit_at_cat_low, bit_at_cat_high, bit_at-zero, bit_at_ones, bit_at_ones_above, same_from_bits_below, bit_at_not}
 use Rattle.std.proofs.Math.Nat.{mod-eq_of_lt, mod-lt, pow-suc, mod-mod_of_dvd, dvd-mul_right, mul-add-mod_self_right}
 use Rattle.std.proofs.Math.Pow.{pow_mono}

@@ -1,5 +1,5 @@
 -- The cells of a graph, and their widths.
-use Rattle.std.specs.Prelude.{◌≡◌, ℕ, ◌+◌, ◌≤◌, ◌<◌, ◌^◌, min, Bool, cond, List, [], ◌∷◌, ◌++◌, length, Option, is_some, slice_get, unwrap_or, position}
+use Rattle.std.specs.Prelude.{ℕ, ◌+◌, min, Bool, cond, List, [], ◌∷◌, ◌++◌, length, Option, is_some, slice_get, unwrap_or, position}
 use Rattle.std.specs.Option.{option_map_or}
 use Rattle.cdc_base.specs.declared.signal.Signal.{Signal}
 use Rattle.cell_graph.specs.contracts.cell.CellPartialEq.TheImpl as equality

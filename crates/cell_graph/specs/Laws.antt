@@ -1,5 +1,5 @@
 -- What cofactors and origins promise.
-use Rattle.std.specs.Prelude.{◌≡◌, ℕ, Bool, true, Option, Some}
+use Rattle.std.specs.Prelude.{◌≡◌, ℕ, Bool, true, Some}
 use Rattle.cdc_base.specs.declared.bit.Bit.{Bit}
 use Rattle.cell_graph.specs.Reading.{Reading, Cube, Meets}
 use Rattle.cell_graph.specs.Tree.{Tree, bit}

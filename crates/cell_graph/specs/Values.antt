@@ -1,9 +1,8 @@
 -- The values of all cells in one reading, given by a word for each signal.
-use Rattle.std.specs.Prelude.{◌≡◌, ℕ, ◌+◌, ◌-◌, ◌*◌, ◌/◌, ◌%◌, ◌<◌, ◌^◌, min, Bool, cond, nat_lt, ◌==◌, List, length, map, Some, slice_get, unwrap_or, bit_and, bit_or, bit_xor, count_ones}
+use Rattle.std.specs.Prelude.{◌≡◌, ℕ, ◌+◌, ◌-◌, ◌*◌, ◌/◌, ◌%◌, ◌<◌, ◌^◌, min, cond, nat_lt, ◌==◌, List, length, map, Some, slice_get, unwrap_or, bit_and, bit_or, bit_xor, count_ones}
 use Rattle.cdc_base.specs.declared.signal.Signal.{Signal}
 use Rattle.cell_graph.specs.declared.cell.Cell.{Cell}
 use Rattle.cell_graph.specs.declared.cell.Cell.TheVariants.{Var, Const, Not, And, Or, Xor, Add, Sub, Eq, Lt, Shl, Shr, Mux, Concat, Slice, Extend, Reduce}
-use Rattle.cell_graph.specs.declared.cell.CellId.{CellId}
 use Rattle.cell_graph.specs.declared.cell.ReduceKind.{ReduceKind}
 use Rattle.cell_graph.specs.declared.cell.ReduceKind.TheVariants as kind
 use Rattle.cell_graph.specs.Cells.{Cells, cell_width}

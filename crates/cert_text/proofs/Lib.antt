@@ -3,7 +3,6 @@ pub mod Counts
 pub mod Cuts
 pub mod Entries
 pub mod Feeds
-pub mod Firsts
 pub mod Joined
 pub mod Named
 pub mod Spelled

@@ -9,7 +9,7 @@ use Rattle.cdc_base.specs.declared.signal.Signal.{Signal}
 use Rattle.cdc_base.specs.Bits.{bit_text}
 use Rattle.cdc_base.specs.Bytes.{in_class, is_word_start}
 use Rattle.clock_constraints.specs.Refusals.{Text}
-use Rattle.domains.specs.Tables.{named}
+use Rattle.domains.specs.Tables.{named, first_signal, bit_names}
 use Rattle.cert_text.specs.declared.names.Part.{Part}
 use Rattle.cert_text.specs.declared.names.Part.TheVariants.{Begin, Plain, Slash, Escaped, Behind, Bracket, Index, Closed, Broken}
 
@@ -54,20 +54,6 @@ abbrev pub is_name : Text → Bool
 is_name text = goes_on Begin text
 
 -- ---- what names stand for
-
--- the printed names of a signal's low bits
-abbrev pub names_of_bits : ℕ → Signal → ℕ → List (Text × Bit)
-names_of_bits k s zero = []
-names_of_bits k s (suc n) = names_of_bits k s n ++ (bit_text s n, record { sig = k; at = n }) ∷ []
-
--- those of all bits of the signals from number k on
-abbrev pub bit_names : ℕ → List Signal → List (Text × Bit)
-bit_names k [] = []
-bit_names k (s ∷ ss) = names_of_bits k s s.width ++ bit_names (k + 1) ss
-
--- the first signal with this name
-abbrev pub first_signal : List Signal → Text → Option ℕ
-first_signal signals text = position_from (λ (s : Signal). bytes_eq text s.name) 0 signals
 
 -- the first bit and the first signal with this printed name
 abbrev pub bit_named : List Signal → Text → Option Bit

@@ -2,9 +2,8 @@
 use Rattle.std.specs.Prelude.{◌≡◌, List}
 use Rattle.cdc_base.specs.declared.signal.Signal.{Signal}
 use Rattle.clock_constraints.specs.Refusals.{Text}
-use Rattle.domains.specs.Tables.{found_in, named}
+use Rattle.domains.specs.Tables.{found_in, named, first_signal, bit_names}
 use Rattle.cert_text.specs.declared.names.Names.{Names}
-use Rattle.cert_text.specs.Names.{bit_names, first_signal}
 
 -- the tables have the signals and the bits, each under its printed name
 pub record HasNames (signals : List Signal) (names : Names) : Type 0 where

@@ -12,11 +12,12 @@ ghost use Rattle.cert_text.specs.Words.{lines_of};
 
 use crate::certificate::{Certificate, Entry};
 use crate::entry::{entry_in, ring_size};
-use crate::names::{Names, bit_names};
+use crate::names::Names;
 use crate::words::{cut_line, is_empty, words};
 use cdc_base::{List, NoMemory, Stop};
 use cell_graph::Net;
 use clock_constraints::refusal::refuse;
+use domains::table::bit_names;
 use std::alloc::Global;
 
 /// The text isn't a certificate; the name is the number of the first line that breaks a rule.

@@ -14,7 +14,7 @@ use Rattle.cell_graph.specs.declared.net.Net.{Net}
 use Rattle.cell_graph.proofs.CellValues.{none-past}
 use Rattle.clock_constraints.specs.declared.Constraints.{Constraints}
 use Rattle.domains.specs.declared.Domains.{Domains}
-use Rattle.domains.specs.Tables.{named}
+use Rattle.domains.specs.Tables.{named, first_signal, bit_names}
 use Rattle.cdc_model.specs.Nets.{is_register_bit, is_within}
 use Rattle.flat_meaning.specs.Design.{Flat}
 use Rattle.flat_unfolding.proofs.Visits.{limits_law}
@@ -28,10 +28,10 @@ use Rattle.described_design.specs.Designs.{IsDesignOf}
 use Rattle.campaign_records.specs.Laws.{AreFound}
 use Rattle.found_names.proofs.Designs.{designs-are-found}
 use Rattle.found_names.proofs.Visible.{read-visible}
-use Rattle.cert_text.specs.Names.{bit_names, first_signal, is_name}
+use Rattle.run_file.proofs.Tables.{bits-are}
+use Rattle.cert_text.specs.Names.{is_name}
 use Rattle.cert_text.specs.Read.{is_bit_name}
 use Rattle.cert_text.specs.Written.{IsFound, IsFoundSignal}
-use Rattle.certificate_laws.proofs.Lookups.{named-from}
 use Rattle.certificate_laws.proofs.Spelled.{bit-name, signal-name}
 use Rattle.certificate_laws.proofs.Writable.{AreAllFound}
 
@@ -71,7 +71,7 @@ module _ (word text con : List ℕ) (c : Constraints) (net : Net) (domains : Dom
       let form : is_bit_name (bit_of net.graph.signals b) ≡ true = ap is_bit_name name ∙ bit-name s b.at (printed b.sig s e) in (
         form,
         ap (λ (v : Bool). if v then named (bit_names 0 net.graph.signals) (bit_of net.graph.signals b) else None) (and_parts (is_name (bit_of net.graph.signals b)) _ form).0
-            ∙ named-from 0 net.graph.signals (bit_of net.graph.signals b) ∙ (in-records.bits b h).1,
+            ∙ bits-are net.graph.signals (bit_of net.graph.signals b) ∙ (in-records.bits b h).1,
       )
 
   signal-found : (sig : ℕ) → sig < length net.graph.signals → IsFoundSignal net.graph.signals sig

@@ -1,5 +1,4 @@
 pub mod Spelled
-pub mod Lookups
 pub mod Rings
 pub mod Writable
 pub mod Found

@@ -162,7 +162,7 @@ not-before before (n ∷ ns) h i j d l m = go (list_any (bytes_eq n) before) ref
         let g : true ≡ false = sym t ∙ f in absurd (cc)
     go false e k (suc j) m rest = λ same. rest k j (omega arith) (get_or_append_left before (n ∷ []) d i l ∙ same)
 
-all-differ : (before ns : List Text) → first_again before ns ≡ None → AllPairs (λ (a : Text) (b : Text). a ≢ b) ns
+pub all-differ : (before ns : List Text) → first_again before ns ≡ None → AllPairs (λ (a : Text) (b : Text). a ≢ b) ns
 all-differ before [] h i j d l m = absurd (omega arith)
 all-differ before (n ∷ ns) h i j d l m = go (list_any (bytes_eq n) before) refl h i j l m (all-differ (before ++ n ∷ []) ns)
   where

@@ -8,7 +8,7 @@ mod assignment;
 mod group;
 mod port;
 mod register;
-mod table;
+pub mod table;
 
 pub use assignment::assign;
 use cdc_base::{Bit, List, Name};

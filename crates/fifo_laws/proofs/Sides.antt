@@ -7,6 +7,7 @@ use Rattle.cdc_base.specs.declared.bit.Bit.{Bit}
 use Rattle.cell_graph.specs.Reading.{Reading, bit_eq}
 use Rattle.cell_graph.specs.Tree.{Tree, Var}
 use Rattle.cell_graph.proofs.Bits.{bit_eq-true}
+use Rattle.cell_graph.proofs.OriginSound.{origin_sound}
 use Rattle.cdc_model.specs.declared.scheme.GrayReg.{GrayReg}
 use Rattle.cdc_model.specs.Design.{Design, are_async, are_equal, bits_from, word, flipped, settle_of}
 use Rattle.cdc_model.specs.Facts.{OnlySettling}
@@ -18,10 +19,10 @@ use Rattle.cdc_model.specs.Word.{cells, origins, values}
 use Rattle.cdc_model.proofs.Ascending.{from_filter}
 use Rattle.cdc_model.proofs.Chain.{equal_eq, at_clock, before_at, left_zero, not_flipped, place_settling, settling_sync}
 use Rattle.cdc_model.proofs.Behind.{place_unique}
+use Rattle.cdc_model.proofs.Codes.{count_settled, code_settled}
 use Rattle.cdc_model.proofs.Flips.{flipped_not, group_of_clock, same_clock_not_async}
 use Rattle.cdc_model.proofs.GrayShape.{gray_reg_sound}
 use Rattle.cdc_model.proofs.Rings.{last_settled, last_at}
-use Rattle.cdc_model.proofs.Words.{origin_sound}
 use Rattle.fifo_laws.specs.Laws.{AreLists}
 use Rattle.fifo_laws.specs.Sides.{Side, IsSide, bit_node, came_over, syncs_on}
 
@@ -99,36 +100,9 @@ over_of d syncs c (b ∷ bs) (y ∷ ys) e = (
         (p.0, bit_eq-true y.from b q.0, equal_eq (d.clock y.first) (Some c) q.1)
 
 module _ (d : Design) (t : Trees) (laws : AreTrees d t) (syncs : List Sync) (ok : (s : Sync) → Contains syncs s → IsSync d t s) where
-  -- a bit that copies no bit but itself and settled ones of its clock is no settling flop
-  own_settled : (c : ℕ) (others : List Bit) (b : Bit) → IsOwn d c others b → ((a : Bit) → Contains others a → (d.clock a ≡ Some c) × (is_settling d syncs a ≡ false)) → is_settling d syncs b ≡ false
-  own_settled c others b k each = false_from_ne_true (is_settling d syncs b) (λ h. let (s, i, p) = settling_sync d t laws syncs ok b h in go s i p.0 p.1 p.2)
-    where
-      go : (s : Sync) (i : Contains syncs s) (j : ℕ) → j < settle_of d s.first → IsAt j b (flops s) → ⊥
-      go s i zero l at =
-          let n = ok s i in
-          let async : are_async d s.from b ≡ true = subst (λ (z : Bit). are_async d s.from z ≡ true) (sym at) n.crossing.async in
-          both_ways (are_async d s.from b) (same_clock_not_async d s.from b (elim (k.own s.from (ap d.copied at ∙ n.copy)) [
-            | inl e ↦ ap d.clock e
-            | inr m ↦ (each s.from m).0 ∙ sym k.clock
-          ])) async
-      go s i (suc j) l at =
-          let x = before_at d t (settle_of d s.first) (3 - settle_of d s.first) s.first s.more (ok s i).chain j b at in
-          elim (k.own x.0 x.2.copy) [
-            | inl e ↦ omega (arith, (place_unique d t laws syncs ok s s i i j (suc j) b (subst (λ (z : Bit). IsAt j z (flops s)) e x.1) at).0)
-            | inr m ↦ both_ways (is_settling d syncs x.0) (each x.0 m).1 (place_settling d t laws syncs ok s i j x.0 (omega arith) x.1)
-          ]
-
-  count_settled : (c : ℕ) (b : Bit) → IsOwn d c [] b → is_settling d syncs b ≡ false
-  count_settled c b o = own_settled c [] b o (λ a i. absurd (omega (arith, i.1)))
-
-  code_settled : (c : ℕ) (count : List Bit) → AllByRecursion (IsOwn d c []) count → (b : Bit) → IsOwn d c count b → is_settling d syncs b ≡ false
-  code_settled c count all b o = own_settled c count b o (λ a i.
-      let p = All-contains (IsOwn d c []) count a (All-from_recursion (IsOwn d c []) count all) i in
-      (p.clock, count_settled c a p))
-
-  -- nor is one that copies none
+  -- a bit that copies none is no settling flop
   pub free_settled : (c : ℕ) (b : Bit) → d.is_register b ≡ true → d.clock b ≡ Some c → d.copied b ≡ None → is_settling d syncs b ≡ false
-  free_settled c b reg clock none = count_settled c b (record { register = reg; clock = clock; own = λ a e. no_copy a (sym none ∙ e) })
+  free_settled c b reg clock none = count_settled d t laws syncs ok c b (record { register = reg; clock = clock; own = λ a e. no_copy a (sym none ∙ e) })
     where
       no_copy : {A : Type 0} (a : Bit) → None ≡ Some a → A
       no_copy a e = cc

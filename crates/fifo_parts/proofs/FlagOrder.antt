@@ -4,13 +4,13 @@ use Rattle.std.specs.Cmp.{IsEquivalence}
 use Rattle.std.specs.Cmp.Rules.{comparing}
 use Rattle.std.specs.Ordering.{eq_by_cmp, is_lt, bool_cmp}
 use Rattle.cdc_model.specs.Ordered.{is_before}
+use Rattle.cdc_model.proofs.Keys.{Orders, bit_before}
 use Rattle.fifo_parts.specs.contracts.flags.FlagOrd.TheImpl as order
 use Rattle.fifo_parts.specs.contracts.flags.FlagOrd.TheImpl.Laws.{total-law}
 use Rattle.fifo_parts.specs.contracts.flags.FlagPartialEq.TheImpl as equality
 use Rattle.fifo_parts.specs.contracts.flags.FlagEq.TheImpl.Laws.{laws-law}
 use Rattle.fifo_parts.specs.declared.flags.Flag.{Flag}
 use Rattle.fifo_parts.specs.Tellers.{flag_entry_key}
-use Rattle.fifo_parts.proofs.Keyed.{Orders, bit_before}
 
 value_before : (u v : Bool) → is_before (cond u 1 0 ∷ []) (cond v 1 0 ∷ []) ≡ is_lt (bool_cmp u v)
 value_before false false = refl

@@ -3,11 +3,11 @@ use Rattle.std.proofs.Common.{◌≡◌, refl, rules, ℕ, ◌==◌, ◌&&◌, �
 use Rattle.std.specs.Cmp.Rules.{comparing}
 use Rattle.std.specs.Ordering.{eq_by_cmp, is_lt, nat_cmp, ordering_then}
 use Rattle.cdc_model.specs.Ordered.{is_before}
+use Rattle.cdc_model.proofs.Keys.{Orders, number_before}
 use Rattle.fifo_scheme.specs.contracts.finder.KeyOrd.TheImpl as order
 use Rattle.fifo_scheme.specs.contracts.finder.KeyOrd.TheImpl.Laws.{total-law}
 use Rattle.fifo_scheme.specs.declared.finder.Key.{Key}
 use Rattle.fifo_scheme.specs.Candidates.{numbers_of}
-use Rattle.fifo_parts.proofs.Keyed.{Orders, number_before}
 
 pub equal_is : (a b : Key) → eq_by_cmp order.ghosts.cmp a b ≡ true → a ≡ b
 equal_is a b h = search rules

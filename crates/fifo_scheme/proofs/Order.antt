@@ -7,13 +7,13 @@ use Rattle.cdc_base.specs.contracts.bit.BitOrd.TheImpl as bits
 use Rattle.cdc_model.specs.declared.scheme.Crossing.{Crossing}
 use Rattle.cdc_model.specs.Ordered.{is_before, IsAscending}
 use Rattle.cdc_model.specs.Verdict.{bit_key, crossing_key}
+use Rattle.cdc_model.proofs.Keys.{Orders, bit_before, bits_order}
 use Rattle.fifo_scheme.specs.contracts.found.EndedOrd.TheImpl as order
 use Rattle.fifo_scheme.specs.contracts.found.EndedOrd.TheImpl.Laws.{total-law}
 use Rattle.fifo_scheme.specs.contracts.found.EndedPartialEq.TheImpl as equality
 use Rattle.fifo_scheme.specs.contracts.found.EndedEq.TheImpl.Laws.{laws-law}
 use Rattle.fifo_scheme.specs.declared.found.Ended.{Ended}
 use Rattle.fifo_scheme.specs.Ended.{crossing_of, ended_key}
-use Rattle.fifo_parts.proofs.Keyed.{Orders, bit_before, last_bit_before}
 
 pub equal_ends : IsEquivalence equality.ghosts.eq
 equal_ends = laws-law
@@ -28,7 +28,7 @@ pub ends_order : Orders order.ghosts.cmp ended_key
 ends_order = record {
   total = total-law;
   same = λ a b h. search (comparing, rules);
-  before = λ a b. bit_before a.to b.to (bits.ghosts.cmp a.from b.from) (bit_key a.from []) (bit_key b.from []) (last_bit_before a.from b.from);
+  before = λ a b. bit_before a.to b.to (bits.ghosts.cmp a.from b.from) (bit_key a.from []) (bit_key b.from []) (bits_order.before a.from b.from);
 }
 
 at_map : (ends : List Ended) (i : ℕ) (c : Crossing) → slice_get (map crossing_of ends) i ≡ Some c → (e : Ended) × (slice_get ends i ≡ Some e)

@@ -5,7 +5,6 @@ pub mod Values
 pub mod Kept
 pub mod Held
 pub mod Ended
-pub mod Formed
 pub mod Walks
 pub mod Headers
 pub mod Shown

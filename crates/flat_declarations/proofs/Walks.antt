@@ -16,7 +16,7 @@ use Rattle.flat_unfolding.specs.Outcome.{Text}
 use Rattle.flat_unfolding.specs.Parameters.{param_in}
 use Rattle.flat_unfolding.specs.Declarations.{Site, header_of, decl_in, header_decls, item_decls, sites}
 use Rattle.flat_unfolding.specs.Formed.{IsParamFormed, IsDeclFormed, IsModuleFormed}
-use Rattle.flat_declarations.proofs.Formed.{inner-formed, header-formed, items-formed}
+use Rattle.flat_unfolding.proofs.Formed.{inner_formed, header_formed, items_formed}
 
 -- ---- parameters
 
@@ -57,7 +57,7 @@ no-param x h = go x.body refl
     go (body.Initial s) e = refl
 
 pub all-inner : (m : Module) → IsModuleFormed (module_of m) → All (λ (q : Place × ParamTree). IsParamFormed q.1) (inner_left m 0)
-all-inner m h = inner-formed (map item_of m.items) h.items
+all-inner m h = inner_formed (map item_of m.items) h.items
 
 -- ---- declarations
 
@@ -129,8 +129,8 @@ module _ (prefix : Text) (m : Module) where
 
   pub all-sites : IsModuleFormed (module_of m) → All (λ (q : Site × DeclTree). IsDeclFormed q.1) (sites prefix (module_of m))
   all-sites h =
-      All-append IsSiteFormed (map in_header (header_decls (module_of m))) (map inside (item_decls (module_of m))) (all-header (header_decls (module_of m)) (header-formed (map port_of m.ports) h.ports))
-      (all-inside (item_decls (module_of m)) (items-formed (map item_of m.items) h.items))
+      All-append IsSiteFormed (map in_header (header_decls (module_of m))) (map inside (item_decls (module_of m))) (all-header (header_decls (module_of m)) (header_formed (map port_of m.ports) h.ports))
+      (all-inside (item_decls (module_of m)) (items_formed (map item_of m.items) h.items))
 
   pub all-inner-sites : IsModuleFormed (module_of m) → All (λ (q : Site × DeclTree). IsDeclFormed q.1) (inner_sites 0)
-  all-inner-sites h = all-inside (item_decls (module_of m)) (items-formed (map item_of m.items) h.items)
+  all-inner-sites h = all-inside (item_decls (module_of m)) (items_formed (map item_of m.items) h.items)

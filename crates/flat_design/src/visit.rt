@@ -153,7 +153,7 @@ impl Visit {
         Ok(Visit {
             open: Vec::new(library.alloc),
             is_open,
-            design: empty_design(library.alloc),
+            design: Design::new(library.alloc),
         })
     }
 
@@ -199,21 +199,6 @@ fn append_instance(prefix: &mut String, item: Option<&Item>) -> Result<(), NoMem
             append(prefix, ".")
         }
         _ => Ok(()),
-    }
-}
-
-fn empty_design(alloc: Global) -> Design
-    ensures { (pins : List pin.ResetPin) → ShowsDesign pins result (no_design pins) }
-{
-    Design {
-        signals: Vec::new(alloc),
-        entries: Vec::new(alloc),
-        assigns: Vec::new(alloc),
-        combs: Vec::new(alloc),
-        clocked: Vec::new(alloc),
-        resets: Vec::new(alloc),
-        outputs: Vec::new(alloc),
-        late: None,
     }
 }
 

@@ -1,9 +1,12 @@
 //! The flat design as it grows, with what is known of each signal beyond its printed form.
-ghost use Rattle.std.specs.Prelude.{◌≡◌, [], false, None, slice_get};
+ghost use Rattle.std.specs.Prelude.{◌≡◌, List, slice_get};
 ghost use Rattle.std.specs.Option.{option_map_or};
+ghost use Rattle.cdc_base.specs.declared.signal.ResetPin as pin;
+ghost use Rattle.flat_unfolding.specs.Design.{no_design};
 ghost use Rattle.flat_unfolding.specs.Targets.{of_wires};
 ghost use Rattle.flat_names.specs.declared.design.Entry.{Entry};
 ghost use Rattle.flat_names.specs.Looks.{seen, takes_seen};
+ghost use Rattle.flat_names.specs.Designs.{ShowsDesign};
 
 use crate::fault::Faults;
 use crate::scope::{Bounds, Look, Names};
@@ -75,15 +78,9 @@ pub struct Design {
 }
 
 impl Design {
+    /// A design without a signal.
     pub fn new(alloc: Global) -> Design
-        ensures signals { result.signals.items ≡ [] }
-        ensures entries { result.entries.items ≡ [] }
-        ensures assigns { result.assigns.items ≡ [] }
-        ensures combs { result.combs.items ≡ [] }
-        ensures clocked { result.clocked.items ≡ [] }
-        ensures resets { result.resets.items ≡ [] }
-        ensures outputs { result.outputs.items ≡ [] }
-        ensures late { result.late ≡ None }
+        ensures { (pins : List pin.ResetPin) → ShowsDesign pins result (no_design pins) }
     {
         Design {
             signals: Vec::new(alloc),

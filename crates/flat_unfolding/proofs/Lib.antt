@@ -3,6 +3,7 @@ pub mod Examples
 pub mod ResetExamples
 pub mod First
 pub mod Steps
+pub mod Formed
 pub mod OneDriver
 pub mod Entries
 pub mod Visits

@@ -1,5 +1,7 @@
 -- What a step that refuses nothing tells.
 use Rattle.std.proofs.Common.{◌≡◌, ℕ, Bool, true, false, List, [], ◌∷◌, ◌++◌, Option, Some, refl, subst, rules}
+use Rattle.std.specs.Prelude.{All}
+use Rattle.std.proofs.lemmas.List.Elements.{All-head, All-tail}
 use Rattle.cdc_base.specs.declared.fault.Place.{Place}
 use Rattle.flat_unfolding.specs.Outcome.{Text, Broken, breaks_if, Outcome, good, bad, then_, each, refused_if, Order, judged}
 
@@ -35,3 +37,10 @@ pub each_keeps : {A S : Type 0} (P : S → Type 0) (f : S → A → Outcome S) �
     → (s : S) (xs : List A) (t : S) → each f s xs ≡ good t → P s → P t
 each_keeps P f h s [] t e p = subst P (good_is s t e) p
 each_keeps P f h s (x ∷ xs) t e p = let g = good_then (f s x) (λ u. each f u xs) t e in each_keeps P f h g.0 xs t g.2 (h s x g.0 g.1 p)
+
+-- so they do where each is over what has a property
+pub each_all : {A S : Type 0} (Q : A → Type 0) (P : S → Type 0) (f : S → A → Outcome S) → ((s : S) (a : A) (t : S) → Q a → f s a ≡ good t → P s → P t)
+    → (s : S) (xs : List A) (t : S) → All Q xs → each f s xs ≡ good t → P s → P t
+each_all Q P f h s [] t q e p = subst P (good_is s t e) p
+each_all Q P f h s (x ∷ xs) t q e p =
+    let g = good_then (f s x) (λ u. each f u xs) t e in each_all Q P f h g.0 xs t (All-tail Q x xs q) g.2 (h s x g.0 (All-head Q x xs q) g.1 p)

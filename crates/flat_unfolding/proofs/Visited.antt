@@ -1,28 +1,29 @@
 -- What visits make of a design that is well sized, and the flat design that comes of it.
-use Rattle.std.proofs.Common.{◌≡◌, ℕ, zero, suc, ◌+◌, ◌≤◌, Bool, true, false, cond, List, [], ◌∷◌, ◌++◌, length, map, Option, Some, None, refl, sym, subst, ◌∙◌, arith, rules, find, bytes_eq}
-use Rattle.std.specs.Prelude.{All, codes, flat_map, filter_map}
-use Rattle.std.specs.List.{cons_option, list_any}
-use Rattle.std.proofs.lemmas.List.Elements.{All-head, All-cons, All-nil, All-tail, All-push, All-append}
+use Rattle.std.proofs.Common.{◌≡◌, ℕ, zero, suc, ◌+◌, ◌≤◌, false, List, [], ◌∷◌, ◌++◌, length, Option, Some, None, refl, sym, subst, ◌∙◌, arith, rules}
+use Rattle.std.specs.Prelude.{All, codes}
+use Rattle.std.specs.List.{list_any}
+use Rattle.std.proofs.lemmas.List.Elements.{All-cons, All-nil, All-push, All-append}
 use Rattle.cdc_base.specs.declared.fault.Place.{Place}
 use Rattle.cdc_base.specs.declared.signal.Signal.{Signal}
 use Rattle.cdc_base.specs.declared.signal.ResetPin.{ResetPin}
 use Rattle.cdc_base.specs.Words.{is_in}
-use Rattle.verilog_reading.specs.SourceTree.{ParamTree, DeclTree, PortTree, ConnsTree, BodyTree, param, decl, assign, gate, instance, always, initial, ItemTree, ModuleTree}
+use Rattle.verilog_reading.specs.SourceTree.{DeclTree, ConnsTree, BodyTree, param, decl, assign, gate, instance, always, initial, ItemTree, ModuleTree}
 use Rattle.flat_meaning.specs.Flat.{Expr, size, Target, Stmt}
 use Rattle.flat_meaning.specs.Design.{Flat, size_in}
-use Rattle.flat_unfolding.specs.Outcome.{Text, Outcome, good, each, refused_if, by_number, judged}
+use Rattle.flat_unfolding.specs.Outcome.{Text, Outcome, good, then_, each, refused_if, by_number, judged}
 use Rattle.flat_unfolding.specs.Names.{no_value, Meaning, is_declared, Entry, width_at, printed_part}
-use Rattle.flat_unfolding.specs.Parameters.{Override, Overrides, parameter, param_in, params_of, parameters}
+use Rattle.flat_unfolding.specs.Parameters.{Override, Overrides, parameter, params_of, parameters}
 use Rattle.flat_unfolding.specs.Declarations.{header_of, header_decls, declarations}
 use Rattle.flat_unfolding.specs.Instances.{override_rules, overrides_of, connection_rules, links_of, connected, leaning_of, is_short}
 use Rattle.flat_unfolding.specs.Design.{Design, no_design, Stage, look_of}
 use Rattle.flat_unfolding.specs.Signals.{constants_from, with_constants, with_free, signal_of, signals_from}
 use Rattle.flat_unfolding.specs.Starts.{initial_starts, so_far}
 use Rattle.flat_unfolding.specs.Unfolding.{module_named, declared_value, Visit, instance_of, instance_item, item_of, item, header_values, with_resets, visit, top_ports, modules_differ, finished, from_top, unfolded}
-use Rattle.flat_unfolding.specs.Formed.{IsParamFormed, IsDeclFormed, IsPortFormed, IsBodyFormed, IsModuleFormed, IsSourceFormed}
+use Rattle.flat_unfolding.specs.Formed.{IsDeclFormed, IsBodyFormed, IsModuleFormed, IsSourceFormed}
 use Rattle.flat_unfolding.specs.Sized.{IsSized, IsTargetSized, IsStmtSized, any, IsSizedFlat}
 use Rattle.flat_unfolding.specs.Laws.{SizesLaw}
-use Rattle.flat_unfolding.proofs.Steps.{good_is, good_then, judged_is, none_of_both, some_is}
+use Rattle.flat_unfolding.proofs.Steps.{good_is, good_then, judged_is, none_of_both, each_all}
+use Rattle.flat_unfolding.proofs.Formed.{IsParamIn, params_formed, header_formed, found_formed}
 use Rattle.flat_unfolding.proofs.Terms.{IsWide}
 use Rattle.flat_unfolding.proofs.Known.{reg_at, top_at, IsNamed}
 use Rattle.flat_unfolding.proofs.Grown.{told_none, width_some, Grows, grows_itself, grows_on, names_on, all_on, expr_agrees, target_agrees, stmt_agrees}
@@ -34,12 +35,6 @@ use Rattle.flat_unfolding.proofs.Free.{free_width}
 use Rattle.flat_unfolding.proofs.Constants.{constants_hold}
 use Rattle.flat_unfolding.proofs.Visits.{flattened, accepted, flat_widths}
 
--- ---- steps over what is well formed
-
-each_all : {A S : Type 0} (Q : A → Type 0) (P : S → Type 0) (f : S → A → Outcome S) → ((s : S) (a : A) (t : S) → Q a → f s a ≡ good t → P s → P t) → (s : S) (xs : List A) (t : S) → All Q xs → each f s xs ≡ good t → P s → P t
-each_all Q P f h s [] t q e p = subst P (good_is s t e) p
-each_all Q P f h s (x ∷ xs) t q e p = let g = good_then (f s x) (λ u. each f u xs) t e in each_all Q P f h g.0 xs t (All-tail Q x xs q) g.2 (h s x g.0 (All-head Q x xs q) g.1 p)
-
 -- a stage behind the first
 record IsBehind (d : Design) (s : Stage) : Type 0 where
   pub stage : IsStage s
@@ -48,56 +43,47 @@ record IsBehind (d : Design) (s : Stage) : Type 0 where
 next_behind : (d : Design) (s t : Stage) → IsNext s t → IsBehind d s → IsBehind d t
 next_behind d s t n h = record { stage = n.stage; grows = grows_on d.entries s.design.entries t.design.entries h.grows n.grows }
 
-map_all : {A B : Type 0} (P : B → Type 0) (f : A → B) (xs : List A) → All (λ a. P (f a)) xs → All P (map f xs)
-map_all P f [] h = All-nil P
-map_all P f (x ∷ xs) h = All-cons P (f x) (map f xs) (All-head (λ a. P (f a)) x xs h) (map_all P f xs (All-tail (λ a. P (f a)) x xs h))
-
-abbrev IsParamIn : Place × ParamTree → Type 0
-IsParamIn q = IsParamFormed q.1
-
-item_params : (i : ItemTree) → IsBodyFormed i.body → All IsParamIn (param_in i)
-item_params i = go i.body
-  where
-    go : (b : BodyTree) → IsBodyFormed b → All IsParamIn (param_in (record { place = i.place; body = b }))
-    go (param p) h = All-cons IsParamIn (i.place, p) [] h (All-nil IsParamIn)
-    go (decl d) h = All-nil IsParamIn
-    go (assign x v) h = All-nil IsParamIn
-    go (gate kind es) h = All-nil IsParamIn
-    go (instance child params x ports) h = All-nil IsParamIn
-    go (always event body) h = All-nil IsParamIn
-    go (initial body) h = All-nil IsParamIn
-
-items_params : (is : List ItemTree) → All (λ (i : ItemTree). IsBodyFormed i.body) is → All IsParamIn (flat_map param_in is)
-items_params [] h = All-nil IsParamIn
-items_params (i ∷ is) h = All-append IsParamIn (param_in i) (flat_map param_in is) (item_params i (All-head (λ (i : ItemTree). IsBodyFormed i.body) i is h)) (items_params is (All-tail (λ (i : ItemTree). IsBodyFormed i.body) i is h))
-
-params_formed : (m : ModuleTree) → IsModuleFormed m → All IsParamIn (params_of m)
-params_formed m h = All-append IsParamIn (map (λ p. (m.place, p)) m.params) (flat_map param_in m.items) (map_all IsParamIn (λ p. (m.place, p)) m.params h.params) (items_params m.items h.items)
-
-ports_formed : (ps : List PortTree) → All IsPortFormed ps → All IsDeclFormed (filter_map (λ (p : PortTree). p.decl) ps)
-ports_formed [] h = All-nil IsDeclFormed
-ports_formed (p ∷ ps) h = go p.decl (All-head IsPortFormed p ps h) (ports_formed ps (All-tail IsPortFormed p ps h))
-  where
-    go : (o : Option DeclTree) → IsPortFormed (record { name = p.name; decl = o }) → All IsDeclFormed (filter_map (λ (p : PortTree). p.decl) ps) → All IsDeclFormed (cons_option o (filter_map (λ (p : PortTree). p.decl) ps))
-    go None f rest = rest
-    go (Some d) f rest = All-cons IsDeclFormed d (filter_map (λ (p : PortTree). p.decl) ps) f rest
-
 -- ---- visits
 
 -- a visit keeps designs well sized, and only declares further signals
-abbrev KeepsSizes : Visit → Type 0
+abbrev pub KeepsSizes : Visit → Type 0
 KeepsSizes v = (prefix : Text) (visiting : List Text) (m : ModuleTree) (overrides : Overrides) (ports : Stage → Stage) (d : Design) (e : Stage) → v prefix visiting m overrides ports d ≡ good e
     → IsModuleFormed m → AreWide overrides → OpensPorts m d ports → IsDesign d → IsDesign e.design × Grows d.entries e.design.entries
 
-module _ (modules : List ModuleTree) (formed : IsSourceFormed modules) where
-  found_formed : (x : Text) (ms : List ModuleTree) → IsSourceFormed ms → (m : ModuleTree) → find (λ (m : ModuleTree). bytes_eq m.name x) ms ≡ Some m → IsModuleFormed m
-  found_formed x [] h m e = absurd (search (rules, e))
-  found_formed x (n ∷ ms) h m e = go (bytes_eq n.name x) e (found_formed x ms (All-tail IsModuleFormed n ms h) m)
-    where
-      go : (b : Bool) → cond b (Some n) (find (λ (m : ModuleTree). bytes_eq m.name x) ms) ≡ Some m → (find (λ (m : ModuleTree). bytes_eq m.name x) ms ≡ Some m → IsModuleFormed m) → IsModuleFormed m
-      go true e k = subst IsModuleFormed (some_is n m e) (All-head IsModuleFormed n ms h)
-      go false e k = k e
+-- what a visit does of a module, whatever it does of the items
+pub level_sizes : (step : Stage → ItemTree → Outcome Stage) → ((s : Stage) (i : ItemTree) (t : Stage) → IsBodyFormed i.body → step s i ≡ good t → IsStage s → IsNext s t)
+    → (prefix : Text) (m : ModuleTree) (overrides : Overrides) (ports : Stage → Stage) (d : Design) (e : Stage)
+    → then_ (parameters overrides m (record { names = []; design = d })) (λ s. then_ (declarations prefix m s) (λ t.
+    then_ (header_values m (ports (with_resets (length d.entries) t))) (λ u. each step u m.items))) ≡ good e
+    → IsModuleFormed m → AreWide overrides → OpensPorts m d ports → IsDesign d → IsDesign e.design × Grows d.entries e.design.entries
+level_sizes step keeps prefix m overrides ports d e q f o k h =
+    let first : Stage = record { names = []; design = d } in
+    let a = good_then (parameters overrides m first) _ e q in
+    let b = good_then (declarations prefix m a.0) _ e a.2 in
+    let r = with_resets (length d.entries) b.0 in
+    let c = good_then (header_values m (ports r)) _ e b.2 in
+    let begun : IsDeclaring d first = record {
+      same = refl;
+      grows = grows_itself d.entries;
+      entries = h.entries;
+      names = All-nil _;
+      fresh = All-nil _;
+      plain = none_beyond d.entries;
+    } in
+    let fa = each_all IsParamIn (IsDeclaring d) (parameter overrides) (λ s q t w. parameter_declares d overrides o s q t w.1) first (params_of m) a.0 (params_formed m f) a.1 begun in
+    let fb = declarations_declare d prefix m a.0 b.0 b.1 fa in
+    let fr = resets_declare m d (length d.entries) b.0 fb (declarations_know_ports d prefix m a.0 b.0 b.1 fa) in
+    let opened = k r h fr.0 fr.1 in
+    let fo : IsBehind d (ports r) = record { stage = opened.stage; grows = opened.grows } in
+    let fc = each_all IsDeclFormed (IsBehind d) (λ s (x : DeclTree). declared_value s m.place x) (λ s x t w z y. next_behind d s t (value_next s y.stage m.place x.name x.init x.kind t w.2 z) y)
+    (ports r) (header_decls m) c.0 (header_formed m.ports f.ports) c.1 fo in
+    let fi = each_all (λ (x : ItemTree). IsBodyFormed x.body) (IsBehind d) step (λ s x t w z y. next_behind d s t (keeps s x t w z y.stage) y) c.0 m.items e f.items c.2 fc in
+    (fi.stage.design, fi.grows)
+  where
+    none_beyond : (es : List Entry) (i : ℕ) → length es ≤ i → top_at es i ≡ false
+    none_beyond es i l = told_none (λ (e : Entry). e.is_top_input) false es i l
 
+module _ (modules : List ModuleTree) (formed : IsSourceFormed modules) where
   module _ (visiting : List Text) (prefix : Text) (v : Visit) (keeps : KeepsSizes v) where
     instance_next : (s : Stage) → IsStage s → (p : Place) (m : ModuleTree) → IsModuleFormed m → (params : ConnsTree) (x : Text) (ports : ConnsTree) → IsBodyFormed (instance m.name params x ports) → (t : Stage)
         → instance_of modules visiting prefix v s p m params x ports ≡ good t → IsNext s t
@@ -120,7 +106,7 @@ module _ (modules : List ModuleTree) (formed : IsSourceFormed modules) where
           grows = k.1;
         }
 
-    item_next : (s : Stage) → IsStage s → (p : Place) (body : BodyTree) → IsBodyFormed body → (t : Stage) → item_of modules visiting prefix v s p body ≡ good t → IsNext s t
+    pub item_next : (s : Stage) → IsStage s → (p : Place) (body : BodyTree) → IsBodyFormed body → (t : Stage) → item_of modules visiting prefix v s p body ≡ good t → IsNext s t
     item_next s h p (param q) f t e = subst (IsNext s) (good_is s t e) (stays s h)
     item_next s h p (decl d) f t e = value_next s h p d.name d.init d.kind t f.2 e
     item_next s h p (assign x w) f t e = assign_next s h p x w t f.0 f.1 e
@@ -136,34 +122,9 @@ module _ (modules : List ModuleTree) (formed : IsSourceFormed modules) where
   visit_sizes : (n : ℕ) → KeepsSizes (visit modules n)
   visit_sizes zero prefix visiting m overrides ports d e q f o k h = absurd (search (rules, q))
   visit_sizes (suc n) prefix visiting m overrides ports d e q f o k h =
-      let first : Stage = record { names = []; design = d } in
-      let a = good_then (parameters overrides m first) _ e q in
-      let b = good_then (declarations prefix m a.0) _ e a.2 in
-      let r = with_resets (length d.entries) b.0 in
-      let c = good_then (header_values m (ports r)) _ e b.2 in
-      let begun : IsDeclaring d first = record {
-        same = refl;
-        grows = grows_itself d.entries;
-        entries = h.entries;
-        names = All-nil _;
-        fresh = All-nil _;
-        plain = none_beyond d.entries;
-      } in
-      let fa = each_all IsParamIn (IsDeclaring d) (parameter overrides) (λ s q t w. parameter_declares d overrides o s q t w.1) first (params_of m) a.0 (params_formed m f) a.1 begun in
-      let fb = declarations_declare d prefix m a.0 b.0 b.1 fa in
-      let fr = resets_declare m d (length d.entries) b.0 fb (declarations_know_ports d prefix m a.0 b.0 b.1 fa) in
-      let opened = k r h fr.0 fr.1 in
-      let fo : IsBehind d (ports r) = record { stage = opened.stage; grows = opened.grows } in
-      let fc = each_all IsDeclFormed (IsBehind d) (λ s (x : DeclTree). declared_value s m.place x) (λ s x t w z y. next_behind d s t (value_next s y.stage m.place x.name x.init x.kind t w.2 z) y)
-      (ports r) (header_decls m) c.0 (ports_formed m.ports f.ports) c.1 fo in
-      let fi = each_all (λ (x : ItemTree). IsBodyFormed x.body) (IsBehind d) (item modules visiting prefix (visit modules n))
-      (λ s x t w z y. next_behind d s t (item_next visiting prefix (visit modules n) (visit_sizes n) s y.stage x.place x.body w t z) y) c.0 m.items e f.items c.2 fc in
-      (fi.stage.design, fi.grows)
-    where
-      none_beyond : (es : List Entry) (i : ℕ) → length es ≤ i → top_at es i ≡ false
-      none_beyond es i l = told_none (λ (e : Entry). e.is_top_input) false es i l
+      level_sizes (item modules visiting prefix (visit modules n)) (λ s x t w z y. item_next visiting prefix (visit modules n) (visit_sizes n) s y x.place x.body w t z) prefix m overrides ports d e q f o k h
 
-no_design_is : (resets : List ResetPin) → IsDesign (no_design resets)
+pub no_design_is : (resets : List ResetPin) → IsDesign (no_design resets)
 no_design_is resets = record { entries = All-nil _; assigns = All-nil _; combs = All-nil _; clocked = All-nil _; outputs = All-nil _ }
 
 -- what an unfolding was before its drivers were tried
@@ -171,7 +132,7 @@ pub reached : (modules : List ModuleTree) → IsSourceFormed modules → (top : 
     → unfolded modules top resets named ≡ good f → (d : Design) × IsDesign d × (finished named d ≡ good f)
 reached modules formed top resets named f e =
     let g = good_then (modules_differ modules) (λ u. from_top modules resets named top (module_named top modules)) f e in
-    go (module_named top modules) (found_formed modules formed top modules formed) g.2
+    go (module_named top modules) (found_formed top modules formed) g.2
   where
     go : (o : Option ModuleTree) → ((m : ModuleTree) → o ≡ Some m → IsModuleFormed m) → from_top modules resets named top o ≡ good f → (d : Design) × IsDesign d × (finished named d ≡ good f)
     go None k e = absurd (search (rules, e))

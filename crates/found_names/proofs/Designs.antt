@@ -12,9 +12,10 @@ use Rattle.cell_graph.specs.Nets.{AreSized}
 use Rattle.clock_constraints.specs.declared.ClockPin.{ClockPin}
 use Rattle.clock_constraints.specs.declared.Constraints.{Constraints}
 use Rattle.domains.specs.declared.Domains.{Domains}
+use Rattle.domains.specs.Tables.{first_clock, first_signal}
 use Rattle.cdc_model.specs.Nets.{is_within}
 use Rattle.report.specs.Names.{bit_of}
-use Rattle.run_file.specs.Names.{bit_named, clock_named, signal_named}
+use Rattle.run_file.specs.Names.{bit_named}
 use Rattle.campaign.specs.Lines.{clock_name}
 use Rattle.campaign.specs.Names.{name_of}
 use Rattle.elaborate.specs.Words.{as_word, word_width}
@@ -71,11 +72,11 @@ module _ (ss : List Signal) (told : AllByRecursion IsTold ss) (differ : AreDiffe
       go None e = absurd (let f = none-past ss i e in omega (arith, f, l))
       go (Some s) e = (s, e)
 
-  pub signal-stands : (i : ℕ) → i < length ss → StandsFor (signal_named ss) (name_of ss i) i
+  pub signal-stands : (i : ℕ) → i < length ss → StandsFor (first_signal ss) (name_of ss i) i
   signal-stands i l =
       let (s, e) = item i l in
       let name : name_of ss i ≡ s.name = ap (λ (o : Option Signal). option_map_or (λ (r : Signal). r.name) o []) e in
-      (subst IsUtf8 (sym name) (printed-text s.name (of-told ss i s told e).printed), ap (signal_named ss) name ∙ signal-found 0 ss i s differ e ∙ ap Some (let f : 0 + i ≡ i = omega arith in f))
+      (subst IsUtf8 (sym name) (printed-text s.name (of-told ss i s told e).printed), ap (first_signal ss) name ∙ signal-found 0 ss i s differ e ∙ ap Some (let f : 0 + i ≡ i = omega arith in f))
 
   pub bit-stands : (b : Bit) (s : Signal) → slice_get ss b.sig ≡ Some s → b.at < s.width → StandsFor (bit_named ss) (bit_of ss b) b
   bit-stands b s e l =
@@ -110,17 +111,17 @@ module _ (word text con : List ℕ) (c : Constraints) (net : Net) (domains : Dom
   net-differ : AreDifferent (map (λ (s : Signal). s.name) net.graph.signals)
   net-differ = subst (λ (ss : List Signal). AreDifferent (map (λ (s : Signal). s.name) ss)) (sym is.of_modules.signals) differ
 
-  clock-stands : (k : ℕ) → k < length domains.clocks → StandsFor (clock_named domains.clocks) (clock_name domains k) k
+  clock-stands : (k : ℕ) → k < length domains.clocks → StandsFor (first_clock domains.clocks) (clock_name domains k) k
   clock-stands k l = go (slice_get domains.clocks k) refl
     where
-      go : (o : Option ClockPin) → slice_get domains.clocks k ≡ o → StandsFor (clock_named domains.clocks) (clock_name domains k) k
+      go : (o : Option ClockPin) → slice_get domains.clocks k ≡ o → StandsFor (first_clock domains.clocks) (clock_name domains k) k
       go None e = absurd (let f = none-past domains.clocks k e in omega (arith, f, l))
       go (Some p) e =
           let name : clock_name domains k ≡ p.name = ap (λ (o : Option ClockPin). option_map_or (λ (q : ClockPin). q.name) o []) e in
           let assigned = is.design.assigned in
           let (i, s, there, same) = clock-signal net.graph.signals c assigned.roles assigned.ports k p (sym (ap (λ (ks : List ClockPin). slice_get ks k) assigned.clocks) ∙ e) in (
             subst IsUtf8 (sym (name ∙ same)) (printed-text s.name (of-told net.graph.signals i s net-told there).printed),
-            ap (clock_named domains.clocks) name ∙ clock-found 0 domains.clocks k p is.design.can.fit.names e ∙ ap Some (let f : 0 + k ≡ k = omega arith in f),
+            ap (first_clock domains.clocks) name ∙ clock-found 0 domains.clocks k p is.design.can.fit.names e ∙ ap Some (let f : 0 + k ≡ k = omega arith in f),
           )
 
   bit-there : (b : Bit) → is_within net b ≡ true → StandsFor (bit_named net.graph.signals) (bit_of net.graph.signals b) b

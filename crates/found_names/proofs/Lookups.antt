@@ -12,7 +12,8 @@ use Rattle.cdc_base.specs.Bits.{bit_ending, bit_text, index_of}
 use Rattle.flat_unfolding.specs.Outcome.{Text}
 use Rattle.signal_names.specs.Laws.{AreDifferent, IsNotAmong}
 use Rattle.signal_names.specs.Paths.{IsPrinted, path_text}
-use Rattle.run_file.specs.Names.{bit_from, offset_named, or_other}
+use Rattle.domains.specs.Tables.{or_else}
+use Rattle.run_file.specs.Names.{bit_from, offset_named}
 use Rattle.found_names.proofs.Decimals.{near-same}
 use Rattle.found_names.proofs.Ranges.{IsRanged}
 use Rattle.found_names.proofs.Parts.{IsEnding, name-cut, tail-is}
@@ -113,15 +114,15 @@ signal-found k (r ∷ ss) (suc i) s h e =
 offset-none : (s : Signal) (t : Text) (n : ℕ) → ((j : ℕ) → j < n → t ≢ bit_text s j) → offset_named s t n ≡ None
 offset-none s t zero h = refl
 offset-none s t (suc n) h =
-    ap₂ (λ o (v : Bool). or_other o (if v then Some n else None)) (offset-none s t n (λ j l. h j (omega (arith, l)))) (bytes-differ t (bit_text s n) (h n (omega arith)))
+    ap₂ (λ o (v : Bool). or_else o (if v then Some n else None)) (offset-none s t n (λ j l. h j (omega (arith, l)))) (bytes-differ t (bit_text s n) (h n (omega arith)))
 
 offset-found : (s : Signal) (t : Text) (n at : ℕ) → at < n → t ≡ bit_text s at → ((j : ℕ) → j < n → t ≡ bit_text s j → j ≡ at) → offset_named s t n ≡ Some at
 offset-found s t zero at l is once = absurd (omega (arith, l))
 offset-found s t (suc n) at l is once = elim (cases_lt at n) [
-  | inl less ↦ ap (λ o. or_other o (if bytes_eq t (bit_text s n) then Some n else None)) (offset-found s t n at less is (λ j m e. once j (omega (arith, m)) e))
+  | inl less ↦ ap (λ o. or_else o (if bytes_eq t (bit_text s n) then Some n else None)) (offset-found s t n at less is (λ j m e. once j (omega (arith, m)) e))
   | inr more ↦ (
       let here : at ≡ n = omega (arith, l, more) in
-      ap₂ (λ o (v : Bool). or_other o (if v then Some n else None)) (offset-none s t n (λ j m e. let f = once j (omega (arith, m)) e in omega (arith, f, m, more)))
+      ap₂ (λ o (v : Bool). or_else o (if v then Some n else None)) (offset-none s t n (λ j m e. let f = once j (omega (arith, m)) e in omega (arith, f, m, more)))
       (bytes-same t (bit_text s n) (is ∙ ap (bit_text s) here)) ∙ ap Some (sym here)
       )
 ]
@@ -134,11 +135,11 @@ pub bit-found : (k : ℕ) (ss : List Signal) (i : ℕ) (s : Signal) (at : ℕ) �
 bit-found k [] i s at told h e is l = cc
 bit-found k (r ∷ ss) zero s at told h e is l =
     let same : r ≡ s = cc in
-    ap (λ (q : Signal). or_other (option_map (bit_at_offset k) (offset_named q (bit_text s at) q.width)) (bit_from (k + 1) ss (bit_text s at))) same
-    ∙ ap (λ o. or_other (option_map (bit_at_offset k) o) (bit_from (k + 1) ss (bit_text s at)))
+    ap (λ (q : Signal). or_else (option_map (bit_at_offset k) (offset_named q (bit_text s at) q.width)) (bit_from (k + 1) ss (bit_text s at))) same
+    ∙ ap (λ o. or_else (option_map (bit_at_offset k) o) (bit_from (k + 1) ss (bit_text s at)))
     (offset-found s (bit_text s at) s.width at l refl (λ j m f. one-bit s is.range j at m l (text-cut s s j at is.printed is.printed (sym f)).1))
     ∙ ap (λ (n : ℕ). Some (bit_at_offset n at)) (let f : k ≡ k + 0 = omega arith in f)
 bit-found k (r ∷ ss) (suc i) s at told h e is l =
-    ap (λ o. or_other (option_map (bit_at_offset k) o) (bit_from (k + 1) ss (bit_text s at)))
+    ap (λ o. or_else (option_map (bit_at_offset k) o) (bit_from (k + 1) ss (bit_text s at)))
     (offset-none r (bit_text s at) r.width (λ j m f. apart-from r.name ss i s h.0 e (text-cut r s j at told.0.printed is.printed (sym f)).0))
     ∙ bit-found (k + 1) ss i s at told.1 h.1 e is l ∙ ap (λ (n : ℕ). Some (bit_at_offset n at)) (let f : (k + 1) + i ≡ k + suc i = omega arith in f)

@@ -39,7 +39,7 @@ use Rattle.cdc_model.proofs.Synced.{syncs_are_all}
 use Rattle.obligations.specs.declared.arrivals.Copying.{Copying}
 use Rattle.obligations.specs.Arrivals.{IsCopying, copying_key, copyings_at, IsArrival, arrival_key, first_arrival, copy_of, copies_of}
 use Rattle.obligations.proofs.Copyings.{registers_listed}
-use Rattle.obligations.proofs.Keys.{bits_total, bits_same, bits_order, ascending, ascends}
+use Rattle.cdc_model.proofs.Keys.{bits_total, bits_same, bits_order, ascending, ascends}
 
 -- ---- lists
 

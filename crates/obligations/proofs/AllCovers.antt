@@ -18,7 +18,7 @@ use Rattle.cdc_model.proofs.Ascending.{here, later, in_map, from_map}
 use Rattle.cdc_model.proofs.Justify.{in_slice}
 use Rattle.cdc_model.proofs.Ordered.{never_before}
 use Rattle.obligations.specs.Covers.{cover_by_load, cover_by_sync, covers_by}
-use Rattle.obligations.proofs.Keys.{Ends, ends_cmp, ends_key, ends_order, ascending}
+use Rattle.cdc_model.proofs.Keys.{Ends, ends_cmp, ends_key, ends_order, ascending}
 
 -- ---- lists without equal items
 

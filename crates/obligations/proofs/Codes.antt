@@ -12,7 +12,7 @@ use Rattle.std.proofs.lemmas.Option.{slice_get-get_or}
 use Rattle.cdc_model.specs.declared.scheme.GrayReg.{GrayReg}
 use Rattle.cdc_model.specs.Ordered.{IsAscending, is_before}
 use Rattle.cdc_model.specs.Verdict.{gray_key, is_code}
-use Rattle.obligations.proofs.Keys.{found}
+use Rattle.cdc_model.proofs.Keys.{found}
 
 -- the first number of an earlier key isn't greater
 first_rises : (m n : ℕ) (ms ns : List ℕ) → is_before (m ∷ ms) (n ∷ ns) ≡ true → m ≤ n

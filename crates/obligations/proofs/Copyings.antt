@@ -27,7 +27,7 @@ use Rattle.cdc_model.proofs.Ordered.{never_before}
 use Rattle.cdc_model.proofs.Synced.{unlisted}
 use Rattle.obligations.specs.declared.arrivals.Copying.{Copying}
 use Rattle.obligations.specs.Arrivals.{IsCopying, copying_of, copyings_among, copying_key}
-use Rattle.obligations.proofs.Keys.{Ends, ends_cmp, ends_key, ends_order, ascending}
+use Rattle.cdc_model.proofs.Keys.{Ends, ends_cmp, ends_key, ends_order, ascending}
 
 -- ---- loops over lists
 

@@ -13,7 +13,7 @@ use Rattle.cell_graph.specs.Reading.{bit_eq}
 use Rattle.cdc_model.specs.Ordered.{IsAscending}
 use Rattle.obligations.specs.declared.arrivals.Copying.{Copying}
 use Rattle.obligations.specs.Arrivals.{copying_key, copyings_at}
-use Rattle.obligations.proofs.Keys.{Ends, ends_order, bits_total, sorted}
+use Rattle.cdc_model.proofs.Keys.{Ends, ends_order, bits_total, sorted}
 
 -- ---- a part of a list between two places
 

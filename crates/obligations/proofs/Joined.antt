@@ -14,7 +14,7 @@ use Rattle.cdc_model.specs.Schemes.{Trees, Sync, Ring}
 use Rattle.cdc_model.specs.Verdict.{Finding, V1, V2, V3, V4, V5, V6, V7, V8, IsFinding, bit_key, finding_key}
 use Rattle.cdc_model.proofs.Ascending.{ascending, joined_ascend, less_before, nothing_in}
 use Rattle.obligations.specs.Findings.{AreAdded, AreFindings, IsShownBy, finding_of, number_of}
-use Rattle.obligations.proofs.Keys.{ascends}
+use Rattle.cdc_model.proofs.Keys.{ascends}
 
 -- a finding's key begins with its number
 key_rest : Finding → List ℕ

@@ -11,7 +11,6 @@ pub mod FirstFlops
 pub mod Given
 pub mod Joined
 pub mod Judging
-pub mod Keys
 pub mod Lacks
 pub mod ListedGrays
 pub mod Lists

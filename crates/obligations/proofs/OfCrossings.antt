@@ -17,7 +17,7 @@ use Rattle.obligations.specs.declared.bare.Lack.TheVariants.{Flops, Hold, Gate, 
 use Rattle.obligations.specs.declared.bare.Uncovered.{Uncovered}
 use Rattle.obligations.specs.Bare.{AddsCrossings, finding_at, uncovered_key}
 use Rattle.obligations.specs.Findings.{AreAdded, IsShownBy, finding_of, number_of}
-use Rattle.obligations.proofs.Keys.{ascends}
+use Rattle.cdc_model.proofs.Keys.{ascends}
 use Rattle.obligations.proofs.Numbered.{with_number}
 
 -- the numbers of findings of crossings

@@ -30,7 +30,7 @@ use Rattle.obligations.specs.contracts.arrivals.FamilyEq.TheImpl.Laws.{laws-law}
 use Rattle.obligations.specs.Arrivals.{IsArrival, arrival_key, IsRead, AreReadsIn, AreMarked, read_key, by_bit, IsOfBits, AddsReaders}
 use Rattle.obligations.specs.Findings.{number_of}
 use Rattle.obligations.specs.Given.{AreFound, design_in, trees_in, syncs_in}
-use Rattle.obligations.proofs.Keys.{ascends}
+use Rattle.cdc_model.proofs.Keys.{ascends}
 use Rattle.obligations.proofs.ReadArrivals.{none_all, only_one}
 
 -- a bit of a marked signal is sought

@@ -10,7 +10,7 @@ use Rattle.obligations.specs.declared.arrivals.Read.{Read}
 use Rattle.obligations.specs.declared.arrivals.Source.{Source}
 use Rattle.obligations.specs.declared.arrivals.Source.TheVariants as source
 use Rattle.obligations.specs.Arrivals.{family_as, of_source, of_one_group, group_key}
-use Rattle.obligations.proofs.Keys.{ascends}
+use Rattle.cdc_model.proofs.Keys.{ascends}
 
 pub of_one_group_is : (r q : Read) → (of_one_group r q ≡ true) ↔ (group_key r ≡ group_key q)
 of_one_group_is r q = (λ h. ap (λ n. n ∷ []) (eqb-true r.group q.group h), λ h. eq-eqb r.group q.group (one h))

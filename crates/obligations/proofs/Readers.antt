@@ -32,7 +32,7 @@ use Rattle.obligations.specs.Findings.{number_of, IsShownBy}
 use Rattle.obligations.specs.Given.{design_in, trees_in, syncs_in}
 use Rattle.obligations.specs.Lots.{AreInLots, lots_of}
 use Rattle.obligations.proofs.AllArrivals.{are_syncs, register_at, one_place}
-use Rattle.obligations.proofs.Keys.{ascends}
+use Rattle.cdc_model.proofs.Keys.{ascends}
 use Rattle.obligations.proofs.Lots.{all_found, each_found, one_differs, some_differ}
 use Rattle.obligations.proofs.ReadArrivals.{of_one_group_is, kept_as, as_kept, kept_is, only_one}
 

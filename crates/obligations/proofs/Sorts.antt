@@ -8,7 +8,7 @@ use Rattle.cdc_model.specs.Ordered.{is_before}
 use Rattle.cdc_model.proofs.Ascending.{parts, nothing_in}
 use Rattle.cdc_model.proofs.Ordered.{never_before}
 use Rattle.obligations.specs.Lots.{Rises, AreInLots}
-use Rattle.obligations.proofs.Keys.{number_before, then_equal}
+use Rattle.cdc_model.proofs.Keys.{number_before, then_equal}
 use Rattle.obligations.proofs.Lots.{tied, before_through}
 
 pub same_test : (u v : Bool) → (u ≡ true → v ≡ true) → (v ≡ true → u ≡ true) → u ≡ v

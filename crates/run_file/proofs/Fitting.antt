@@ -19,6 +19,7 @@ use Rattle.cell_graph.proofs.Words.{bit-zero, bit_and-bit, bit_xor-bit}
 use Rattle.clock_constraints.specs.Refusals.{Text, broken, ◌>>=◌, required, unless}
 use Rattle.domains.specs.declared.Domains.{Domains}
 use Rattle.domains.specs.Nets.{is_register, register_signals, IsNet}
+use Rattle.domains.specs.Tables.{first_signal}
 use Rattle.cdc_model.specs.declared.record.Given.{Given}
 use Rattle.cdc_model.specs.declared.record.Race.{Race}
 use Rattle.cdc_model.specs.declared.record.Record.{Record}
@@ -35,7 +36,7 @@ use Rattle.run_file.specs.declared.document.RaceEntry.{RaceEntry}
 use Rattle.run_file.specs.declared.document.StepEntry.{StepEntry}
 use Rattle.run_file.specs.Files.{named, FitsNet}
 use Rattle.run_file.specs.Names as names
-use Rattle.run_file.specs.Names.{bit_named, each, given, has_start, input_value, is_wider, known, other_bits, passing, register_bit, signal_named, start_value, starting, state_bit}
+use Rattle.run_file.specs.Names.{bit_named, each, given, has_start, input_value, is_wider, known, other_bits, passing, register_bit, start_value, starting, state_bit}
 use Rattle.run_file.proofs.Places.{IsFoundAt, bit-found, text-same}
 
 -- ---- readings that came to their end
@@ -72,12 +73,12 @@ named_at t k (s ∷ ss) n e = go (bytes_eq t s.name) refl e (named_at t (k + 1) 
     go true h f ih = let same : k ≡ n = cc in (0, s, omega (arith, same), refl, text-same t s.name h)
     go false h f ih = let (place, r, at, there, is) = ih f in (suc place, r, omega (arith, at), there, is)
 
-signal_is : (signals : List Signal) (t : Text) (n : ℕ) → signal_named signals t ≡ Some n → (s : Signal) × (slice_get signals n ≡ Some s) × (t ≡ s.name)
+signal_is : (signals : List Signal) (t : Text) (n : ℕ) → first_signal signals t ≡ Some n → (s : Signal) × (slice_get signals n ≡ Some s) × (t ≡ s.name)
 signal_is signals t n e = let (place, s, at, there, is) = named_at t 0 signals n e in
     (s, subst (λ (k : ℕ). slice_get signals k ≡ Some s) (let f : place ≡ n = omega (arith, at) in f) there, is)
 
 -- names of one signal are one name
-one_signal : (signals : List Signal) (t u : Text) (m n : ℕ) → signal_named signals t ≡ Some m → signal_named signals u ≡ Some n → m ≡ n → t ≡ u
+one_signal : (signals : List Signal) (t u : Text) (m n : ℕ) → first_signal signals t ≡ Some m → first_signal signals u ≡ Some n → m ≡ n → t ≡ u
 one_signal signals t u m n e f same =
     let (r, at, is) = signal_is signals t m e in
     let (s, there, was) = signal_is signals u n f in
@@ -153,11 +154,11 @@ agreeing signals g s there h b v same start = go (bit_at s.known b.at) refl know
         (sym (ap₂ (λ x y. x && y) (bit_xor-bit g.value s.start b.at) e) ∙ bits) ∙ one
 
 module _ (net : Net) (domains : Domains) where
-  start_fits : (e : Entry) (g : Given) → start_value net domains e ≡ Ok g → IsStart net domains g × (signal_named net.graph.signals e.name ≡ Some g.sig)
+  start_fits : (e : Entry) (g : Given) → start_value net domains e ≡ Ok g → IsStart net domains g × (first_signal net.graph.signals e.name ≡ Some g.sig)
   start_fits e g h =
       let signals = net.graph.signals in
-      let (sig, first, rest) = bind_ok (known e.name (passing (is_state_signal net domains) (signal_named signals e.name))) (λ sig. given signals e sig >>= starting signals e.name) g h in
-      let (found, holds) = passing_some (is_state_signal net domains) (signal_named signals e.name) sig (required_ok 503 e.name (passing (is_state_signal net domains) (signal_named signals e.name)) sig first) in
+      let (sig, first, rest) = bind_ok (known e.name (passing (is_state_signal net domains) (first_signal signals e.name))) (λ sig. given signals e sig >>= starting signals e.name) g h in
+      let (found, holds) = passing_some (is_state_signal net domains) (first_signal signals e.name) sig (required_ok 503 e.name (passing (is_state_signal net domains) (first_signal signals e.name)) sig first) in
       let (s, there, is) = signal_is signals e.name sig found in
       let (r, second, last) = bind_ok (given signals e sig) (starting signals e.name) g rest in
       let (at, fits) = given_fits signals e sig s r there second in
@@ -168,17 +169,17 @@ module _ (net : Net) (domains : Domains) where
         fits = fits;
         agrees = agreeing signals r s rs same_start;
       } in
-      subst (λ (q : Given). IsStart net domains q × (signal_named signals e.name ≡ Some q.sig)) f (started, found ∙ ap Some (sym at))
+      subst (λ (q : Given). IsStart net domains q × (first_signal signals e.name ≡ Some q.sig)) f (started, found ∙ ap Some (sym at))
     where
       kept : (v : Bool) (name : Text) (r g : Given) → (if v then Ok r else Err (broken 509 name)) ≡ Ok g → (v ≡ true) × (r ≡ g)
       kept true name r g f = (refl, cc)
       kept false name r g f = cc
 
-  input_fits : (e : Entry) (g : Given) → input_value net domains e ≡ Ok g → IsInput net domains g × (signal_named net.graph.signals e.name ≡ Some g.sig)
+  input_fits : (e : Entry) (g : Given) → input_value net domains e ≡ Ok g → IsInput net domains g × (first_signal net.graph.signals e.name ≡ Some g.sig)
   input_fits e g h =
       let signals = net.graph.signals in
-      let (sig, first, rest) = bind_ok (known e.name (passing (is_clocked_input net domains) (signal_named signals e.name))) (given signals e) g h in
-      let (found, clocked) = passing_some (is_clocked_input net domains) (signal_named signals e.name) sig (required_ok 503 e.name (passing (is_clocked_input net domains) (signal_named signals e.name)) sig first) in
+      let (sig, first, rest) = bind_ok (known e.name (passing (is_clocked_input net domains) (first_signal signals e.name))) (given signals e) g h in
+      let (found, clocked) = passing_some (is_clocked_input net domains) (first_signal signals e.name) sig (required_ok 503 e.name (passing (is_clocked_input net domains) (first_signal signals e.name)) sig first) in
       let (s, there, is) = signal_is signals e.name sig found in
       let (at, fits) = given_fits signals e sig s g there rest in
       let input : IsInput net domains g = record { clocked = ap (is_clocked_input net domains) at ∙ clocked; fits = fits } in

@@ -16,7 +16,8 @@ use Rattle.cdc_base.specs.declared.fault.Stop.{Stop}
 use Rattle.cdc_base.specs.declared.fault.Stop.TheVariants.{Refused, Memory}
 use Rattle.clock_constraints.specs.Refusals.{Text, IsStop}
 use Rattle.refusals.specs.Numbers.{is_listed, HasNumberIn}
-use Rattle.run_file.specs.Names.{or_other, offset_named, bit_from}
+use Rattle.domains.specs.Tables.{or_else}
+use Rattle.run_file.specs.Names.{offset_named, bit_from}
 
 -- a place lies in its list
 pub place-few : {A : Type 0} (p : A → Bool) (xs : List A) (n : ℕ) → length xs ≤ n → IfSome (position p xs) (λ k. k < n)
@@ -59,7 +60,7 @@ offset-named s t (suc n) at e = go (offset_named s t n) refl e (offset-named s t
     here true f g = let same : n ≡ at = cc in (omega arith, subst (λ (k : ℕ). t ≡ bit_text s k) same (text-same t (bit_text s n) f))
     here false f g = cc
 
-    go : (o : Option ℕ) → offset_named s t n ≡ o → or_other o (if bytes_eq t (bit_text s n) then Some n else None) ≡ Some at
+    go : (o : Option ℕ) → offset_named s t n ≡ o → or_else o (if bytes_eq t (bit_text s n) then Some n else None) ≡ Some at
         → (offset_named s t n ≡ Some at → (at < n) × (t ≡ bit_text s at)) → (at < suc n) × (t ≡ bit_text s at)
     go (Some k) f g ih = let p = ih (f ∙ g) in (let l = p.0 in omega arith, p.1)
     go None f g ih = here (bytes_eq t (bit_text s n)) refl g
@@ -80,7 +81,7 @@ bit-found k (s ∷ ss) t b e = go (offset_named s t s.width) refl e (bit-found (
     later : IsFoundAt (k + 1) ss t b → IsFoundAt k (s ∷ ss) t b
     later f = record { place = suc f.place; sig = (let l = f.sig in omega arith); signal = f.signal; there = f.there; within = f.within; named = f.named }
 
-    go : (o : Option ℕ) → offset_named s t s.width ≡ o → or_other (option_map (λ at. record { sig = k; at = at }) o) (bit_from (k + 1) ss t) ≡ Some b
+    go : (o : Option ℕ) → offset_named s t s.width ≡ o → or_else (option_map (λ at. record { sig = k; at = at }) o) (bit_from (k + 1) ss t) ≡ Some b
         → (bit_from (k + 1) ss t ≡ Some b → IsFoundAt (k + 1) ss t b) → IsFoundAt k (s ∷ ss) t b
     go None f g ih = later (ih g)
     go (Some at) f g ih =

@@ -13,6 +13,7 @@ use Rattle.clock_constraints.specs.declared.ClockPin.{ClockPin}
 use Rattle.clock_constraints.specs.Refusals.{Text, broken, ◌>>=◌, required}
 use Rattle.domains.specs.declared.Domains.{Domains}
 use Rattle.domains.specs.Nets.{is_register}
+use Rattle.domains.specs.Tables.{or_else, first_signal, first_clock}
 use Rattle.cdc_model.specs.declared.record.Given.{Given}
 use Rattle.cdc_model.specs.declared.record.Race.{Race}
 use Rattle.cdc_model.specs.declared.record.RecordStep.{RecordStep}
@@ -21,27 +22,15 @@ use Rattle.run_file.specs.declared.document.Entry.{Entry}
 use Rattle.run_file.specs.declared.document.RaceEntry.{RaceEntry}
 use Rattle.run_file.specs.declared.document.StepEntry.{StepEntry}
 
--- the place of the first signal, and of the first clock, with this name
-abbrev pub signal_named : List Signal → Text → Option ℕ
-signal_named signals name = position_from (λ s. bytes_eq name s.name) 0 signals
-
-abbrev pub clock_named : List ClockPin → Text → Option ℕ
-clock_named clocks name = position_from (λ c. bytes_eq name c.name) 0 clocks
-
--- the first of two that is there
-abbrev pub or_other : {A : Type 0} → Option A → Option A → Option A
-or_other (Some x) o = Some x
-or_other None o = o
-
 -- the first of a signal's low bits with this printed name
 abbrev pub offset_named : Signal → Text → ℕ → Option ℕ
 offset_named s t zero = None
-offset_named s t (suc n) = or_other (offset_named s t n) (if bytes_eq t (bit_text s n) then Some n else None)
+offset_named s t (suc n) = or_else (offset_named s t n) (if bytes_eq t (bit_text s n) then Some n else None)
 
 -- the first bit of the signals from number k on with this printed name
 abbrev pub bit_from : ℕ → List Signal → Text → Option Bit
 bit_from k [] t = None
-bit_from k (s ∷ ss) t = or_other (option_map (λ at. record { sig = k; at = at }) (offset_named s t s.width)) (bit_from (k + 1) ss t)
+bit_from k (s ∷ ss) t = or_else (option_map (λ at. record { sig = k; at = at }) (offset_named s t s.width)) (bit_from (k + 1) ss t)
 
 abbrev pub bit_named : List Signal → Text → Option Bit
 bit_named signals t = bit_from 0 signals t
@@ -78,14 +67,14 @@ starting signals name g = if has_start signals g then Ok g else Err (broken 509 
 -- a start value, of a signal that holds state
 abbrev pub start_value : Net → Domains → Entry → Result Given Fault
 start_value net domains e = do
-  sig ← known e.name (passing (is_state_signal net domains) (signal_named net.graph.signals e.name))
+  sig ← known e.name (passing (is_state_signal net domains) (first_signal net.graph.signals e.name))
   g ← given net.graph.signals e sig
   starting net.graph.signals e.name g
 
 -- a value of a clocked input
 abbrev pub input_value : Net → Domains → Entry → Result Given Fault
 input_value net domains e = do
-  sig ← known e.name (passing (is_clocked_input net domains) (signal_named net.graph.signals e.name))
+  sig ← known e.name (passing (is_clocked_input net domains) (first_signal net.graph.signals e.name))
   given net.graph.signals e sig
 
 -- each item of a list in turn
@@ -97,7 +86,7 @@ each one (x ∷ xs) = do
   Ok (y ∷ ys)
 
 abbrev pub edge : List ClockPin → Text → Result ℕ Fault
-edge clocks name = known name (clock_named clocks name)
+edge clocks name = known name (first_clock clocks name)
 
 -- a bit of a register, and of any signal that holds state
 abbrev pub register_bit : Net → Text → Result Bit Fault

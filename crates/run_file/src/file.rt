@@ -13,12 +13,13 @@ use crate::document::Document;
 use crate::names::{start_values, steps};
 use crate::refusal::{NOT_JSON, TOO_MANY_STEPS, refuse};
 use crate::shape::document;
-use crate::table::{Names, bit_names};
+use crate::table::Names;
 use cdc_base::Stop;
 use cdc_base::limits::MAX_STEPS;
 use cdc_model::Record;
 use cell_graph::Net;
 use domains::Domains;
+use domains::table::bit_names;
 use serde_json::Value;
 use std::alloc::Global;
 

@@ -2,12 +2,13 @@
 ghost use Rattle.std.specs.Prelude.{◌≡◌, ◌^◌, ◌<◌, ◌≤◌, nat_le, length, IfSome, IfErr};
 ghost use Rattle.cdc_base.specs.declared.bit.Bit.{Bit};
 ghost use Rattle.domains.specs.Nets.{is_register};
+ghost use Rattle.domains.specs.Tables.{first_signal, first_clock};
 ghost use Rattle.settling_sim.specs.State.{has_kind};
 ghost use Rattle.refusals.specs.Numbers.{HasNumberIn};
 ghost use Rattle.run_file.specs.Numbers.{record_numbers};
 ghost use Rattle.clock_constraints.specs.Refusals.{Gives, IsStop};
 ghost use Rattle.run_file.specs.Tables.{CanName};
-ghost use Rattle.run_file.specs.Names.{signal_named, clock_named, bit_named, given, has_start, start_value, input_value, each, edge, register_bit, state_bit, other_bits, race, step};
+ghost use Rattle.run_file.specs.Names.{bit_named, given, has_start, start_value, input_value, each, edge, register_bit, state_bit, other_bits, race, step};
 
 use crate::document::{Entry, RaceEntry, StepEntry};
 use crate::refusal::{OTHER_START, TOO_WIDE, UNKNOWN_NAME, refuse};
@@ -28,7 +29,7 @@ fn unknown(alloc: Global, name: &Name) -> Stop
 
 /// The first signal with this name.
 fn signal_named(net: &Net, domains: &Domains, names: &Names, name: &str) -> Option<u32>
-    ensures { CanName net.now domains.now names.now → result ≡ signal_named net.now.graph.signals name.now }
+    ensures { CanName net.now domains.now names.now → result ≡ first_signal net.now.graph.signals name.now }
 {
     names.signals.get(name).copied()
 }
@@ -143,7 +144,7 @@ fn input_values(
 
 /// The number of the first clock with this name.
 fn clock_named(net: &Net, domains: &Domains, names: &Names, name: &str) -> Option<u32>
-    ensures { CanName net.now domains.now names.now → result ≡ clock_named domains.now.clocks name.now }
+    ensures { CanName net.now domains.now names.now → result ≡ first_clock domains.now.clocks name.now }
 {
     names.clocks.get(name).copied()
 }

@@ -34,7 +34,7 @@ or-no : (b : Bool) → (b || false) ≡ b
 or-no true = refl
 or-no false = refl
 
-marked : (n : ℕ) (es : List ℕ) (c : ℕ) → c < n → is_marked (mark_in (replicate n false) es) (Some c) ≡ has_edge es c
+pub marked : (n : ℕ) (es : List ℕ) (c : ℕ) → c < n → is_marked (mark_in (replicate n false) es) (Some c) ≡ has_edge es c
 marked n es c h =
     unwrap_or-slice_get (mark_in (replicate n false) es) c false
     ∙ mark-get (replicate n false) es c (let l = length-replicate n false in omega arith)

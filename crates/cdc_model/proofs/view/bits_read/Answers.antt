@@ -1,6 +1,5 @@
 -- The list of what the next value's node reads.
 use Rattle.std.proofs.Common.{◌∙◌, sym}
-use Rattle.cofactor.proofs.Places.{if_ok}
 use Rattle.cdc_model.proofs.Found.{net_ascends}
 use Rattle.cdc_model.proofs.ReadBits.{reads-of, reads-absent, two_if}
 use Rattle.cdc_model.proofs.view.bits_read.Goals as goal

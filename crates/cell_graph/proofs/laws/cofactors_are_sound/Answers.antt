@@ -1,4 +1,4 @@
-use Rattle.std.proofs.Common.{◌≡◌, sym, subst, Option, Some, Bool}
+use Rattle.std.proofs.Common.{subst, Option, Bool}
 use Rattle.cdc_base.specs.declared.bit.Bit.{Bit}
 use Rattle.cell_graph.specs.Tree.{bit}
 use Rattle.cell_graph.proofs.Sound.{Knows, IsBit, known_sound, same_sound, reads_sound}

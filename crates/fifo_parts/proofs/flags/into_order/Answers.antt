@@ -2,8 +2,8 @@
 use Rattle.std.proofs.Common.{sym, subst}
 use Rattle.std.specs.List.{Contains, dedup}
 use Rattle.std.proofs.lemmas.List.Filters.{dedup_is}
-use Rattle.std.proofs.lemmas.List.Kept.{Contains-dedup, Contains-from_dedup, IsStrictlySortedBy-dedup}
-use Rattle.std.proofs.lemmas.List.Sorted.{Contains-permutation, IsPermutation-sym}
+use Rattle.std.proofs.lemmas.List.Kept.{IsStrictlySortedBy-dedup}
+use Rattle.cell_graph.proofs.Once.{same_items}
 use Rattle.cdc_model.specs.Ordered.{IsAscending}
 use Rattle.fifo_parts.specs.contracts.flags.FlagOrd.TheImpl as order
 use Rattle.fifo_parts.specs.contracts.flags.FlagPartialEq.TheImpl as equality
@@ -13,14 +13,7 @@ use Rattle.fifo_parts.proofs.Keyed.{ascending}
 use Rattle.fifo_parts.proofs.flags.into_order.Goals as goal
 
 pub returns-clause-same : goal.returns-clause-same
-returns-clause-same c = λ f.
-    let is = dedup_is equality.ghosts.eq c.sort_unstable.new.self.items c.dedup.new.self.items c.dedup.ensures.filtered in (
-      λ h. Contains-permutation c.sort_unstable.new.self.items c.args.flags.items f
-          (IsPermutation-sym c.args.flags.items c.sort_unstable.new.self.items c.sort_unstable.ensures.permutation)
-          (Contains-from_dedup equality.ghosts.eq c.sort_unstable.new.self.items f (subst (λ xs. Contains xs f) is h)),
-      λ h. subst (λ xs. Contains xs f) (sym is) (Contains-dedup equal_flags same_flag c.sort_unstable.new.self.items f
-          (Contains-permutation c.args.flags.items c.sort_unstable.new.self.items f c.sort_unstable.ensures.permutation h)),
-    )
+returns-clause-same c = same_items equal_flags same_flag c.args.flags.items c.sort_unstable.new.self.items c.dedup.new.self.items c.sort_unstable.ensures.permutation c.dedup.ensures.filtered
 
 pub returns-clause-ordered : goal.returns-clause-ordered
 returns-clause-ordered c =

@@ -2,8 +2,8 @@
 use Rattle.std.proofs.Common.{sym, subst}
 use Rattle.std.specs.List.{Contains, dedup}
 use Rattle.std.proofs.lemmas.List.Filters.{dedup_is}
-use Rattle.std.proofs.lemmas.List.Kept.{Contains-dedup, Contains-from_dedup, IsStrictlySortedBy-dedup}
-use Rattle.std.proofs.lemmas.List.Sorted.{Contains-permutation, IsPermutation-sym}
+use Rattle.std.proofs.lemmas.List.Kept.{IsStrictlySortedBy-dedup}
+use Rattle.cell_graph.proofs.Once.{same_items}
 use Rattle.cdc_model.specs.Ordered.{IsAscending}
 use Rattle.fifo_scheme.specs.contracts.found.EndedOrd.TheImpl as order
 use Rattle.fifo_scheme.specs.contracts.found.EndedPartialEq.TheImpl as equality
@@ -13,14 +13,7 @@ use Rattle.fifo_scheme.proofs.Order.{equal_ends, same_end, ties, ends_order}
 use Rattle.fifo_scheme.proofs.found.into_order.Goals as goal
 
 pub returns-clause-same : goal.returns-clause-same
-returns-clause-same c = λ e.
-    let is = dedup_is equality.ghosts.eq c.sort_unstable.new.self.items c.dedup.new.self.items c.dedup.ensures.filtered in (
-      λ h. Contains-permutation c.sort_unstable.new.self.items c.args.ended.items e
-          (IsPermutation-sym c.args.ended.items c.sort_unstable.new.self.items c.sort_unstable.ensures.permutation)
-          (Contains-from_dedup equality.ghosts.eq c.sort_unstable.new.self.items e (subst (λ xs. Contains xs e) is h)),
-      λ h. subst (λ xs. Contains xs e) (sym is) (Contains-dedup equal_ends same_end c.sort_unstable.new.self.items e
-          (Contains-permutation c.args.ended.items c.sort_unstable.new.self.items e c.sort_unstable.ensures.permutation h)),
-    )
+returns-clause-same c = same_items equal_ends same_end c.args.ended.items c.sort_unstable.new.self.items c.dedup.new.self.items c.sort_unstable.ensures.permutation c.dedup.ensures.filtered
 
 pub returns-clause-ordered : goal.returns-clause-ordered
 returns-clause-ordered c =

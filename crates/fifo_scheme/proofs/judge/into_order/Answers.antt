@@ -6,10 +6,10 @@ use Rattle.std.specs.List.{Contains, dedup}
 use Rattle.std.specs.List.Sorted.{IsStrictlySortedBy}
 use Rattle.std.specs.Ordering.{eq_by_cmp, nat_cmp}
 use Rattle.std.proofs.lemmas.List.Filters.{dedup_is}
-use Rattle.std.proofs.lemmas.List.Kept.{Contains-dedup, Contains-from_dedup, IsStrictlySortedBy-dedup}
-use Rattle.std.proofs.lemmas.List.Sorted.{Contains-permutation, IsPermutation-sym}
+use Rattle.std.proofs.lemmas.List.Kept.{IsStrictlySortedBy-dedup}
 use Rattle.std.proofs.lemmas.Map.Keys.{below_from_sorted}
 use Rattle.std.proofs.lemmas.Option.{get_or_from_slice_get, slice_get_within}
+use Rattle.cell_graph.proofs.Once.{same_items}
 use Rattle.fifo_scheme.specs.Met.{ArePlacesInOrder}
 use Rattle.fifo_scheme.proofs.judge.into_order.Goals as goal
 
@@ -27,14 +27,7 @@ in_order ns h i j m n l e f =
     omega arith
 
 pub returns-clause-same : goal.returns-clause-same
-returns-clause-same c = λ n.
-    let is = dedup_is nat_eq c.sort_unstable.new.self.items c.dedup.new.self.items c.dedup.ensures.filtered in (
-      λ h. Contains-permutation c.sort_unstable.new.self.items c.args.places.items n
-          (IsPermutation-sym c.args.places.items c.sort_unstable.new.self.items c.sort_unstable.ensures.permutation)
-          (Contains-from_dedup nat_eq c.sort_unstable.new.self.items n (subst (λ xs. Contains xs n) is h)),
-      λ h. subst (λ xs. Contains xs n) (sym is) (Contains-dedup nat_eq_equiv equal_is c.sort_unstable.new.self.items n
-          (Contains-permutation c.args.places.items c.sort_unstable.new.self.items n c.sort_unstable.ensures.permutation h)),
-    )
+returns-clause-same c = same_items nat_eq_equiv equal_is c.args.places.items c.sort_unstable.new.self.items c.dedup.new.self.items c.sort_unstable.ensures.permutation c.dedup.ensures.filtered
 
 pub returns-clause-ordered : goal.returns-clause-ordered
 returns-clause-ordered c =

@@ -5,9 +5,9 @@ use Rattle.verilog_reading.specs.SourceTree.{ParamTree, param_of as tree_of_para
 use Rattle.flat_unfolding.specs.Outcome.{good, each}
 use Rattle.flat_unfolding.specs.Parameters.{parameter, parameters}
 use Rattle.flat_unfolding.specs.Formed.{IsParamFormed}
+use Rattle.flat_unfolding.proofs.Formed.{params_formed}
 use Rattle.flat_declarations.specs.Declaring.{MeetsFit, override_of, IsGivenSized}
 use Rattle.flat_declarations.proofs.Ended.{then-good, walk-ok, walk-err, walk-skip, walk-end, IsWalk, walk-begin, walk-on}
-use Rattle.flat_declarations.proofs.Formed.{params-formed}
 use Rattle.flat_declarations.proofs.Walks.{params_left, inner_left, params-next, params-done, inner-next, inner-done, a-param, no-param, all-inner}
 use Rattle.flat_declarations.proofs.parameter.add_parameters.Goals as goal
 use Rattle.flat_declarations.proofs.parameter.add_parameters.Goals.{in-Param+in_ok-add_parameter-2, in_default}
@@ -34,7 +34,7 @@ pub loop-param-init : goal.loop-param-init
 loop-param-init c = λ pins s given sh is so fo formed.
     let m = c.args.module.now in
     walk-begin pins (parameter given) (λ t. good t) (λ (q : Place × ParamTree). IsParamFormed q.1) c.args.names.now c.args.design.now s (params_left m 0) (parameters given (module_of m) s)
-    (sym (then-good (each (parameter given) s (params_left m 0)))) sh is (params-formed (module_of m) formed)
+    (sym (then-good (each (parameter given) s (params_left m 0)))) sh is (params_formed (module_of m) formed)
 
 pub loop-item-init : goal.loop-item-init
 loop-item-init c = λ pins s given sh is so fo formed.

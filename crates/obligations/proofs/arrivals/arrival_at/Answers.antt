@@ -5,7 +5,7 @@ use Rattle.std.proofs.lemmas.List.Sorted.{answers_always}
 use Rattle.cdc_base.specs.contracts.bit.BitOrd.TheImpl as order
 use Rattle.cdc_model.specs.declared.scheme.Arrival.{Arrival}
 use Rattle.cdc_model.specs.Verdict.{bit_key}
-use Rattle.obligations.proofs.Keys.{found, sorted, bits_order, bits_total, bits_same}
+use Rattle.cdc_model.proofs.Keys.{found, sorted, bits_order, bits_total, bits_same}
 use Rattle.obligations.proofs.arrivals.arrival_at.Goals as goal
 
 never : false ≡ true → ⊥

@@ -2,7 +2,7 @@
 use Rattle.std.proofs.Common.{◌∙◌, rules, sym, ap, ap₂}
 use Rattle.std.proofs.lemmas.List.Sorted.{answers_always}
 use Rattle.cdc_model.specs.declared.scheme.Cover.{Cover}
-use Rattle.obligations.proofs.Keys.{Ends, ends_cmp, ends_key, ends_order, found, sorted}
+use Rattle.cdc_model.proofs.Keys.{Ends, ends_cmp, ends_key, ends_order, found, sorted}
 use Rattle.obligations.proofs.bare.is_covered.Goals as goal
 
 pub returns : goal.returns

@@ -2,7 +2,7 @@
 use Rattle.std.proofs.Common.{◌∙◌, rules, refl, sym, ap, ap₂, subst, Contains}
 use Rattle.std.proofs.lemmas.List.Sorted.{answers_always}
 use Rattle.cdc_model.specs.declared.scheme.Crossing.{Crossing}
-use Rattle.obligations.proofs.Keys.{Ends, ends_cmp, ends_key, ends_order, found, sorted}
+use Rattle.cdc_model.proofs.Keys.{Ends, ends_cmp, ends_key, ends_order, found, sorted}
 use Rattle.obligations.proofs.bare.is_extra.Goals as goal
 
 pub returns : goal.returns

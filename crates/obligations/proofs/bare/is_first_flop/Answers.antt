@@ -5,7 +5,7 @@ use Rattle.cdc_model.specs.declared.scheme.Sync.{Sync as SyncEntry}
 use Rattle.cdc_model.specs.Listed.{sync_entry}
 use Rattle.cdc_model.specs.Ordered.{IsAscending}
 use Rattle.cdc_model.proofs.Ascending.{in_map, from_map}
-use Rattle.obligations.proofs.Keys.{there_cmp, there_key, there_order, found, sorted, mapped_ascending}
+use Rattle.cdc_model.proofs.Keys.{there_cmp, there_key, there_order, found, sorted, mapped_ascending}
 use Rattle.obligations.proofs.bare.is_first_flop.Goals as goal
 
 pub returns : goal.returns

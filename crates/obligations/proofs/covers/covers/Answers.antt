@@ -9,7 +9,7 @@ use Rattle.obligations.specs.Covers.{cover_by_load, cover_by_sync, covers_by}
 use Rattle.obligations.specs.Given.{syncs_in}
 use Rattle.obligations.proofs.AllCovers.{all_covers}
 use Rattle.obligations.proofs.Given.{all_syncs, few, loads_apart}
-use Rattle.obligations.proofs.Keys.{Ends}
+use Rattle.cdc_model.proofs.Keys.{Ends}
 use Rattle.obligations.proofs.covers.covers.Goals as goal
 
 pub returns : goal.returns

@@ -6,7 +6,7 @@ use Rattle.std.specs.Result.{is_ok}
 use Rattle.obligations.specs.Lots.{AreInLots}
 use Rattle.obligations.specs.Words.{of_one_bit, entry_key}
 use Rattle.handshake.proofs.Pairs.{when_ok}
-use Rattle.obligations.proofs.Keys.{bit_before}
+use Rattle.cdc_model.proofs.Keys.{bit_before}
 use Rattle.obligations.proofs.Sorts.{in_lots, last_before}
 use Rattle.obligations.proofs.Entering.{of_one_bit_is}
 use Rattle.obligations.proofs.words.by_bit.Goals as goal

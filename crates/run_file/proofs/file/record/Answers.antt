@@ -1,6 +1,6 @@
 use Rattle.std.proofs.Common.{◌≡◌, ◌∙◌, ◌≤◌, ◌^◌, List, length, subst}
 use Rattle.cdc_base.specs.declared.signal.Signal.{Signal}
-use Rattle.run_file.specs.Tables.{bit_names}
+use Rattle.domains.specs.Tables.{bit_names}
 use Rattle.run_file.proofs.file.record.Goals as goal
 
 pub returns-clause-gives : goal.returns-clause-gives

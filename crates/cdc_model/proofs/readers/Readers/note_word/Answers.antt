@@ -1,5 +1,5 @@
 -- The bits that one bit more of the cell reads are noted.
-use Rattle.std.proofs.Common.{◌≡◌, ◌∙◌, sym, ap, subst, arith, cond, length, []}
+use Rattle.std.proofs.Common.{◌≡◌, ◌∙◌, sym, ap, subst, arith, cond, []}
 use Rattle.cell_graph.specs.Cofactor.{reads}
 use Rattle.cell_graph.specs.Tree.{any_below}
 use Rattle.cell_graph.specs.Unfolded.{tree_of}

@@ -1,7 +1,5 @@
 -- A span ends within the list of readers.
 use Rattle.std.proofs.Common.{◌≡◌, ◌∙◌, sym, ap, arith, Some, None, length, slice_get}
-use Rattle.std.proofs.lemmas.Grind.{common_steps}
-use Rattle.std.proofs.lemmas.Option.{slice_get_past}
 use Rattle.cdc_model.specs.Readers.{Kept, place_in}
 use Rattle.cdc_model.proofs.Noted.{laid_at, found_at, not_found}
 use Rattle.cdc_model.proofs.readers.Readers.place.Goals as goal

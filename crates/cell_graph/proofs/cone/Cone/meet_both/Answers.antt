@@ -1,5 +1,4 @@
 use Rattle.cell_graph.proofs.Cones.{on_ok, met_in_turn}
-use Rattle.cell_graph.specs.declared.cell.CellId.{CellId}
 use Rattle.cell_graph.proofs.cone.Cone.meet_both.Goals as goal
 
 pub returns-clause-only : goal.returns-clause-only

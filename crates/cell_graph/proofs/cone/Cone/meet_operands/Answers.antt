@@ -1,4 +1,4 @@
-use Rattle.std.proofs.Common.{rules, ◌≡◌, ◌⊎◌, sym, subst, inl, inr}
+use Rattle.std.proofs.Common.{sym, subst}
 use Rattle.cell_graph.specs.Below.{IsOperand}
 use Rattle.cell_graph.proofs.Cones.{on_ok, met_in_turn, met_more, both_operands}
 use Rattle.cell_graph.proofs.cone.Cone.meet_operands.Goals as goal

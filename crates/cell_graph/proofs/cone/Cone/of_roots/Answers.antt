@@ -1,4 +1,4 @@
-use Rattle.std.proofs.Common.{rules, arith, ◌≡◌, ◌∙◌, ◌<◌, ◌⊎◌, inl, inr, sym, subst, length, take, get_or}
+use Rattle.std.proofs.Common.{arith, inl, inr, sym, subst}
 use Rattle.std.specs.List.{Contains}
 use Rattle.cell_graph.specs.declared.cell.CellId.{CellId}
 use Rattle.std.proofs.lemmas.List.Elements.{Contains-get_or}

@@ -1,5 +1,4 @@
-use Rattle.std.proofs.Common.{◌≡◌, ◌∙◌, sym, ap, rules, arith, length, ℕ, ◌++◌, ◌∷◌, [], None}
-use Rattle.std.proofs.lemmas.Grind.{common_steps}
+use Rattle.std.proofs.Common.{◌≡◌, ◌∙◌, sym, ap, rules, arith, length, ◌++◌, ◌∷◌, [], None}
 use Rattle.std.proofs.lemmas.List.{length-map, map-append}
 use Rattle.cell_graph.specs.declared.cell.Entry.{Entry}
 use Rattle.cell_graph.specs.Cells.{Cells, place_in, width_of, widths}

@@ -1,4 +1,4 @@
-use Rattle.std.proofs.Common.{◌≡◌, ◌<◌, ◌≤◌, sym, arith}
+use Rattle.std.proofs.Common.{sym, arith}
 use Rattle.cell_graph.specs.Cells.{cell_width}
 use Rattle.cell_graph.proofs.FeedLists.{bit_at-is, bits_from-past}
 use Rattle.cell_graph.proofs.graph.Graph.bit_number.Goals as goal

@@ -1,4 +1,4 @@
-use Rattle.std.proofs.Common.{◌≡◌, ◌∙◌, ◌-◌, ◌<◌, ◌≤◌, sym, arith}
+use Rattle.std.proofs.Common.{◌∙◌, ◌-◌, sym, arith}
 use Rattle.cell_graph.specs.Cells.{cell_width}
 use Rattle.cell_graph.specs.Feeds.{all_bits}
 use Rattle.cell_graph.proofs.FeedLists.{both-left, both-right, length-bits_from}

@@ -1,8 +1,8 @@
-use Rattle.std.proofs.Common.{rules, arith, ◌≡◌, ◌∙◌, ◌<◌, ◌≤◌, ◌⊎◌, inl, inr, sym, ap, subst, length, Some, slice_get}
+use Rattle.std.proofs.Common.{arith, ◌≤◌, ◌⊎◌, sym, subst, length}
 use Rattle.std.specs.List.{Contains}
 use Rattle.cell_graph.specs.declared.cell.CellId.{CellId}
 use Rattle.cell_graph.specs.Cells.{cell_at}
-use Rattle.cell_graph.specs.Below.{IsOperand, IsBelow, root}
+use Rattle.cell_graph.specs.Below.{IsOperand, root}
 use Rattle.cell_graph.proofs.CellValues.{none-past}
 use Rattle.cell_graph.proofs.Cones.{get_contains, below-within, more_closed, more_below}
 use Rattle.cell_graph.proofs.graph.Graph.cells_below.Goals.{else-loop-place-test, then-loop-place-test+in_default}

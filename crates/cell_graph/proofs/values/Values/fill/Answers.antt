@@ -1,4 +1,4 @@
-use Rattle.std.proofs.Common.{rules, arith, ◌≡◌, ◌∙◌, length, ℕ, ◌+◌, ◌<◌, sym, set, ap, refl}
+use Rattle.std.proofs.Common.{arith, ◌≡◌, ◌∙◌, length, ap, refl}
 use Rattle.cell_graph.specs.declared.cell.CellId.{CellId}
 use Rattle.cell_graph.specs.Cells.{cell_width, cell_at}
 use Rattle.cell_graph.specs.Values.{cell_word}

@@ -1,4 +1,4 @@
-use Rattle.std.proofs.Common.{◌≡◌, length, ℕ, ◌<◌}
+use Rattle.std.proofs.Common.{◌≡◌, length, ◌<◌}
 use Rattle.cell_graph.specs.declared.cell.CellId.{CellId}
 use Rattle.cell_graph.specs.Unfolded.{IsWellFormed, tree_of}
 use Rattle.cell_graph.specs.Values.{AreWordsOf, reading_of, tree_value, word_at}

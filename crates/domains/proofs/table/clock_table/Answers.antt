@@ -1,7 +1,7 @@
 use Rattle.std.proofs.Common.{arith}
 use Rattle.std.proofs.lemmas.Grind.{common_steps}
-use Rattle.run_file.proofs.Tables.{or-step, or-none}
-use Rattle.run_file.proofs.table.clock_table.Goals as goal
+use Rattle.domains.proofs.Names.{or-step, or-none}
+use Rattle.domains.proofs.table.clock_table.Goals as goal
 
 pub loop-place-preserved : goal.loop-place-preserved
 loop-place-preserved c = λ few q. grind (arith, common_steps, or-step, c.loop-place.invariant few q)

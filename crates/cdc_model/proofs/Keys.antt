@@ -1,4 +1,4 @@
--- Orders that the code sorts and searches by, as keys.
+-- Orders that code sorts and searches by, as keys.
 use Rattle.std.proofs.Common.{◌≡◌, ◌∙◌, ◌↔◌, inl, inr, refl, sym, ap, subst, arith, rules, ℕ, suc, ◌+◌, ◌<◌, nat_lt, ◌==◌, ◌&&◌, ◌||◌, Bool, true, false, cond, Option, Some, None, option_map, List, map, [], ◌∷◌, length, get_or, slice_get, Contains, Result, Ok, Err, Ordering, Less, Equal, Greater}
 use Rattle.std.specs.Cmp.{IsTotalOrder}
 use Rattle.std.specs.Cmp.Lexicographic.{options_total}

@@ -1,6 +1,0 @@
-use Rattle.std.proofs.Common.{◌≡◌, ◌++◌}
-use Rattle.cert_text.specs.Names.{names_of_bits}
-use Rattle.cert_text.proofs.names.add_bits.Given as goal
-
-abbrev pub invariant-loop-at : goal.invariant-loop-at
-invariant-loop-at l = l.names.items ≡ l.initial.names.items ++ names_of_bits l.sig l.signal l.at

@@ -1,6 +1,0 @@
-use Rattle.std.proofs.Common.{◌≡◌, ◌≤◌, ◌^◌, ◌++◌, drop, length}
-use Rattle.cert_text.specs.Names.{bit_names}
-use Rattle.cert_text.proofs.names.bit_names.Given as goal
-
-abbrev pub invariant-loop-place : goal.invariant-loop-place
-invariant-loop-place l = length l.signals ≤ 2 ^ 32 → bit_names 0 l.signals ≡ l.names.items ++ bit_names l.place (drop l.place l.signals)
