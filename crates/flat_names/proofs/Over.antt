@@ -1,8 +1,8 @@
 -- A unary expression over another one, by its operator or as a difference from 0.
-use Rattle.std.proofs.Common.{◌≡◌, ℕ, ◌^◌, ◌<◌, ◌≤◌, max, Bool, true, false, ◌&&◌, Option, Some, None, refl, sym, ap, ap₂, ◌∙◌, arith, lt-ltb, pow_pos}
+use Rattle.std.proofs.Common.{◌≡◌, ℕ, ◌^◌, max, Bool, true, false, ◌&&◌, Some, None, refl, sym, ap, ap₂, ◌∙◌, arith, lt-ltb, pow_pos}
 use Rattle.std.specs.Option.{option_map_or}
 use Rattle.verilog_ast.specs.declared.UnaryOp.{UnaryOp}
-use Rattle.flat_meaning.specs.Flat.{Expr, Number, Unary, Binary, minus, size, unary_size}
+use Rattle.flat_meaning.specs.Flat.{Number, Unary, Binary, minus, unary_size}
 use Rattle.flat_meaning.specs.Law.{expr_reads}
 use Rattle.flat_form.specs.declared.flat.FExpr.{FExpr}
 use Rattle.flat_form.specs.declared.flat.FExpr.TheVariants as f
@@ -11,7 +11,7 @@ use Rattle.flat_form.specs.View.{expr_of, unary_of}
 use Rattle.flat_form.specs.Sizes.{Kept, kept_of, is_sized}
 use Rattle.flat_form.proofs.Folds.{expr_of-Number, kept_of-Number}
 use Rattle.flat_form.proofs.Sized.{sized_width, sized_word}
-use Rattle.flat_unfolding.specs.Constants.{plain_unary, own_unary}
+use Rattle.flat_unfolding.specs.Constants.{plain_unary}
 use Rattle.flat_unfolding.specs.Expressions.{unary_expr}
 use Rattle.flat_names.specs.Pieces.{Makes, IsOver}
 

@@ -35,7 +35,7 @@ use Rattle.flat_names.specs.Looks.{meaning_of, kept_in, as_value, meant, one_if,
 use Rattle.flat_names.specs.Noting.{Noted, noted, all_noted}
 use Rattle.flat_names.specs.declared.signs.Signs.{Signs}
 use Rattle.flat_names.specs.Signs.{no_signs}
-use Rattle.flat_names.specs.Pieces.{IsRead, Makes, SameReads, out_of_range, count_notes}
+use Rattle.flat_names.specs.Pieces.{IsRead, Makes, SameReads, out_of_range}
 use Rattle.flat_names.specs.Selects.{is_param, index_at, index_of, part_at, bound_notes, second_notes, part_in, part_notes, StandsFor, IsSelected}
 use Rattle.flat_names.proofs.Options.{none-some, some-same}
 use Rattle.flat_names.proofs.Notes.{noted-both}

@@ -1,5 +1,5 @@
 -- The flat design as it grows: what the tables show of the definition's stage.
-use Rattle.std.specs.Prelude.{◌≡◌, ℕ, ◌<◌, false, cond, ◌==◌, List, [], ◌∷◌, map, Option, Some, None, is_some, unwrap_or, Result, Ok, Err, option_map, option_and_then, slice_get, bytes_eq}
+use Rattle.std.specs.Prelude.{◌≡◌, ℕ, ◌<◌, false, List, map, Option, Some, None, is_some, unwrap_or, Result, Ok, Err, option_map, option_and_then, slice_get, bytes_eq}
 use Rattle.std.specs.Option.{option_map_or}
 use Rattle.indexmap.specs.IndexMap.{IndexMap}
 use Rattle.cdc_base.specs.declared.fault.Place.{Place}

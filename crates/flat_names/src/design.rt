@@ -1,5 +1,5 @@
 //! The flat design as it grows, with what is known of each signal beyond its printed form.
-ghost use Rattle.std.specs.Prelude.{◌≡◌, List, slice_get};
+ghost use Rattle.std.specs.Prelude.{◌≡◌, List, false, slice_get};
 ghost use Rattle.std.specs.Option.{option_map_or};
 ghost use Rattle.cdc_base.specs.declared.signal.ResetPin as pin;
 ghost use Rattle.flat_unfolding.specs.Design.{no_design};

@@ -1,4 +1,3 @@
-use Rattle.std.proofs.Common.{ap, ◌∙◌}
 use Rattle.flat_names.proofs.Options.{ok-map}
 use Rattle.flat_names.proofs.Over.{makes-opposite}
 use Rattle.flat_names.proofs.resolved.opposite.Goals as goal

@@ -1,4 +1,4 @@
-use Rattle.std.proofs.Common.{Some, ap, sym, ◌∙◌, arith}
+use Rattle.std.proofs.Common.{sym, ◌∙◌, arith}
 use Rattle.flat_names.proofs.Selected.{count-small}
 use Rattle.flat_names.proofs.select.count.Goals as goal
 
