@@ -1,0 +1,5 @@
+pub mod Looks
+pub mod Terms
+pub mod Bits
+pub mod Aims
+pub mod Stmts
