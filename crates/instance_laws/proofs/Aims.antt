@@ -70,7 +70,7 @@ module _ (k : ℕ) where
         go (Some s) = refl
 
 -- what passes a test after a change
-any_mapped : {A B : Type 0} (f : B → Bool) (g : A → B) (h : A → Bool) → ((a : A) → f (g a) ≡ h a) → (xs : List A) → list_any f (map g xs) ≡ list_any h xs
+pub any_mapped : {A B : Type 0} (f : B → Bool) (g : A → B) (h : A → Bool) → ((a : A) → f (g a) ≡ h a) → (xs : List A) → list_any f (map g xs) ≡ list_any h xs
 any_mapped f g h e [] = refl
 any_mapped f g h e (x ∷ xs) = ap₂ (λ p q. p || q) (e x) (any_mapped f g h e xs)
 

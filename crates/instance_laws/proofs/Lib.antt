@@ -3,3 +3,5 @@ pub mod Terms
 pub mod Bits
 pub mod Aims
 pub mod Stmts
+pub mod Follows
+pub mod Unreset
