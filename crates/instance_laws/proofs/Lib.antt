@@ -5,3 +5,4 @@ pub mod Aims
 pub mod Stmts
 pub mod Follows
 pub mod Unreset
+pub mod Processes

@@ -18,6 +18,10 @@ use Rattle.flat_unfolding.specs.Resets.{peeled, Tested, signals_among, is_reset,
 use Rattle.flat_unfolding.specs.Processes.{has_form, is_rising, first_edge, are_two, meant_signal, edge_signal, names_reset, reset_edge, clock_edge, clock_of, form_of, clocked_rules, reset_gives, reset_branch, body_with, clocked_process}
 use Rattle.flat_unfolding.specs.Design.{Given, Design, Stage, look_of, with_design}
 
+abbrev pub first_of : List Edge → Option Edge
+first_of [] = None
+first_of (c ∷ rest) = Some c
+
 same_both : {A : Type 0} (c : Bool) (a : A) → cond c a a ≡ a
 same_both true a = refl
 same_both false a = refl
@@ -128,10 +132,6 @@ module _ (look : Look) (none : (x : Text) (s : ℕ) → meaning look x ≡ Some 
   no_reset_edge (c ∷ []) = refl
   no_reset_edge (c ∷ e ∷ []) = ap₂ (λ a b. cond a (cond b None (Some e)) (cond b (Some c) None)) (no_edge e) (no_edge c)
   no_reset_edge (c ∷ e ∷ f ∷ rest) = refl
-
-  abbrev first_of : List Edge → Option Edge
-  first_of [] = None
-  first_of (c ∷ rest) = Some c
 
   pub clock_is_first : (edges : List Edge) → clock_of look edges ≡ option_and_then (edge_signal look) (first_of edges)
   clock_is_first edges = ap (option_and_then (edge_signal look)) (go edges)
