@@ -67,6 +67,14 @@ module _ (prefix : Text) (b : Design) where
     then_follows o f g t h e = let i = good_then o f t e in let r = h i.0 i.1 i.2 in
         record { own = r.own; is = ap (λ x. then_ x g) i.1 ∙ r.is; over_it = r.over_it; holds = r.holds }
 
+    -- a step that moves, and one behind it
+    pub bind_follows : (Q : Stage → Type 0) (o c : Outcome Stage) (f g : Stage → Outcome Stage) (t : Stage) → ((u : Stage) → o ≡ good u → Follows Q c u)
+        → ((u : Stage) → c ≡ good u → Q u → f (over u) ≡ good t → Follows P (g u) t) → then_ o f ≡ good t → Follows P (then_ c g) t
+    bind_follows Q o c f g t h j e =
+        let i = good_then o f t e in let a = h i.0 i.1 in
+        let r = j a.own a.is a.holds (subst (λ u. f u ≡ good t) a.over_it i.2) in
+        record { own = r.own; is = ap (λ x. then_ x g) a.is ∙ r.is; over_it = r.over_it; holds = r.holds }
+
     -- one step after another
     pub each_follows : {A : Type 0} (f g : Stage → A → Outcome Stage) → ((s : Stage) (a : A) (t : Stage) → P s → f (over s) a ≡ good t → Follows P (g s a) t)
         → (s : Stage) (xs : List A) (t : Stage) → P s → each f (over s) xs ≡ good t → Follows P (each g s xs) t

@@ -6,3 +6,4 @@ pub mod Stmts
 pub mod Follows
 pub mod Unreset
 pub mod Processes
+pub mod Declared

@@ -22,7 +22,7 @@ abbrev pub first_of : List Edge → Option Edge
 first_of [] = None
 first_of (c ∷ rest) = Some c
 
-same_both : {A : Type 0} (c : Bool) (a : A) → cond c a a ≡ a
+pub same_both : {A : Type 0} (c : Bool) (a : A) → cond c a a ≡ a
 same_both true a = refl
 same_both false a = refl
 
