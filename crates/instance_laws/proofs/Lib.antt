@@ -7,3 +7,4 @@ pub mod Follows
 pub mod Unreset
 pub mod Processes
 pub mod Declared
+pub mod Ports
