@@ -1,6 +1,6 @@
 -- Parameters and declarations of an instance are those of its module, moved.
-use Rattle.std.proofs.Common.{◌≡◌, ℕ, zero, suc, ◌+◌, ◌-◌, ◌^◌, ◌<◌, ◌≤◌, ◌==◌, nat_lt, nat_le, Bool, true, false, cond, not, ◌&&◌, ◌||◌, List, [], ◌∷◌, ◌++◌, length, map, Option, Some, None, refl, sym, ap, ap₂, subst, ◌∙◌, arith, rules, append_assoc, bytes_eq, max, ltb-true, ltb-false}
-use Rattle.std.specs.Prelude.{All, slice_get, is_some, is_none, option_map, option_and_then, filter}
+use Rattle.std.proofs.Common.{◌≡◌, ℕ, zero, suc, ◌+◌, ◌-◌, ◌^◌, ◌≤◌, ◌==◌, nat_lt, nat_le, Bool, true, false, cond, not, ◌&&◌, ◌||◌, List, [], ◌∷◌, ◌++◌, length, map, Option, Some, None, refl, sym, ap, ap₂, subst, ◌∙◌, arith, append_assoc, bytes_eq, max, ltb-true, ltb-false}
+use Rattle.std.specs.Prelude.{slice_get, is_some, is_none, option_map, filter}
 use Rattle.std.specs.Option.{option_map_or}
 use Rattle.std.proofs.lemmas.List.{map_push, map-append}
 use Rattle.std.proofs.lemmas.List.Elements.{All-cons, All-head, All-nil, All-tail, All-append}
@@ -15,9 +15,8 @@ use Rattle.flat_meaning.specs.Flat.{Expr, size}
 use Rattle.flat_meaning.specs.Full.{nothing}
 use Rattle.flat_meaning.specs.Meaning.{value}
 use Rattle.flat_unfolding.specs.Outcome.{Text, Broken, breaks_if, Outcome, good, then_, each, refused_if, judged}
-use Rattle.flat_unfolding.specs.Names.{Range, span, Param, Meaning, a_param, a_signal, a_memory, no_value, Names, is_declared, Entry, Look, meaning, range_at, printed_part}
-use Rattle.flat_unfolding.specs.Constants.{own_value, assigned_value, is_counted}
-use Rattle.flat_unfolding.specs.Signs.{is_signed}
+use Rattle.flat_unfolding.specs.Names.{Range, span, Param, Meaning, a_param, a_signal, a_memory, no_value, Names, is_declared, Entry, Look, meaning, printed_part}
+use Rattle.flat_unfolding.specs.Constants.{own_value, assigned_value}
 use Rattle.flat_unfolding.specs.Expressions.{Term, is_empty, as_constant, as_bound, range_of, read}
 use Rattle.flat_unfolding.specs.Memories.{words_of, word_names, taken}
 use Rattle.flat_unfolding.specs.Parameters.{Ranged, is_wide, bounds_read, range_read, Override, Overrides, held, parameter_order, Valued, value_of, sign_rule, override_of, parameter, params_of, parameters}
@@ -27,8 +26,7 @@ use Rattle.flat_unfolding.specs.Unfolding.{declared_reset, with_resets}
 use Rattle.flat_unfolding.proofs.Steps.{good_then, not_refused}
 use Rattle.flat_unfolding.proofs.Entries.{from_keeps}
 use Rattle.instance_laws.specs.Moved.{moved_expr, moved_meaning, moved_name, moved_names, moved_entry}
-use Rattle.instance_laws.specs.Laws.{stage_behind}
-use Rattle.instance_laws.proofs.Looks.{moved_if, meaning_moved, declared_moved, is_counted_moved, signed_moved, count, behind, far, range_moved, told_moved}
+use Rattle.instance_laws.proofs.Looks.{moved_if, declared_moved, is_counted_moved, signed_moved, behind, range_moved, told_moved}
 use Rattle.instance_laws.proofs.Terms.{ap₃, size_moved, value_moved, moved_term, bound_moved, range_of_moved, read_moved, known}
 use Rattle.instance_laws.proofs.Bits.{length_moved}
 use Rattle.instance_laws.proofs.Follows.{over, Follows, good_follows, same_follows, then_follows, each_follows}
@@ -174,10 +172,11 @@ module _ (prefix : Text) (b : Design) where
     value_of_moved : (s : Stage) (p : ParamTree) (o : Option Override) → (e : Expr) × (value_of (there s) p (option_map (give f) o) ≡ valued e (value_of (look_of s) p o)) × Alike e (value_of (look_of s) p o).value
     value_of_moved s p (Some o) = (f o.value, refl, keeps o.value)
     value_of_moved s p None =
-        let own = look_of s in let v = as_constant (read own p.value) in
-        (moved_expr k v.expr,
-        ap₃ constant_of (read_moved prefix b.entries own p.value) (is_counted_moved k own.names p.value) (signed_moved k own.names p.value),
-        moved_alike k v.expr)
+        let own = look_of s in let v = as_constant (read own p.value) in (
+          moved_expr k v.expr,
+          ap₃ constant_of (read_moved prefix b.entries own p.value) (is_counted_moved k own.names p.value) (signed_moved k own.names p.value),
+          moved_alike k v.expr,
+        )
       where
         constant_of : Term → Bool → Bool → Valued
         constant_of t c g = let v = as_constant t in record { value = v.expr; is_counted = c; is_signed = g; broken = v.broken }
@@ -364,7 +363,7 @@ module _ (prefix : Text) (b : Design) where
       subst (λ bs. Next (then_ (judged declaration_order at.place bs (tt {0})) (λ u. add_declared s at d (range_read own d.name d.range).range (again own d) (array_read own d d.array).count)) t) (rules_moved s at d)
       (then_follows prefix b IsPlain (judged declaration_order at.place (declaration_rules (there s) (moved_site at) d) (tt {0})) _ _ t
       (λ u i j. adds_follow s at d (range_read own d.name d.range).range (again own d) (array_read own d d.array).count t h
-          (ap₃ (λ (r : Ranged) o (a : Words). add_declared (above s) (moved_site at) d r.range o a.count) (sym (range_read_moved s d.name d.range)) (sym (again_moved s d)) (sym (array_moved s d d.array)) ∙ j)) e)
+      (ap₃ (λ (r : Ranged) o (a : Words). add_declared (above s) (moved_site at) d r.range o a.count) (sym (range_read_moved s d.name d.range)) (sym (again_moved s d)) (sym (array_moved s d d.array)) ∙ j)) e)
 
   -- ---- all declarations
 

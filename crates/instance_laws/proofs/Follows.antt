@@ -1,8 +1,7 @@
 -- What a step makes of a module's own stage, where it is taken behind a design; assignments, gates and start values.
-use Rattle.std.proofs.Common.{◌≡◌, ℕ, ◌+◌, ◌<◌, ◌≤◌, ◌==◌, Bool, true, false, cond, not, ◌&&◌, ◌||◌, List, [], ◌∷◌, ◌++◌, length, map, Option, Some, None, refl, sym, ap, ap₂, subst, ◌∙◌, rules, append_assoc, append-nil}
+use Rattle.std.proofs.Common.{◌≡◌, ℕ, ◌+◌, ◌==◌, Bool, true, false, cond, not, ◌&&◌, ◌||◌, List, [], ◌∷◌, ◌++◌, length, map, Option, Some, None, refl, sym, ap, ap₂, subst, ◌∙◌, rules, append_assoc}
 use Rattle.std.specs.Prelude.{slice_get, flat_map, option_map}
 use Rattle.std.specs.Option.{option_map_or}
-use Rattle.std.specs.List.{list_any}
 use Rattle.std.proofs.lemmas.List.{map_push}
 use Rattle.std.proofs.lemmas.List.Folds.{list_any-append}
 use Rattle.cdc_base.specs.declared.fault.Place.{Place}
@@ -11,7 +10,7 @@ use Rattle.verilog_ast.specs.declared.DeclKind.TheVariants as kinds
 use Rattle.verilog_ast.specs.declared.GateKind.{GateKind}
 use Rattle.verilog_reading.specs.ExprTree.{ExprTree, TargetTree, whole, index_of, part_of, join_of}
 use Rattle.verilog_reading.specs.StmtTree.{StmtTree, null, set, when, either, switch, switch_else, block, StmtTrees, no_rows, and_rows}
-use Rattle.flat_meaning.specs.Flat.{complement, Expr, Unary, Gate, size, Target, Whole, Part, Pick, Group}
+use Rattle.flat_meaning.specs.Flat.{complement, Expr, Unary, Gate, Target, Whole, Part, Pick, Group}
 use Rattle.flat_unfolding.specs.Outcome.{Text, Broken, breaks, breaks_if, Outcome, good, then_, each, Order, by_number, judged}
 use Rattle.flat_unfolding.specs.Names.{Meaning, a_param, a_signal, a_memory, no_value, Entry, Look, meaning, width_at}
 use Rattle.flat_unfolding.specs.Constants.{assigned_value}
@@ -25,9 +24,9 @@ use Rattle.flat_unfolding.specs.Unfolding.{value_item}
 use Rattle.flat_unfolding.proofs.Steps.{good_is, good_then, judged_is, none_of_both}
 use Rattle.flat_unfolding.proofs.Fit.{true_right}
 use Rattle.instance_laws.specs.Moved.{moved_expr, moved_exprs, moved_target, moved_assign, moved_start, moved_entry}
-use Rattle.instance_laws.specs.Laws.{behind as design_behind, stage_behind}
-use Rattle.instance_laws.proofs.Looks.{moved_if, count, behind, far, at_moved, width_moved, told_moved}
-use Rattle.instance_laws.proofs.Terms.{ap₃, moved_term, moved_terms, size_moved, assigned_moved, joined_moved, read_moved, known}
+use Rattle.instance_laws.specs.Laws.{stage_behind}
+use Rattle.instance_laws.proofs.Looks.{moved_if, at_moved, width_moved, told_moved}
+use Rattle.instance_laws.proofs.Terms.{moved_term, moved_terms, size_moved, assigned_moved, joined_moved, read_moved, known}
 use Rattle.instance_laws.proofs.Bits.{same_signal}
 use Rattle.instance_laws.proofs.Aims.{moved_aim, aim_moved, wire_moved, driven_moved, any_mapped}
 use Rattle.instance_laws.proofs.Stmts.{done_moved}

@@ -8,3 +8,5 @@ pub mod Unreset
 pub mod Processes
 pub mod Declared
 pub mod Ports
+pub mod Visited
+pub mod Placed

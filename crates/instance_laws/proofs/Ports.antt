@@ -1,28 +1,28 @@
 -- What an instance connects and overrides, where it stands inside an instance itself; and what the links of an instance wire.
-use Rattle.std.proofs.Common.{◌≡◌, ℕ, zero, suc, ◌+◌, Bool, true, false, cond, nat_lt, ◌||◌, List, [], ◌∷◌, ◌++◌, length, map, Option, Some, None, refl, sym, ap, ap₂, ◌∙◌, append_assoc, append-nil, rules}
-use Rattle.std.specs.Prelude.{All, option_map, option_and_then, filter, filter_map, flat_map}
-use Rattle.std.specs.Option.{option_map_or, option_or}
+use Rattle.std.proofs.Common.{◌≡◌, ℕ, zero, suc, ◌+◌, Bool, false, cond, nat_lt, List, [], ◌∷◌, ◌++◌, length, map, Option, Some, None, refl, sym, ap, ap₂, ◌∙◌, append_assoc, append-nil, rules}
+use Rattle.std.specs.Prelude.{option_map, filter, filter_map, flat_map}
+use Rattle.std.specs.Option.{option_or}
 use Rattle.std.specs.List.{cons_option}
 use Rattle.std.proofs.lemmas.List.Elements.{All-cons, All-head, All-nil, All-tail}
 use Rattle.cdc_base.specs.declared.signal.ResetPin.{ResetPin}
 use Rattle.verilog_reading.specs.ExprTree.{ExprTree, number, name, index, part, unary, binary, choice, join, repeat, paren}
 use Rattle.verilog_reading.specs.SourceTree.{ConnsTree, ModuleTree}
 use Rattle.flat_meaning.specs.Flat.{Expr, size, Target, Whole}
-use Rattle.flat_unfolding.specs.Outcome.{Text, Broken}
+use Rattle.flat_unfolding.specs.Outcome.{Text}
 use Rattle.flat_unfolding.specs.Names.{Meaning, a_param, a_signal, a_memory, no_value, Names, meaning_in, Direction, inner, inward, outward, Entry, Look, meaning, reset_at, width_at, bits_read}
 use Rattle.flat_unfolding.specs.Constants.{is_counted}
-use Rattle.flat_unfolding.specs.Signs.{is_signed, leans}
+use Rattle.flat_unfolding.specs.Signs.{is_signed}
 use Rattle.flat_unfolding.specs.Expressions.{Term, as_constant, read}
-use Rattle.flat_unfolding.specs.Targets.{Aim, driven}
+use Rattle.flat_unfolding.specs.Targets.{Aim}
 use Rattle.flat_unfolding.specs.Parameters.{Override, Overrides, overridable}
 use Rattle.flat_unfolding.specs.Declarations.{header_of}
-use Rattle.flat_unfolding.specs.Instances.{Joint, joints, joint_rules, override_rules, override, overrides_of, port_direction, Link, into, out_of, reset_of, Linked, only_read, linked_at, linked_to, linked, connection_rules, links_of, resolving_to, into_port, out_of_port, connect_one, connect_all, connected, Leaning, leaning_joint, takes_input, leaning_of, taken_bits, is_short}
+use Rattle.flat_unfolding.specs.Instances.{Joint, joints, joint_rules, override_rules, override, overrides_of, port_direction, Link, into, out_of, reset_of, Linked, linked_at, linked_to, linked, connection_rules, links_of, resolving_to, into_port, out_of_port, connect_one, connect_all, connected, Leaning, leaning_joint, takes_input, leaning_of, taken_bits, is_short}
 use Rattle.flat_unfolding.specs.Design.{Design, Stage, look_of, with_design, change_entry, assigned}
 use Rattle.instance_laws.specs.Moved.{moved_expr, moved_target, moved_assign, moved_names}
 use Rattle.instance_laws.specs.Laws.{behind as design_behind, GivesNoReset, HaveNoReset}
-use Rattle.instance_laws.proofs.Looks.{moved_if, meaning_moved, is_counted_moved, signed_moved, leans_moved, count, behind, far, width_moved, reset_moved}
+use Rattle.instance_laws.proofs.Looks.{moved_if, meaning_moved, is_counted_moved, signed_moved, leans_moved, width_moved, reset_moved}
 use Rattle.instance_laws.proofs.Terms.{ap₃, size_moved, moved_term, read_moved, known}
-use Rattle.instance_laws.proofs.Aims.{moved_aim, driven_moved}
+use Rattle.instance_laws.proofs.Aims.{driven_moved}
 use Rattle.instance_laws.proofs.Follows.{one_more, over}
 use Rattle.instance_laws.proofs.Processes.{unreset_at}
 use Rattle.instance_laws.proofs.Declared.{given, change_moved, unreset_change, IsPlain}

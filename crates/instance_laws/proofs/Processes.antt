@@ -1,31 +1,29 @@
 -- Processes of an instance are those of its module, moved.
-use Rattle.std.proofs.Common.{◌≡◌, ℕ, zero, suc, ◌+◌, ◌==◌, Bool, true, false, cond, not, ◌&&◌, ◌||◌, List, [], ◌∷◌, ◌++◌, length, map, Option, Some, None, refl, sym, ap, ap₂, subst, ◌∙◌, rules}
-use Rattle.std.specs.Prelude.{All, slice_get, is_none, flat_map, option_map, option_and_then, unwrap_or}
+use Rattle.std.proofs.Common.{◌≡◌, ℕ, zero, suc, ◌+◌, ◌==◌, Bool, true, false, cond, not, ◌||◌, List, [], ◌∷◌, ◌++◌, length, map, Option, Some, None, refl, sym, ap, ap₂, subst, ◌∙◌, rules}
+use Rattle.std.specs.Prelude.{All, is_none, flat_map, option_map, option_and_then, unwrap_or}
 use Rattle.std.specs.Option.{option_map_or}
 use Rattle.std.specs.List.{list_any}
 use Rattle.std.proofs.lemmas.Bool.{or_parts}
 use Rattle.std.proofs.lemmas.List.Elements.{All-head, All-tail}
 use Rattle.cdc_base.specs.declared.fault.Place.{Place}
-use Rattle.cdc_base.specs.declared.signal.ResetPin.{ResetPin}
 use Rattle.verilog_ast.specs.declared.Edge.{Edge}
 use Rattle.verilog_ast.specs.declared.Event.{Event}
 use Rattle.verilog_ast.specs.declared.Event.TheVariants as events
 use Rattle.verilog_reading.specs.StmtTree.{StmtTree}
 use Rattle.flat_meaning.specs.Flat.{Stmt, Null}
-use Rattle.flat_unfolding.specs.Outcome.{Text, Broken, breaks, breaks_if, Outcome, good, bad, then_, by_number, judged}
+use Rattle.flat_unfolding.specs.Outcome.{Text, breaks_if, Outcome, good, bad, then_, by_number}
 use Rattle.flat_unfolding.specs.Names.{Meaning, a_param, a_signal, a_memory, no_value, Entry, Look, meaning, width_at, reset_at}
 use Rattle.flat_unfolding.specs.Mentions.{unlisted}
 use Rattle.flat_unfolding.specs.Statements.{of_wires, clocked, Done, done}
 use Rattle.flat_unfolding.specs.Reads.{latch_rule}
-use Rattle.flat_unfolding.specs.Processes.{delay_rules, has_form, is_of_wires, edges_of, first_edge, meant_edge, edge_rules, meant_signal, edge_signal, is_wide, needs_level, lacks_level, list_rules, level_rules, clock_of, event_rules, edge_kind, clocked_rules, later_rules, wires_process, clocked_process, always_item}
+use Rattle.flat_unfolding.specs.Processes.{delay_rules, has_form, is_of_wires, edges_of, first_edge, meant_edge, edge_rules, meant_signal, edge_signal, is_wide, needs_level, lacks_level, level_rules, clock_of, event_rules, edge_kind, clocked_rules, later_rules, wires_process, clocked_process, always_item}
 use Rattle.flat_unfolding.specs.Design.{Design, Stage, look_of, with_design}
-use Rattle.flat_unfolding.proofs.Steps.{good_is, not_broken, none_of_both}
+use Rattle.flat_unfolding.proofs.Steps.{not_broken, none_of_both}
 use Rattle.instance_laws.specs.Moved.{moved_stmt, moved_clocked, moved_reset}
-use Rattle.instance_laws.specs.Laws.{stage_behind}
-use Rattle.instance_laws.proofs.Looks.{moved_if, count, behind, far, width_moved, reset_moved, unknown_moved}
+use Rattle.instance_laws.proofs.Looks.{moved_if, far, width_moved, reset_moved, unknown_moved}
 use Rattle.instance_laws.proofs.Terms.{ap₃, known}
 use Rattle.instance_laws.proofs.Bits.{latches_moved}
-use Rattle.instance_laws.proofs.Stmts.{moved_done, done_moved}
+use Rattle.instance_laws.proofs.Stmts.{done_moved}
 use Rattle.instance_laws.proofs.Follows.{one_more, over, Follows, judged_follows, Stays}
 use Rattle.instance_laws.proofs.Unreset.{first_of, clock_is_first, edge_late, also_clocked, clocked_is}
 
@@ -172,12 +170,12 @@ module _ (prefix : Text) (b : Design) (P : Stage → Type 0) (stays : Stays pref
       let d = done_moved prefix b.entries own of_wires body in let after = s.design.combs ++ ((done own of_wires body).stmt ∷ []) in
       judged_follows prefix b P by_number p _ _ (with_design s (record s.design { combs = after })) _ t
       (λ i.
-          let q = none_of_both _ (latch_rule (look_of here).entries (done (look_of here) of_wires body).stmt) i in
-          let rules_same = ap₂ (λ xs (y : Done). xs ++ y.broken ++ later_rules body) (level_rules_moved prefix b own e body) d in
-          ap₂ (λ xs ys. xs ++ ys) (sym rules_same ∙ q.0)
-          (latches_moved prefix b.entries own.entries (done own of_wires body).stmt (sym (ap (λ (y : Done). latch_rule (look_of here).entries y.stmt) d) ∙ q.1)))
+      let q = none_of_both _ (latch_rule (look_of here).entries (done (look_of here) of_wires body).stmt) i in
+      let rules_same = ap₂ (λ xs (y : Done). xs ++ y.broken ++ later_rules body) (level_rules_moved prefix b own e body) d in
+      ap₂ (λ xs ys. xs ++ ys) (sym rules_same ∙ q.0)
+      (latches_moved prefix b.entries own.entries (done own of_wires body).stmt (sym (ap (λ (y : Done). latch_rule (look_of here).entries y.stmt) d) ∙ q.1)))
       (λ i. ap (λ (y : Done). with_design here (record here.design { combs = here.design.combs ++ (y.stmt ∷ []) })) d
-          ∙ ap (λ zs. with_design here (record here.design { combs = zs })) (one_more (moved_stmt (length b.entries)) b.combs s.design.combs (done own of_wires body).stmt))
+      ∙ ap (λ zs. with_design here (record here.design { combs = zs })) (one_more (moved_stmt (length b.entries)) b.combs s.design.combs (done own of_wires body).stmt))
       (stays s (record s.design { combs = after }) refl refl h)
 
   clocked_follows : (p : Place) (es : List Edge) (body : StmtTree) (t : Stage) → clocked_process here p es body ≡ good t → Follows prefix b P (clocked_process s p es body) t

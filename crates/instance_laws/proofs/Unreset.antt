@@ -1,20 +1,18 @@
 -- Where no name stands for a reset, no process has reset form, and no edge is a reset's.
-use Rattle.std.proofs.Common.{◌≡◌, ℕ, Bool, true, false, cond, not, ◌&&◌, List, [], ◌∷◌, ◌++◌, Option, Some, None, refl, sym, ap, ap₂, ◌∙◌, rules, append-nil}
-use Rattle.std.specs.Prelude.{is_some, is_none, option_map, option_and_then, unwrap_or, flat_map}
+use Rattle.std.proofs.Common.{◌≡◌, ℕ, Bool, true, false, cond, not, ◌&&◌, List, [], ◌∷◌, ◌++◌, Option, Some, None, refl, ap, ap₂, ◌∙◌, append-nil}
+use Rattle.std.specs.Prelude.{is_some, is_none, option_map, option_and_then, unwrap_or}
 use Rattle.std.specs.Option.{option_map_or, option_or}
-use Rattle.std.specs.List.{list_all, list_any}
+use Rattle.std.specs.List.{list_all}
 use Rattle.cdc_base.specs.declared.fault.Place.{Place}
-use Rattle.cdc_base.specs.declared.signal.ResetPin.{ResetPin}
-use Rattle.verilog_ast.specs.declared.BinaryOp.{BinaryOp}
 use Rattle.verilog_ast.specs.declared.Edge.{Edge}
 use Rattle.verilog_reading.specs.ExprTree.{ExprTree, number, name, index, part, unary, binary, choice, join, repeat, paren}
 use Rattle.verilog_reading.specs.StmtTree.{StmtTree, null, set, when, either, Subject, switch, switch_else, block, ArmTrees, no_arms, and_arms}
 use Rattle.flat_meaning.specs.Flat.{Stmt, Null}
-use Rattle.flat_unfolding.specs.Outcome.{Text, Broken, breaks_if, Outcome, then_, by_number, judged}
+use Rattle.flat_unfolding.specs.Outcome.{Text, breaks_if, Outcome, then_, by_number, judged}
 use Rattle.flat_unfolding.specs.Names.{Meaning, a_param, a_signal, a_memory, no_value, Look, meaning, reset_at}
 use Rattle.flat_unfolding.specs.Mentions.{names_in}
 use Rattle.flat_unfolding.specs.Statements.{clocked, done}
-use Rattle.flat_unfolding.specs.Resets.{peeled, Tested, signals_among, is_reset, are_resets, at_level, is_test, reset_signals, is_or, both_signals, tested_signals, tested, resets_in, tested_with, labels_met, item_tested, ResetForm, form_with, items_form, form_in, reset_form, reset_rules}
+use Rattle.flat_unfolding.specs.Resets.{peeled, Tested, signals_among, is_reset, are_resets, at_level, is_test, reset_signals, is_or, both_signals, tested_signals, tested, resets_in, tested_with, labels_met, item_tested, ResetForm, form_with, items_form, form_in, reset_rules}
 use Rattle.flat_unfolding.specs.Processes.{has_form, is_rising, first_edge, are_two, meant_signal, edge_signal, names_reset, reset_edge, clock_edge, clock_of, form_of, clocked_rules, reset_gives, reset_branch, body_with, clocked_process}
 use Rattle.flat_unfolding.specs.Design.{Given, Design, Stage, look_of, with_design}
 

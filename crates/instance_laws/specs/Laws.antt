@@ -1,8 +1,6 @@
 -- An instance is its module's own unfolding under other names.
-use Rattle.std.specs.Prelude.{◌≡◌, ℕ, ◌+◌, List, [], ◌++◌, length, map, All, Option, None}
-use Rattle.cdc_base.specs.declared.signal.ResetPin.{ResetPin}
+use Rattle.std.specs.Prelude.{◌≡◌, ℕ, ◌+◌, List, [], ◌++◌, length, map, All, None}
 use Rattle.verilog_reading.specs.SourceTree.{ModuleTree}
-use Rattle.flat_meaning.specs.Flat.{Expr, Target}
 use Rattle.flat_unfolding.specs.Outcome.{Text, good, then_}
 use Rattle.flat_unfolding.specs.Parameters.{Overrides}
 use Rattle.flat_unfolding.specs.Instances.{Link, into, out_of, connect_all, connected}
