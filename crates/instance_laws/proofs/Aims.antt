@@ -99,16 +99,21 @@ module _ (prefix : Text) (base : List Entry) (es : List Entry) where
       (λ x l. none_any _ (λ i. ap (λ b. b && reaches (width_at there) (moved_target k g) x i) (reaches_low k (width_at there) (width_at es) same t x i l)) (width_at there x))
       (λ x. some_bit_moved _ _ (λ i. ap₂ (λ p q. p && q) (reaches_moved k (width_at there) (width_at es) same t x i) (reaches_moved k (width_at there) (width_at es) same g x i)) x)
 
-  bits_read_assigned : (t g : Target) → in_some_signal there (reads_what_is_assigned there (moved_target k t) (moved_target k g)) ≡ in_some_signal es (reads_what_is_assigned es t g)
+  bits_read_assigned : (t g : Target) → in_some_signal there (reads_what_is_assigned there (moved_target k t) (moved_target k g))
+      ≡ in_some_signal es (reads_what_is_assigned es t g)
   bits_read_assigned t g = in_some (reads_what_is_assigned there (moved_target k t) (moved_target k g)) (reads_what_is_assigned es t g)
-      (λ x l. ap (λ b. b && some_bit there (reaches (width_at there) (moved_target k g) x) x) (none_any _ (λ i. target_reads_low k (width_at there) (width_at es) same t x i l) (width_at there x)))
-      (λ x. ap₂ (λ p q. p && q) (some_bit_moved _ _ (λ i. target_reads_moved k (width_at there) (width_at es) same t x i) x) (some_bit_moved _ _ (λ i. reaches_moved k (width_at there) (width_at es) same g x i) x))
+      (λ x l. ap (λ b. b && some_bit there (reaches (width_at there) (moved_target k g) x) x)
+      (none_any _ (λ i. target_reads_low k (width_at there) (width_at es) same t x i l) (width_at there x)))
+      (λ x. ap₂ (λ p q. p && q) (some_bit_moved _ _ (λ i. target_reads_moved k (width_at there) (width_at es) same t x i) x)
+      (some_bit_moved _ _ (λ i. reaches_moved k (width_at there) (width_at es) same g x i) x))
 
   meets_moved : (all before : List Piece) (p : Piece) → meets there (map (moved_piece k) all) (map (moved_piece k) before) (moved_piece k p) ≡ meets es all before p
   meets_moved all before p =
       ap₂ (λ a b. a || b)
-      (any_mapped (λ (q : Piece). in_some_signal there (assigns_bits_of there (moved_target k p.target) q.target)) (moved_piece k) (λ (q : Piece). in_some_signal es (assigns_bits_of es p.target q.target)) (λ q. bits_assigned p.target q.target) before)
-      (any_mapped (λ (q : Piece). in_some_signal there (reads_what_is_assigned there (moved_target k p.target) q.target)) (moved_piece k) (λ (q : Piece). in_some_signal es (reads_what_is_assigned es p.target q.target)) (λ q. bits_read_assigned p.target q.target) all)
+      (any_mapped (λ (q : Piece). in_some_signal there (assigns_bits_of there (moved_target k p.target) q.target)) (moved_piece k)
+      (λ (q : Piece). in_some_signal es (assigns_bits_of es p.target q.target)) (λ q. bits_assigned p.target q.target) before)
+      (any_mapped (λ (q : Piece). in_some_signal there (reads_what_is_assigned there (moved_target k p.target) q.target)) (moved_piece k)
+      (λ (q : Piece). in_some_signal es (reads_what_is_assigned es p.target q.target)) (λ q. bits_read_assigned p.target q.target) all)
 
   meeting_moved : (all before rest : List Piece) → meeting there (map (moved_piece k) all) (map (moved_piece k) before) (map (moved_piece k) rest) ≡ meeting es all before rest
   meeting_moved all before [] = refl
@@ -140,7 +145,8 @@ module _ (prefix : Text) (base : List Entry) (look : Look) where
         go of_registers e = refl
     assignable_moved (Some (a_memory m)) = go use_
       where
-        go : (u : Use) → is_assignable u (behind prefix base look.entries) (Some (a_memory (record { first = n + m.first; words = m.words }))) ≡ is_assignable u look.entries (Some (a_memory m))
+        go : (u : Use) → is_assignable u (behind prefix base look.entries) (Some (a_memory (record { first = n + m.first; words = m.words })))
+            ≡ is_assignable u look.entries (Some (a_memory m))
         go of_wires = refl
         go of_registers = refl
     assignable_moved (Some (a_param p)) = go use_
@@ -176,24 +182,29 @@ module _ (prefix : Text) (base : List Entry) (look : Look) where
         rules_of : List Broken
         rules_of = breaks_if (not (may_index (range_at look.entries s) (size i.expr))) 315 x
 
-        go : (b : Bool) → cond b (select_aim far_look use_ x (n + s) (bit_select (range_at look.entries s) (own_value i.expr))) (record { target = Pick (n + s) (moved_expr n i.expr); bits = Some 1; broken = rules_of })
-            ≡ moved_aim n (cond b (select_aim look use_ x s (bit_select (range_at look.entries s) (own_value i.expr))) (record { target = Pick s i.expr; bits = Some 1; broken = rules_of }))
+        go : (b : Bool) → cond b (select_aim far_look use_ x (n + s) (bit_select (range_at look.entries s) (own_value i.expr)))
+            (record { target = Pick (n + s) (moved_expr n i.expr); bits = Some 1; broken = rules_of })
+            ≡ moved_aim n (cond b (select_aim look use_ x s (bit_select (range_at look.entries s) (own_value i.expr)))
+            (record { target = Pick s i.expr; bits = Some 1; broken = rules_of }))
         go true = select_moved x s (bit_select (range_at look.entries s) (own_value i.expr))
         go false = refl
 
-    memory_goal_moved : (x : Text) (m : Memory) (i : Term) → memory_goal far_look use_ x (record { first = n + m.first; words = m.words }) (moved_term n i) ≡ moved_goal n (memory_goal look use_ x m i)
+    memory_goal_moved : (x : Text) (m : Memory) (i : Term) → memory_goal far_look use_ x (record { first = n + m.first; words = m.words }) (moved_term n i)
+        ≡ moved_goal n (memory_goal look use_ x m i)
     memory_goal_moved x m i = rw (own_moved n i.expr, size_moved n i.expr) (go i.is_constant (nat_le (2 ^ size i.expr) m.words))
       where
         far_memory : Memory
         far_memory = record { first = n + m.first; words = m.words }
 
-        word_moved : (b : Bool) → word_aim far_look use_ x (cond b (Some (n + m.first + own_value i.expr)) None) ≡ moved_aim n (word_aim look use_ x (cond b (Some (m.first + own_value i.expr)) None))
+        word_moved : (b : Bool) → word_aim far_look use_ x (cond b (Some (n + m.first + own_value i.expr)) None)
+            ≡ moved_aim n (word_aim look use_ x (cond b (Some (m.first + own_value i.expr)) None))
         word_moved true =
             ap (λ s. word_aim far_look use_ x (Some s)) (first_moved prefix base look m.first (own_value i.expr))
             ∙ ap (aim_at (Whole (n + (m.first + own_value i.expr)))) (width_moved prefix base look.entries (m.first + own_value i.expr))
         word_moved false = refl
 
-        go : (b c : Bool) → cond b (fixed (word_aim far_look use_ x (word_of far_memory (own_value i.expr)))) (cond c (a_word far_memory (moved_expr n i.expr) []) (fixed (nowhere (breaks 315 x))))
+        go : (b c : Bool) → cond b (fixed (word_aim far_look use_ x (word_of far_memory (own_value i.expr))))
+            (cond c (a_word far_memory (moved_expr n i.expr) []) (fixed (nowhere (breaks 315 x))))
             ≡ moved_goal n (cond b (fixed (word_aim look use_ x (word_of m (own_value i.expr)))) (cond c (a_word m i.expr []) (fixed (nowhere (breaks 315 x)))))
         go true c = ap fixed (word_moved (nat_lt (own_value i.expr) m.words))
         go false true = refl
@@ -212,11 +223,13 @@ module _ (prefix : Text) (base : List Entry) (look : Look) where
 
     index_goal_moved : (x : Text) (i : Term) → index_goal far_look use_ x (moved_term n i) ≡ moved_goal n (index_goal look use_ x i)
     index_goal_moved x i =
-        ap₂ (λ bs o. after far_look use_ (bs ++ i.broken) (cond (is_sound i) (meant_goal far_look use_ x (moved_term n i) o) (fixed (nowhere [])))) (name_rules_moved x) (known_name x)
+        ap₂ (λ bs o. after far_look use_ (bs ++ i.broken) (cond (is_sound i) (meant_goal far_look use_ x (moved_term n i) o) (fixed (nowhere [])))) (name_rules_moved x)
+        (known_name x)
         ∙ ap (after far_look use_ (name_rules look use_ x ++ i.broken)) (go (is_sound i))
         ∙ after_moved (name_rules look use_ x ++ i.broken) (cond (is_sound i) (meant_goal look use_ x i (meaning look x)) (fixed (nowhere [])))
       where
-        go : (b : Bool) → cond b (meant_goal far_look use_ x (moved_term n i) (moved_if n (meaning look x))) (fixed (nowhere [])) ≡ moved_goal n (cond b (meant_goal look use_ x i (meaning look x)) (fixed (nowhere [])))
+        go : (b : Bool) → cond b (meant_goal far_look use_ x (moved_term n i) (moved_if n (meaning look x))) (fixed (nowhere []))
+            ≡ moved_goal n (cond b (meant_goal look use_ x i (meaning look x)) (fixed (nowhere [])))
         go true = meant_goal_moved x i (meaning look x)
         go false = refl
 
@@ -224,7 +237,8 @@ module _ (prefix : Text) (base : List Entry) (look : Look) where
     as_fixed_moved x (fixed a) = refl
     as_fixed_moved x (a_word m i bs) = refl
 
-    meant_range_moved : (x : Text) (kind : PartKind) (r : Option Range) (o : Option Meaning) → meant_range far_look use_ x kind r (moved_if n o) ≡ moved_aim n (meant_range look use_ x kind r o)
+    meant_range_moved : (x : Text) (kind : PartKind) (r : Option Range) (o : Option Meaning)
+        → meant_range far_look use_ x kind r (moved_if n o) ≡ moved_aim n (meant_range look use_ x kind r o)
     meant_range_moved x kind None None = refl
     meant_range_moved x kind (Some q) None = refl
     meant_range_moved x kind None (Some (a_param p)) = refl
@@ -246,7 +260,8 @@ module _ (prefix : Text) (base : List Entry) (look : Look) where
         ∙ ap₂ (λ a b. parted far_look (name_rules look use_ x) x kind a b (moved_if n (meaning look x))) (bound_moved n l) (second_moved n kind r)
         ∙ go (as_bound l) (as_second kind r)
       where
-        go : (a b : Term) → parted far_look (name_rules look use_ x) x kind (moved_term n a) (moved_term n b) (moved_if n (meaning look x)) ≡ moved_aim n (parted look (name_rules look use_ x) x kind a b (meaning look x))
+        go : (a b : Term) → parted far_look (name_rules look use_ x) x kind (moved_term n a) (moved_term n b) (moved_if n (meaning look x))
+            ≡ moved_aim n (parted look (name_rules look use_ x) x kind a b (meaning look x))
         go a b =
             ap (λ q. aim_behind (name_rules look use_ x ++ a.broken ++ b.broken) (meant_range far_look use_ x kind q (moved_if n (meaning look x)))) (range_of_moved n a b)
             ∙ ap (aim_behind (name_rules look use_ x ++ a.broken ++ b.broken)) (meant_range_moved x kind (range_of a b) (meaning look x))
@@ -257,7 +272,8 @@ module _ (prefix : Text) (base : List Entry) (look : Look) where
       aim_moved (index_of x i) =
           ap (as_fixed far_look use_ x) (ap (index_goal far_look use_ x) (read_moved prefix base look i) ∙ index_goal_moved x (read look i))
           ∙ as_fixed_moved x (index_goal look use_ x (read look i))
-      aim_moved (part_of x kind l r) = ap₂ (part_aim far_look use_ x kind) (read_moved prefix base look l) (read_moved prefix base look r) ∙ part_aim_moved x kind (read look l) (read look r)
+      aim_moved (part_of x kind l r) =
+          ap₂ (part_aim far_look use_ x kind) (read_moved prefix base look l) (read_moved prefix base look r) ∙ part_aim_moved x kind (read look l) (read look r)
       aim_moved (join_of parts) =
           ap₂ group_of (aims_moved parts) (ap total (aims_moved parts) ∙ total_moved n (aims look use_ parts)) ∙ group_moved n (aims look use_ parts) (total (aims look use_ parts))
 
@@ -277,7 +293,8 @@ module _ (prefix : Text) (base : List Entry) (look : Look) where
 
       pieces_in_moved : (ts : TargetTrees) → pieces_in far_look use_ ts ≡ map (moved_piece n) (pieces_in look use_ ts)
       pieces_in_moved no_parts = refl
-      pieces_in_moved (and_parts t ts) = ap₂ (λ a ts. a ++ ts) (pieces_moved t) (pieces_in_moved ts) ∙ sym (map-append (moved_piece n) (pieces look use_ t) (pieces_in look use_ ts))
+      pieces_in_moved (and_parts t ts) =
+          ap₂ (λ a ts. a ++ ts) (pieces_moved t) (pieces_in_moved ts) ∙ sym (map-append (moved_piece n) (pieces look use_ t) (pieces_in look use_ ts))
 
     piece_rules_moved : (t : TargetTree) → piece_rules far_look use_ t ≡ piece_rules look use_ t
     piece_rules_moved (whole x) = refl

@@ -236,7 +236,8 @@ module _ (k : ℕ) where
       case_moved full f g j (default_item s) d e h x i = surely_moved s d e h x i
       case_moved full f g j (item ls s rest) d e h x i =
           ap₂ (λ p q. p && q) (surely_moved s d e h x i)
-          (case_moved full (cond full (surely wid (moved_stmt k s) d) f) (cond full (surely own s e) g) (chosen_same full (surely wid (moved_stmt k s) d) (surely own s e) f g (surely_moved s d e h) j) rest d e h x i)
+          (case_moved full (cond full (surely wid (moved_stmt k s) d) f) (cond full (surely own s e) g)
+          (chosen_same full (surely wid (moved_stmt k s) d) (surely own s e) f g (surely_moved s d e h) j) rest d e h x i)
 
       all_moved : (ss : Stmts) (d e : Done) → Same d e → Same (surely_all wid (moved_stmts k ss) d) (surely_all own ss e)
       all_moved no_stmts d e h x i = h x i
@@ -246,7 +247,8 @@ module _ (k : ℕ) where
       early_moved : (s : Stmt) (d e : Done) → Same d e → Same (early wid (moved_stmt k s) d) (early own s e)
       early_moved Null d e h x i = refl
       early_moved (Set b t v) d e h x i = ap₂ (λ p q. p && not q) (ap₂ (λ p q. p || q) (reads_moved v x i) (target_reads_moved t x i)) (h x i)
-      early_moved (If c a b) d e h x i = ap₂ (λ p q. p || q) (ap₂ (λ p q. p && not q) (reads_moved c x i) (h x i)) (ap₂ (λ p q. p || q) (early_moved a d e h x i) (early_moved b d e h x i))
+      early_moved (If c a b) d e h x i =
+          ap₂ (λ p q. p || q) (ap₂ (λ p q. p && not q) (reads_moved c x i) (h x i)) (ap₂ (λ p q. p || q) (early_moved a d e h x i) (early_moved b d e h x i))
       early_moved (Case v is) d e h x i = ap₂ (λ p q. p || q) (ap₂ (λ p q. p && not q) (reads_moved v x i) (h x i)) (items_early_moved is d e h x i)
       early_moved (Block ss) d e h x i = all_early_moved ss d e h x i
 
@@ -310,4 +312,5 @@ module _ (prefix : Text) (base es : List Entry) where
       none : (x : ℕ) → x < length es → far (k + x) ≡ false
       none x l = let z : 0 + (k + x) ≡ k + x = omega arith in
           let n = length_moved in
-          ap far (sym z) ∙ none_from far 0 (length (behind prefix base es)) (told (first_from far 0 (length (behind prefix base es))) h) (k + x) (let j : k + x < length (behind prefix base es) = omega (arith, n, l) in j)
+          ap far (sym z) ∙ none_from far 0 (length (behind prefix base es)) (told (first_from far 0 (length (behind prefix base es))) h) (k + x)
+          (let j : k + x < length (behind prefix base es) = omega (arith, n, l) in j)

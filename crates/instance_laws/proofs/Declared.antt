@@ -29,7 +29,7 @@ use Rattle.instance_laws.specs.Moved.{moved_expr, moved_meaning, moved_name, mov
 use Rattle.instance_laws.proofs.Looks.{moved_if, declared_moved, is_counted_moved, signed_moved, behind, range_moved, told_moved}
 use Rattle.instance_laws.proofs.Terms.{ap₃, size_moved, value_moved, moved_term, bound_moved, range_of_moved, read_moved, known}
 use Rattle.instance_laws.proofs.Bits.{length_moved}
-use Rattle.instance_laws.proofs.Follows.{over, Follows, good_follows, same_follows, then_follows, each_follows}
+use Rattle.instance_laws.proofs.Follows.{over, Follows, good_follows, same_follows, then_follows, bind_follows, each_follows}
 use Rattle.instance_laws.proofs.Unreset.{same_both}
 use Rattle.instance_laws.proofs.Processes.{IsUnreset, AreUnreset}
 
@@ -105,7 +105,8 @@ each_mapped f g s (x ∷ xs) = ap (then_ (f s (g x))) (fun_ext (λ t. each_mappe
 abbrev pub Commutes : Text → (Entry → Entry) → Type 0
 Commutes prefix f = (e : Entry) → f (moved_entry prefix e) ≡ moved_entry prefix (f e)
 
-pub change_moved : (prefix : Text) (f : Entry → Entry) → Commutes prefix f → (base es : List Entry) (s : ℕ) → change_entry f (length base + s) (behind prefix base es) ≡ behind prefix base (change_entry f s es)
+pub change_moved : (prefix : Text) (f : Entry → Entry) → Commutes prefix f → (base es : List Entry) (s : ℕ)
+    → change_entry f (length base + s) (behind prefix base es) ≡ behind prefix base (change_entry f s es)
 change_moved prefix f h [] es s = ap (λ n. change_entry f n (map (moved_entry prefix) es)) (let z : 0 + s ≡ s = omega arith in z) ∙ go es s
   where
     go : (es : List Entry) (s : ℕ) → change_entry f s (map (moved_entry prefix) es) ≡ map (moved_entry prefix) (change_entry f s es)
@@ -113,12 +114,15 @@ change_moved prefix f h [] es s = ap (λ n. change_entry f n (map (moved_entry p
     go (e ∷ es) zero = ap (λ x. x ∷ map (moved_entry prefix) es) (h e)
     go (e ∷ es) (suc s) = ap (λ xs. moved_entry prefix e ∷ xs) (go es s)
 change_moved prefix f h (b ∷ base) es s =
-    ap (λ n. change_entry f n (b ∷ behind prefix base es)) (let z : length (b ∷ base) + s ≡ suc (length base + s) = omega arith in z) ∙ ap (λ xs. b ∷ xs) (change_moved prefix f h base es s)
+    ap (λ n. change_entry f n (b ∷ behind prefix base es)) (let z : length (b ∷ base) + s ≡ suc (length base + s) = omega arith in z)
+    ∙ ap (λ xs. b ∷ xs) (change_moved prefix f h base es s)
 
-from_moved : (prefix : Text) (f : Entry → Entry) → Commutes prefix f → (base : List Entry) (s more : ℕ) (es : List Entry) → change_from f (length base + s) more (behind prefix base es) ≡ behind prefix base (change_from f s more es)
+from_moved : (prefix : Text) (f : Entry → Entry) → Commutes prefix f → (base : List Entry) (s more : ℕ) (es : List Entry)
+    → change_from f (length base + s) more (behind prefix base es) ≡ behind prefix base (change_from f s more es)
 from_moved prefix f h base s zero es = refl
 from_moved prefix f h base s (suc more) es =
-    ap₂ (λ n xs. change_from f n more xs) (let z : suc (length base + s) ≡ length base + suc s = omega arith in z) (change_moved prefix f h base es s) ∙ from_moved prefix f h base (suc s) more (change_entry f s es)
+    ap₂ (λ n xs. change_from f n more xs) (let z : suc (length base + s) ≡ length base + suc s = omega arith in z) (change_moved prefix f h base es s)
+    ∙ from_moved prefix f h base (suc s) more (change_entry f s es)
 
 pub unreset_change : (f : Entry → Entry) → ((e : Entry) → e.reset ≡ None → (f e).reset ≡ None) → (s : ℕ) (es : List Entry) → AreUnreset es → AreUnreset (change_entry f s es)
 unreset_change f h s [] p = p
@@ -150,7 +154,8 @@ module _ (prefix : Text) (b : Design) where
 
   bounds_moved : (s : Stage) (x : Bounds) → bounds_read (there s) x ≡ bounds_read (look_of s) x
   bounds_moved s x =
-      ap₂ bounded (ap as_bound (read_moved prefix b.entries (look_of s) x.left) ∙ bound_moved k (read (look_of s) x.left)) (ap as_bound (read_moved prefix b.entries (look_of s) x.right) ∙ bound_moved k (read (look_of s) x.right))
+      ap₂ bounded (ap as_bound (read_moved prefix b.entries (look_of s) x.left) ∙ bound_moved k (read (look_of s) x.left))
+      (ap as_bound (read_moved prefix b.entries (look_of s) x.right) ∙ bound_moved k (read (look_of s) x.right))
       ∙ go (as_bound (read (look_of s) x.left)) (as_bound (read (look_of s) x.right))
     where
       go : (l r : Term) → bounded (moved_term k l) (moved_term k r) ≡ bounded l r
@@ -169,7 +174,8 @@ module _ (prefix : Text) (b : Design) where
     abbrev valued : Expr → Valued → Valued
     valued e v = record { value = e; is_counted = v.is_counted; is_signed = v.is_signed; broken = v.broken }
 
-    value_of_moved : (s : Stage) (p : ParamTree) (o : Option Override) → (e : Expr) × (value_of (there s) p (option_map (give f) o) ≡ valued e (value_of (look_of s) p o)) × Alike e (value_of (look_of s) p o).value
+    value_of_moved : (s : Stage) (p : ParamTree) (o : Option Override)
+        → (e : Expr) × (value_of (there s) p (option_map (give f) o) ≡ valued e (value_of (look_of s) p o)) × Alike e (value_of (look_of s) p o).value
     value_of_moved s p (Some o) = (f o.value, refl, keeps o.value)
     value_of_moved s p None =
         let own = look_of s in let v = as_constant (read own p.value) in (
@@ -193,21 +199,25 @@ module _ (prefix : Text) (b : Design) where
     name_over : (s : Stage) (x : Text) (m : Meaning) → with_name (above s) x (moved_meaning k m) ≡ above (with_name s x m)
     name_over s x m = ap (λ ns. record (above s) { names = ns }) (sym (map_push (moved_name k) s.names (x, m)))
 
-    parameter_follows : (overrides : Overrides) (s : Stage) (q : Place × ParamTree) (t : Stage) → IsPlain s → parameter (given f overrides) (above s) q ≡ good t → Next (parameter overrides s q) t
+    parameter_follows : (overrides : Overrides) (s : Stage) (q : Place × ParamTree) (t : Stage) → IsPlain s → parameter (given f overrides) (above s) q ≡ good t
+        → Next (parameter overrides s q) t
     parameter_follows overrides s q t h =
         let p = q.1 in let own = look_of s in let o = override_of overrides p in
         let r = range_read own p.name p.range in let v = value_of own p o in let w = value_of_moved s p o in
         let value_same = ap (value_of (there s) p) (given_of f overrides p) ∙ w.1 in
         let range_same = range_read_moved s p.name p.range in
         same_follows prefix b IsPlain parameter_order q.0 _ _ (with_name s p.name (a_param (held r.range v.value v.is_counted v.is_signed))) _ t
-        (ap₃ (λ d x y. param_rules d p x y) (declared_moved k s.names p.name) range_same value_same ∙ ap (λ bs. breaks_if (is_declared s.names p.name) 304 p.name ++ r.broken ++ v.broken ++ bs) (sign_moved p.range w.0 v w.2))
+        (ap₃ (λ d x y. param_rules d p x y) (declared_moved k s.names p.name) range_same value_same
+        ∙ ap (λ bs. breaks_if (is_declared s.names p.name) 304 p.name ++ r.broken ++ v.broken ++ bs) (sign_moved p.range w.0 v w.2))
         (ap₂ (λ (x : Ranged) (y : Valued). with_name (above s) p.name (a_param (held x.range y.value y.is_counted y.is_signed))) range_same value_same
         ∙ ap (λ m. with_name (above s) p.name (a_param m)) (held_alike r.range w.0 v.value w.2 v.is_counted v.is_signed)
         ∙ name_over s p.name (a_param (held r.range v.value v.is_counted v.is_signed)))
         (record { pins = h.pins; unreset = h.unreset })
 
-    pub parameters_follow : (overrides : Overrides) (m : ModuleTree) (s t : Stage) → IsPlain s → parameters (given f overrides) m (above s) ≡ good t → Next (parameters overrides m s) t
-    parameters_follow overrides m s t h = each_follows prefix b IsPlain (parameter (given f overrides)) (parameter overrides) (λ s q t. parameter_follows overrides s q t) s (params_of m) t h
+    pub parameters_follow : (overrides : Overrides) (m : ModuleTree) (s t : Stage) → IsPlain s → parameters (given f overrides) m (above s) ≡ good t
+        → Next (parameters overrides m s) t
+    parameters_follow overrides m s t h =
+        each_follows prefix b IsPlain (parameter (given f overrides)) (parameter overrides) (λ s q t. parameter_follows overrides s q t) s (params_of m) t h
 
   -- ---- the rules of a declaration
 
@@ -216,7 +226,8 @@ module _ (prefix : Text) (b : Design) where
 
   again_moved : (s : Stage) (d : DeclTree) → again (there s) d ≡ option_map (λ n. k + n) (again (look_of s) d)
   again_moved s d =
-      ap (λ o. cond inside (if_open d.kind (there s).entries o) None) (known prefix b.entries (look_of s) d.name) ∙ ap (λ o. cond inside o None) (opened (meaning (look_of s) d.name)) ∙ go inside (if_open d.kind s.design.entries (meaning (look_of s) d.name))
+      ap (λ o. cond inside (if_open d.kind (there s).entries o) None) (known prefix b.entries (look_of s) d.name)
+      ∙ ap (λ o. cond inside o None) (opened (meaning (look_of s) d.name)) ∙ go inside (if_open d.kind s.design.entries (meaning (look_of s) d.name))
     where
       inside : Bool
       inside = is_inner (direction_of d.kind) && is_none d.array
@@ -229,7 +240,8 @@ module _ (prefix : Text) (b : Design) where
       opened None = refl
       opened (Some (a_param p)) = refl
       opened (Some (a_signal n)) =
-          ap (λ c. cond c (Some (k + n)) None) (told_moved prefix b.entries s.design.entries n (may_be_again d.kind) false (λ e. refl)) ∙ chosen (option_map_or (may_be_again d.kind) (slice_get s.design.entries n) false) n
+          ap (λ c. cond c (Some (k + n)) None) (told_moved prefix b.entries s.design.entries n (may_be_again d.kind) false (λ e. refl))
+          ∙ chosen (option_map_or (may_be_again d.kind) (slice_get s.design.entries n) false) n
       opened (Some (a_memory m)) = refl
       opened (Some no_value) = refl
 
@@ -251,7 +263,8 @@ module _ (prefix : Text) (b : Design) where
 
   array_moved : (s : Stage) (d : DeclTree) (o : Option Bounds) → array_read (there s) d o ≡ array_read (look_of s) d o
   array_moved s d None = refl
-  array_moved s d (Some x) = ap (counted_words (there s)) (bounds_moved s x) ∙ ap (words_with (bounds_read (look_of s) x)) (count_rules_moved s d (words_of d.kind (bounds_read (look_of s) x).range))
+  array_moved s d (Some x) =
+      ap (counted_words (there s)) (bounds_moved s x) ∙ ap (words_with (bounds_read (look_of s) x)) (count_rules_moved s d (words_of d.kind (bounds_read (look_of s) x).range))
     where
       words_with : Ranged → List Broken → Words
       words_with a bs = record { count = words_of d.kind a.range; broken = filter (λ (y : Broken). y.number == 305) a.broken ++ bs }
@@ -262,8 +275,10 @@ module _ (prefix : Text) (b : Design) where
   rules_moved : (s : Stage) (at : Site) (d : DeclTree) → declaration_rules (there s) (moved_site at) d ≡ declaration_rules (look_of s) at d
   rules_moved s at d =
       ap₂ (λ o c. rules_with (there s) o c (range_read (there s) d.name d.range) (array_read (there s) d d.array)) (again_moved s d) (declared_moved k s.names d.name)
-      ∙ ap₂ (λ r a. rules_with (there s) (option_map (λ n. k + n) (again (look_of s) d)) (is_declared s.names d.name) r a) (range_read_moved s d.name d.range) (array_moved s d d.array)
-      ∙ ap₂ (λ c bs. breaks_if (c && is_declared s.names d.name) 304 d.name ++ breaks_if (breaks_form at d) 306 d.name ++ (range_read (look_of s) d.name d.range).broken ++ bs ++ (array_read (look_of s) d d.array).broken)
+      ∙ ap₂ (λ r a. rules_with (there s) (option_map (λ n. k + n) (again (look_of s) d)) (is_declared s.names d.name) r a) (range_read_moved s d.name d.range)
+      (array_moved s d d.array)
+      ∙ ap₂ (λ c bs. breaks_if (c && is_declared s.names d.name) 304 d.name ++ breaks_if (breaks_form at d) 306 d.name ++ (range_read (look_of s) d.name d.range).broken ++ bs
+      ++ (array_read (look_of s) d d.array).broken)
       (none_moved (again (look_of s) d)) (range_rule_moved s d (range_read (look_of s) d.name d.range).range (again (look_of s) d))
     where
       rules_with : Look → Option ℕ → Bool → Ranged → Words → List Broken
@@ -275,10 +290,12 @@ module _ (prefix : Text) (b : Design) where
 
   -- ---- what a declaration adds
 
-  unreset_added : (s : Stage) (fs : List Entry) (names : Names) → IsPlain s → AreUnreset fs → IsPlain (record { names = s.names ++ names; design = record s.design { entries = s.design.entries ++ fs } })
+  unreset_added : (s : Stage) (fs : List Entry) (names : Names) → IsPlain s → AreUnreset fs
+      → IsPlain (record { names = s.names ++ names; design = record s.design { entries = s.design.entries ++ fs } })
   unreset_added s fs names h p = record { pins = h.pins; unreset = All-append IsUnreset s.design.entries fs h.unreset p }
 
-  added_follows : (s : Stage) (fs gs : List Entry) (names more : Names) (t : Stage) → IsPlain s → AreUnreset fs → gs ≡ map (moved_entry prefix) fs → more ≡ moved_names k names → added (above s) gs more ≡ good t → Next (added s fs names) t
+  added_follows : (s : Stage) (fs gs : List Entry) (names more : Names) (t : Stage) → IsPlain s → AreUnreset fs → gs ≡ map (moved_entry prefix) fs → more ≡ moved_names k names
+      → added (above s) gs more ≡ good t → Next (added s fs names) t
   added_follows s fs gs names more t h p i j e =
       let es = s.design.entries in
       let g = good_then (refused_if (nat_lt 1048576 (length (above s).design.entries + length gs)) 601 None []) _ t e in
@@ -286,10 +303,11 @@ module _ (prefix : Text) (b : Design) where
       let lm = length_moved prefix b.entries es in
       let lf = ap length i ∙ mapped fs in
       let next : Stage = record { names = s.names ++ names; design = record s.design { entries = es ++ fs } } in
+      let none = few (length es + length fs) (let m : length es + length fs ≤ 1048576 = omega (arith, l, lm, lf) in m) in
       let r = good_follows prefix b IsPlain next t (unreset_added s fs names h p) (ap good (sym (stage_same es fs gs i names more j)) ∙ g.2) in
       record {
         own = r.own;
-        is = ap (λ c. then_ (refused_if c 601 None []) (λ u. good next)) (few (length es + length fs) (let m : length es + length fs ≤ 1048576 = omega (arith, l, lm, lf) in m)) ∙ r.is;
+        is = ap (λ c. then_ (refused_if c 601 None []) (λ u. good next)) none ∙ r.is;
         over_it = r.over_it;
         holds = r.holds;
       }
@@ -312,12 +330,15 @@ module _ (prefix : Text) (b : Design) where
           → with_both (moved_names k s.names ++ more) (behind prefix b.entries es ++ gs) ≡ with_both (moved_names k (s.names ++ names)) (behind prefix b.entries (es ++ fs))
       stage_same es fs gs i names more j =
           ap₂ with_both (ap (λ ns. moved_names k s.names ++ ns) j ∙ sym (map-append (moved_name k) s.names names))
-          (ap (λ xs. behind prefix b.entries es ++ xs) i ∙ append_assoc b.entries (map (moved_entry prefix) es) (map (moved_entry prefix) fs) ∙ ap (λ xs. b.entries ++ xs) (sym (map-append (moved_entry prefix) es fs)))
+          (ap (λ xs. behind prefix b.entries es ++ xs) i ∙ append_assoc b.entries (map (moved_entry prefix) es) (map (moved_entry prefix) fs)
+          ∙ ap (λ xs. b.entries ++ xs) (sym (map-append (moved_entry prefix) es fs)))
 
-  entry_moved : (at : Site) (kind : DeclKind) (r : Option Range) (is_open : Bool) (x : Text) → entry (moved_site at) kind r is_open x ≡ moved_entry prefix (entry at kind r is_open x)
+  entry_moved : (at : Site) (kind : DeclKind) (r : Option Range) (is_open : Bool) (x : Text)
+      → entry (moved_site at) kind r is_open x ≡ moved_entry prefix (entry at kind r is_open x)
   entry_moved at kind r is_open x = ap (λ p. record (entry at kind r is_open x) { printed = p }) (append_assoc prefix at.prefix (printed_part x))
 
-  entries_moved : (at : Site) (kind : DeclKind) (r : Option Range) (xs : List Text) → map (entry (moved_site at) kind r false) xs ≡ map (moved_entry prefix) (map (entry at kind r false) xs)
+  entries_moved : (at : Site) (kind : DeclKind) (r : Option Range) (xs : List Text)
+      → map (entry (moved_site at) kind r false) xs ≡ map (moved_entry prefix) (map (entry at kind r false) xs)
   entries_moved at kind r [] = refl
   entries_moved at kind r (x ∷ xs) = ap₂ (λ e es. e ∷ es) (entry_moved at kind r false x) (entries_moved at kind r xs)
 
@@ -329,26 +350,32 @@ module _ (prefix : Text) (b : Design) where
   taken_names_moved [] = refl
   taken_names_moved (x ∷ xs) = ap (λ ns. (x, no_value) ∷ ns) (taken_names_moved xs)
 
-  signal_follows : (s : Stage) (at : Site) (d : DeclTree) (r : Option Range) (t : Stage) → IsPlain s → add_signal (above s) (moved_site at) d r ≡ good t → Next (add_signal s at d r) t
+  signal_follows : (s : Stage) (at : Site) (d : DeclTree) (r : Option Range) (t : Stage) → IsPlain s → add_signal (above s) (moved_site at) d r ≡ good t
+      → Next (add_signal s at d r) t
   signal_follows s at d r t h =
       let f = entry at d.kind r (is_plain_port d.kind && not at.in_header) d.name in
       added_follows s (f ∷ []) _ ((d.name, a_signal (length s.design.entries)) ∷ []) _ t h (All-cons IsUnreset f [] refl (All-nil IsUnreset))
       (ap (λ e. e ∷ []) (entry_moved at d.kind r (is_plain_port d.kind && not at.in_header) d.name))
       (ap (λ n. (d.name, a_signal n) ∷ []) (length_moved prefix b.entries s.design.entries))
 
-  memory_follows : (s : Stage) (at : Site) (d : DeclTree) (r : Option Range) (n : ℕ) (t : Stage) → IsPlain s → add_memory (above s) (moved_site at) d r n ≡ good t → Next (add_memory s at d r n) t
+  memory_follows : (s : Stage) (at : Site) (d : DeclTree) (r : Option Range) (n : ℕ) (t : Stage) → IsPlain s → add_memory (above s) (moved_site at) d r n ≡ good t
+      → Next (add_memory s at d r n) t
   memory_follows s at d r n t h =
       let xs = word_names d.name 0 n in let m : Meaning = a_memory (record { first = length s.design.entries; words = n }) in
       added_follows s (map (entry at d.kind r false) xs) _ (taken_names xs ++ ((d.name, m) ∷ [])) _ t h (words_unreset at d.kind r xs) (entries_moved at d.kind r xs)
-      (ap₂ (λ ns i. ns ++ ((d.name, memory_at i) ∷ [])) (taken_names_moved xs) (length_moved prefix b.entries s.design.entries) ∙ sym (map_push (moved_name k) (taken_names xs) (d.name, m)))
+      (ap₂ (λ ns i. ns ++ ((d.name, memory_at i) ∷ [])) (taken_names_moved xs) (length_moved prefix b.entries s.design.entries)
+      ∙ sym (map_push (moved_name k) (taken_names xs) (d.name, m)))
     where
       memory_at : ℕ → Meaning
       memory_at i = a_memory (record { first = i; words = n })
 
-  change_over : (f : Entry → Entry) → Commutes prefix f → (s : Stage) (n : ℕ) → with_design (above s) (record (above s).design { entries = change_entry f (k + n) (above s).design.entries }) ≡ above (with_design s (record s.design { entries = change_entry f n s.design.entries }))
+  change_over : (f : Entry → Entry) → Commutes prefix f → (s : Stage) (n : ℕ)
+      → with_design (above s) (record (above s).design { entries = change_entry f (k + n) (above s).design.entries })
+      ≡ above (with_design s (record s.design { entries = change_entry f n s.design.entries }))
   change_over f h s n = ap (λ es. with_design (above s) (record (above s).design { entries = es })) (change_moved prefix f h b.entries s.design.entries n)
 
-  adds_follow : (s : Stage) (at : Site) (d : DeclTree) (r : Option Range) (o n : Option ℕ) (t : Stage) → IsPlain s → add_declared (above s) (moved_site at) d r (option_map (λ n. k + n) o) n ≡ good t → Next (add_declared s at d r o n) t
+  adds_follow : (s : Stage) (at : Site) (d : DeclTree) (r : Option Range) (o n : Option ℕ) (t : Stage) → IsPlain s
+      → add_declared (above s) (moved_site at) d r (option_map (λ n. k + n) o) n ≡ good t → Next (add_declared s at d r o n) t
   adds_follow s at d r (Some i) n t h e =
       let f = declared_again d.kind in
       good_follows prefix b IsPlain (with_design s (record s.design { entries = change_entry f i s.design.entries })) t
@@ -360,10 +387,12 @@ module _ (prefix : Text) (b : Design) where
   declaration_follows : (s : Stage) (q : Site × DeclTree) (t : Stage) → IsPlain s → declaration (above s) (moved_site q.0, q.1) ≡ good t → Next (declaration s q) t
   declaration_follows s q t h e =
       let at = q.0 in let d = q.1 in let own = look_of s in
-      subst (λ bs. Next (then_ (judged declaration_order at.place bs (tt {0})) (λ u. add_declared s at d (range_read own d.name d.range).range (again own d) (array_read own d d.array).count)) t) (rules_moved s at d)
+      subst (λ bs. Next (then_ (judged declaration_order at.place bs (tt {0}))
+      (λ u. add_declared s at d (range_read own d.name d.range).range (again own d) (array_read own d d.array).count)) t) (rules_moved s at d)
       (then_follows prefix b IsPlain (judged declaration_order at.place (declaration_rules (there s) (moved_site at) d) (tt {0})) _ _ t
       (λ u i j. adds_follow s at d (range_read own d.name d.range).range (again own d) (array_read own d d.array).count t h
-      (ap₃ (λ (r : Ranged) o (a : Words). add_declared (above s) (moved_site at) d r.range o a.count) (sym (range_read_moved s d.name d.range)) (sym (again_moved s d)) (sym (array_moved s d d.array)) ∙ j)) e)
+      (ap₃ (λ (r : Ranged) o (a : Words). add_declared (above s) (moved_site at) d r.range o a.count) (sym (range_read_moved s d.name d.range)) (sym (again_moved s d))
+      (sym (array_moved s d d.array)) ∙ j)) e)
 
   -- ---- all declarations
 
@@ -388,7 +417,8 @@ module _ (prefix : Text) (b : Design) where
 
   sites_moved : (inner : Text) (m : ModuleTree) → sites (prefix ++ inner) m ≡ map (λ (q : Site × DeclTree). (moved_site q.0, q.1)) (sites inner m)
   sites_moved inner m =
-      sym (map-append _ _ _ ∙ ap₂ (λ xs ys. xs ++ ys) (map_twice (λ (q : Site × DeclTree). (moved_site q.0, q.1)) (λ (d : DeclTree). in_head d) (header_decls m)) (map_twice (λ (q : Site × DeclTree). (moved_site q.0, q.1)) (λ (q : Place × DeclTree). in_body q) (item_decls m)))
+      sym (map-append _ _ _ ∙ ap₂ (λ xs ys. xs ++ ys) (map_twice (λ (q : Site × DeclTree). (moved_site q.0, q.1)) (λ (d : DeclTree). in_head d) (header_decls m))
+      (map_twice (λ (q : Site × DeclTree). (moved_site q.0, q.1)) (λ (q : Place × DeclTree). in_body q) (item_decls m)))
     where
       in_head : DeclTree → Site × DeclTree
       in_head d = (record { prefix = inner; header = header_of m; in_header = true; place = m.place }, d)
@@ -398,18 +428,19 @@ module _ (prefix : Text) (b : Design) where
 
   pub declarations_follow : (inner : Text) (m : ModuleTree) (s t : Stage) → IsPlain s → declarations (prefix ++ inner) m (above s) ≡ good t → Next (declarations inner m s) t
   declarations_follow inner m s t h e =
-      then_follows prefix b IsPlain (header_twice m) _ _ t (λ u i j. declared j) e
+      then_follows prefix b IsPlain (header_twice m) (λ u. then_ (each declaration (above s) (sites (prefix ++ inner) m)) direct) (λ u. then_ (each declaration s (sites inner m)) direct) t
+      (λ u i j. bind_follows prefix b IsPlain IsPlain (each declaration (above s) (sites (prefix ++ inner) m)) (each declaration s (sites inner m)) direct direct t declared
+      (λ u c q e. each_follows prefix b IsPlain (directed m) (directed m) (λ s x t. directed_follows m s x t) u (header_of m) t q e) j) e
     where
+      direct : Stage → Outcome Stage
+      direct u = each (directed m) u (header_of m)
+
       move : Site × DeclTree → Site × DeclTree
       move q = (moved_site q.0, q.1)
 
-      declared : then_ (each declaration (above s) (sites (prefix ++ inner) m)) (λ u. each (directed m) u (header_of m)) ≡ good t → Next (then_ (each declaration s (sites inner m)) (λ u. each (directed m) u (header_of m))) t
-      declared e =
-          let g = good_then (each declaration (above s) (sites (prefix ++ inner) m)) _ t e in
-          let a = each_follows prefix b IsPlain (λ u q. declaration u (move q)) declaration (λ s q t. declaration_follows s q t) s (sites inner m) g.0 h
-          (sym (each_mapped declaration move (above s) (sites inner m)) ∙ ap (each declaration (above s)) (sym (sites_moved inner m)) ∙ g.1) in
-          let c = each_follows prefix b IsPlain (directed m) (directed m) (λ s x t. directed_follows m s x t) a.own (header_of m) t a.holds (subst (λ u. each (directed m) u (header_of m) ≡ good t) a.over_it g.2) in
-          record { own = c.own; is = ap (λ o. then_ o (λ u. each (directed m) u (header_of m))) a.is ∙ c.is; over_it = c.over_it; holds = c.holds }
+      declared : (u : Stage) → each declaration (above s) (sites (prefix ++ inner) m) ≡ good u → Next (each declaration s (sites inner m)) u
+      declared u e = each_follows prefix b IsPlain (λ u q. declaration u (move q)) declaration (λ s q t. declaration_follows s q t) s (sites inner m) u h
+          (sym (each_mapped declaration move (above s) (sites inner m)) ∙ ap (each declaration (above s)) (sym (sites_moved inner m)) ∙ e)
 
   -- ---- the declared resets
 
@@ -422,7 +453,8 @@ module _ (prefix : Text) (b : Design) where
       let es = s.design.entries in let l = length_moved prefix b.entries es in
       ap (λ ps. reset_with ps (k + n) (above s)) none
       ∙ ap (λ xs. with_design (above s) (record (above s).design { entries = xs }))
-      (ap (λ more. change_from (declared_reset []) (k + n) more (behind prefix b.entries es)) (let z : length (behind prefix b.entries es) - (k + n) ≡ length es - n = omega (arith, l) in z)
+      (ap (λ more. change_from (declared_reset []) (k + n) more (behind prefix b.entries es))
+      (let z : length (behind prefix b.entries es) - (k + n) ≡ length es - n = omega (arith, l) in z)
       ∙ from_moved prefix (declared_reset []) (λ e. refl) b.entries n (length es - n) es)
       ∙ ap (λ ps. above (reset_with ps n s)) (sym h.pins)
 
@@ -430,5 +462,6 @@ module _ (prefix : Text) (b : Design) where
   resets_plain n s h = record {
     pins = h.pins;
     unreset = subst (λ ps. AreUnreset (change_from (declared_reset ps) n (length s.design.entries - n) s.design.entries)) (sym h.pins)
-        (from_keeps AreUnreset (declared_reset []) (λ i es. unreset_change (declared_reset []) (λ e p. same_both _ None) i es) n (length s.design.entries - n) s.design.entries h.unreset);
+        (from_keeps AreUnreset (declared_reset []) (λ i es. unreset_change (declared_reset []) (λ e p. same_both _ None) i es) n
+        (length s.design.entries - n) s.design.entries h.unreset);
   }

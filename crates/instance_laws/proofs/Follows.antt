@@ -53,16 +53,19 @@ module _ (prefix : Text) (b : Design) where
     pub good_follows : (s t : Stage) → P s → good (over s) ≡ good t → Follows P (good s) t
     good_follows s t h e = record { own = s; is = refl; over_it = sym (good_is (over s) t e); holds = h }
 
-    pub judged_follows : (order : Order) (p : Place) (bs cs : List Broken) (a : Stage) (c t : Stage) → (bs ≡ [] → cs ≡ []) → (bs ≡ [] → c ≡ over a) → P a → judged order p bs c ≡ good t → Follows P (judged order p cs a) t
+    pub judged_follows : (order : Order) (p : Place) (bs cs : List Broken) (a : Stage) (c t : Stage) → (bs ≡ [] → cs ≡ []) → (bs ≡ [] → c ≡ over a) → P a
+        → judged order p bs c ≡ good t → Follows P (judged order p cs a) t
     judged_follows order p bs cs a c t h j q e =
         let i = judged_is order p bs c t e in
         record { own = a; is = ap (λ ds. judged order p ds a) (h i.0); over_it = sym i.1 ∙ j i.0; holds = q }
 
     -- the same rules are broken
-    pub same_follows : (order : Order) (p : Place) (bs cs : List Broken) (a : Stage) (c t : Stage) → bs ≡ cs → c ≡ over a → P a → judged order p bs c ≡ good t → Follows P (judged order p cs a) t
+    pub same_follows : (order : Order) (p : Place) (bs cs : List Broken) (a : Stage) (c t : Stage) → bs ≡ cs → c ≡ over a → P a → judged order p bs c ≡ good t
+        → Follows P (judged order p cs a) t
     same_follows order p bs cs a c t h j = judged_follows order p bs cs a c t (λ i. sym h ∙ i) (λ i. j)
 
-    pub then_follows : {A : Type 0} (o : Outcome A) (f g : A → Outcome Stage) (t : Stage) → ((a : A) → o ≡ good a → f a ≡ good t → Follows P (g a) t) → then_ o f ≡ good t → Follows P (then_ o g) t
+    pub then_follows : {A : Type 0} (o : Outcome A) (f g : A → Outcome Stage) (t : Stage) → ((a : A) → o ≡ good a → f a ≡ good t → Follows P (g a) t) → then_ o f ≡ good t
+        → Follows P (then_ o g) t
     then_follows o f g t h e = let i = good_then o f t e in let r = h i.0 i.1 i.2 in
         record { own = r.own; is = ap (λ x. then_ x g) i.1 ∙ r.is; over_it = r.over_it; holds = r.holds }
 
@@ -84,7 +87,8 @@ module _ (prefix : Text) (b : Design) where
         let r = each_follows f g h a.own xs t a.holds (subst (λ u. each f u xs ≡ good t) a.over_it i.2) in
         record { own = r.own; is = ap (λ o. then_ o (λ u. each g u xs)) a.is ∙ r.is; over_it = r.over_it; holds = r.holds }
 
-  assigned_over : (s : Stage) (t : Target) (e : Expr) → with_design (over s) (assigned (over s).design (moved_target k t) (moved_expr k e)) ≡ over (with_design s (assigned s.design t e))
+  assigned_over : (s : Stage) (t : Target) (e : Expr) → with_design (over s) (assigned (over s).design (moved_target k t) (moved_expr k e))
+      ≡ over (with_design s (assigned s.design t e))
   assigned_over s t e = ap (λ xs. with_design (over s) (record (over s).design { assigns = xs })) (one_more (moved_assign k) b.assigns s.design.assigns (t, e))
 
   -- what stays where a step changes no entry, no name and no pin
@@ -100,7 +104,8 @@ module _ (prefix : Text) (b : Design) where
 
     -- ---- assignments and gates
 
-    assign_over : (a c : Aim) (v w : Term) → c ≡ moved_aim k a → w ≡ moved_term k v → with_design (over s) (assigned (over s).design c.target w.expr) ≡ over (with_design s (assigned s.design a.target v.expr))
+    assign_over : (a c : Aim) (v w : Term) → c ≡ moved_aim k a → w ≡ moved_term k v
+        → with_design (over s) (assigned (over s).design c.target w.expr) ≡ over (with_design s (assigned s.design a.target v.expr))
     assign_over a c v w i j = ap₂ (λ (x : Aim) (y : Term). with_design (over s) (assigned (over s).design x.target y.expr)) i j ∙ assigned_over s a.target v.expr
 
     pub assign_follows : (p : Place) (x : TargetTree) (e : ExprTree) (t : Stage) → assign_item (over s) p x e ≡ good t → Follows P (assign_item s p x e) t
@@ -131,8 +136,10 @@ module _ (prefix : Text) (b : Design) where
     gate_follows p kind (x ∷ es) t =
         let a = driven_moved prefix b.entries look x in let vs = map (read look) es in
         same_follows P by_number p _ _ (with_design s (assigned s.design (driven look x).target (gate_value kind vs))) _ t
-        (ap₂ (λ (y : Aim) ws. count_rule kind (length (x ∷ es)) ++ y.broken ++ output_rule kind y.bits ++ flat_map (input_rules kind) ws) a (inputs_moved es) ∙ ap (λ bs. count_rule kind (length (x ∷ es)) ++ (driven look x).broken ++ output_rule kind (driven look x).bits ++ bs) (rules_moved kind vs))
-        (ap₂ (λ (y : Aim) v. with_design (over s) (assigned (over s).design y.target v)) a (ap (gate_value kind) (inputs_moved es) ∙ value_moved kind vs) ∙ assigned_over s (driven look x).target (gate_value kind vs))
+        (ap₂ (λ (y : Aim) ws. count_rule kind (length (x ∷ es)) ++ y.broken ++ output_rule kind y.bits ++ flat_map (input_rules kind) ws) a (inputs_moved es)
+        ∙ ap (λ bs. count_rule kind (length (x ∷ es)) ++ (driven look x).broken ++ output_rule kind (driven look x).bits ++ bs) (rules_moved kind vs))
+        (ap₂ (λ (y : Aim) v. with_design (over s) (assigned (over s).design y.target v)) a (ap (gate_value kind) (inputs_moved es) ∙ value_moved kind vs)
+        ∙ assigned_over s (driven look x).target (gate_value kind vs))
         (stays s (assigned s.design (driven look x).target (gate_value kind vs)) refl refl h)
 
     -- ---- start values
@@ -142,7 +149,8 @@ module _ (prefix : Text) (b : Design) where
       pub starts : a.starts ≡ b.starts ++ map (moved_start k) c.starts
       pub rules : a.broken ≡ [] → c.broken ≡ []
 
-    also_broken : (a c : Starts) (bs cs : List Broken) → (bs ≡ [] → cs ≡ []) → AreStarts a c → AreStarts (record a { broken = a.broken ++ bs }) (record c { broken = c.broken ++ cs })
+    also_broken : (a c : Starts) (bs cs : List Broken) → (bs ≡ [] → cs ≡ []) → AreStarts a c
+        → AreStarts (record a { broken = a.broken ++ bs }) (record c { broken = c.broken ++ cs })
     also_broken a c bs cs i j = record { starts = j.starts; rules = λ e. let p = none_of_both a.broken bs e in ap₂ (λ x y. x ++ y) (j.rules p.0) (i p.1) }
 
     -- E309
@@ -155,10 +163,12 @@ module _ (prefix : Text) (b : Design) where
       where
         begins : starts_with c n ≡ true → starts_with (b.starts ++ map (moved_start k) c) (k + n) ≡ true
         begins e = list_any-append (λ (a : Start). a.sig == k + n) b.starts (map (moved_start k) c)
-            ∙ true_right (starts_with b.starts (k + n)) (starts_with (map (moved_start k) c) (k + n)) (any_mapped (λ (a : Start). a.sig == k + n) (moved_start k) (λ (a : Start). a.sig == n) (λ a. same_signal k a.sig n) c ∙ e)
+            ∙ true_right (starts_with b.starts (k + n)) (starts_with (map (moved_start k) c) (k + n))
+            (any_mapped (λ (a : Start). a.sig == k + n) (moved_start k) (λ (a : Start). a.sig == n) (λ a. same_signal k a.sig n) c ∙ e)
 
         go : (q : Bool) → starts_with c n ≡ q → (o : Option Entry) → slice_get look.entries n ≡ o
-            → cond (starts_with (b.starts ++ map (moved_start k) c) (k + n)) (at_entry (slice_get there.entries (k + n))) [] ≡ [] → cond (starts_with c n) (at_entry (slice_get look.entries n)) [] ≡ []
+            → cond (starts_with (b.starts ++ map (moved_start k) c) (k + n)) (at_entry (slice_get there.entries (k + n))) []
+            ≡ [] → cond (starts_with c n) (at_entry (slice_get look.entries n)) [] ≡ []
         go false i o j r = ap (λ q. cond q (at_entry (slice_get look.entries n)) []) i
         go true i None j r = ap₂ (λ q o. cond q (at_entry o) []) i j
         go true i (Some e) j r =
@@ -176,7 +186,8 @@ module _ (prefix : Text) (b : Design) where
           let q = none_of_both _ (breaks_if (not w.is_constant) 313 x) p.0 in
           let r = none_of_both a.broken w.broken q.0 in
           ap₂ (λ xs ys. xs ++ ys)
-          (ap₂ (λ xs ys. xs ++ ys) (ap₂ (λ xs ys. xs ++ ys) (j.rules r.0) (sym (ap (λ (y : Term). y.broken) i) ∙ r.1)) (sym (ap (λ (y : Term). breaks_if (not y.is_constant) 313 x) i) ∙ q.1))
+          (ap₂ (λ xs ys. xs ++ ys) (ap₂ (λ xs ys. xs ++ ys) (j.rules r.0) (sym (ap (λ (y : Term). y.broken) i) ∙ r.1))
+          (sym (ap (λ (y : Term). breaks_if (not y.is_constant) 313 x) i) ∙ q.1))
           (twice c.starts n (sym (ap (λ zs. twice_rule there.entries zs (k + n)) j.starts) ∙ p.1));
     }
 
@@ -185,18 +196,22 @@ module _ (prefix : Text) (b : Design) where
     row_at l x c v (Whole n) = cond (option_map_or (λ (r : Entry). r.is_reg) (slice_get l.entries n) false) (start l x n v c) (record c { broken = c.broken ++ v.broken })
     row_at l x c v g = record c { broken = c.broken ++ v.broken }
 
-    row_at_moved : (x : Text) (v w : Term) → w ≡ moved_term k v → (g : Target) (a c : Starts) → AreStarts a c → AreStarts (row_at there x a w (moved_target k g)) (row_at look x c v g)
+    row_at_moved : (x : Text) (v w : Term) → w ≡ moved_term k v → (g : Target) (a c : Starts) → AreStarts a c
+        → AreStarts (row_at there x a w (moved_target k g)) (row_at look x c v g)
     row_at_moved x v w i g a c h = go g
       where
         plain : AreStarts (record a { broken = a.broken ++ w.broken }) (record c { broken = c.broken ++ v.broken })
         plain = also_broken a c w.broken v.broken (λ e. sym (ap (λ (y : Term). y.broken) i) ∙ e) h
 
-        whole_at : (n : ℕ) (p : Bool) → AreStarts (cond p (start there x (k + n) w a) (record a { broken = a.broken ++ w.broken })) (cond p (start look x n v c) (record c { broken = c.broken ++ v.broken }))
+        whole_at : (n : ℕ) (p : Bool) → AreStarts (cond p (start there x (k + n) w a) (record a { broken = a.broken ++ w.broken }))
+            (cond p (start look x n v c) (record c { broken = c.broken ++ v.broken }))
         whole_at n true = start_moved x n v w a c i h
         whole_at n false = plain
 
         go : (g : Target) → AreStarts (row_at there x a w (moved_target k g)) (row_at look x c v g)
-        go (Whole n) = rw (told_moved prefix b.entries look.entries n (λ (r : Entry). r.is_reg) false (λ e. refl)) (whole_at n (option_map_or (λ (r : Entry). r.is_reg) (slice_get look.entries n) false))
+        go (Whole n) =
+            rw (told_moved prefix b.entries look.entries n (λ (r : Entry). r.is_reg) false (λ e. refl))
+            (whole_at n (option_map_or (λ (r : Entry). r.is_reg) (slice_get look.entries n) false))
         go (Part n at w) = plain
         go (Pick n e) = plain
         go (Group ts) = plain
@@ -230,17 +245,25 @@ module _ (prefix : Text) (b : Design) where
     names_moved (join_of parts) = refl
 
     other_moved : (x : StmtTree) (a c : Starts) → AreStarts a c
-        → AreStarts (record a { broken = a.broken ++ breaks 313 [] ++ (done there neither x).broken }) (record c { broken = c.broken ++ breaks 313 [] ++ (done look neither x).broken })
-    other_moved x a c h = also_broken (record a { broken = a.broken ++ breaks 313 [] }) (record c { broken = c.broken ++ breaks 313 [] }) _ _ (λ e. sym (ap (λ (d : Done). d.broken) (done_moved prefix b.entries look neither x)) ∙ e) (also_broken a c _ _ (λ e. e) h)
+        → AreStarts (record a { broken = a.broken ++ breaks 313 [] ++ (done there neither x).broken })
+        (record c { broken = c.broken ++ breaks 313 [] ++ (done look neither x).broken })
+    other_moved x a c h =
+        also_broken (record a { broken = a.broken ++ breaks 313 [] }) (record c { broken = c.broken ++ breaks 313 [] }) _ _
+        (λ e. sym (ap (λ (d : Done). d.broken) (done_moved prefix b.entries look neither x)) ∙ e) (also_broken a c _ _ (λ e. e) h)
 
     row_moved : (x : StmtTree) (a c : Starts) → AreStarts a c → AreStarts (initial_row there a x) (initial_row look c x)
     row_moved (set blocking delay x e) a c h =
         let i = aim_moved prefix b.entries look of_registers x in let own = aim look of_registers x in
-        let rules_there = breaks_if (not blocking || not (names_register there x)) 313 (first_name x) in let rules_here = breaks_if (not blocking || not (names_register look x)) 313 (first_name x) in
-        let one : Starts = record { starts = a.starts; broken = a.broken ++ (aim there of_registers x).broken } in let two : Starts = record { starts = c.starts; broken = c.broken ++ own.broken } in
+        let rules_there =
+        breaks_if (not blocking || not (names_register there x)) 313 (first_name x) in
+        let rules_here = breaks_if (not blocking || not (names_register look x)) 313 (first_name x) in
+        let one : Starts =
+        record { starts = a.starts; broken = a.broken ++ (aim there of_registers x).broken } in
+        let two : Starts = record { starts = c.starts; broken = c.broken ++ own.broken } in
         let first = also_broken a c (aim there of_registers x).broken own.broken (λ q. sym (ap (λ (y : Aim). y.broken) i) ∙ q) h in
         let second = also_broken one two rules_there rules_here (λ q. sym (ap (λ n. breaks_if (not blocking || not n) 313 (first_name x)) (names_moved x)) ∙ q) first in
-        subst (λ (y : Aim). AreStarts (row_at there (first_name x) (record one { broken = one.broken ++ rules_there }) (read there e) y.target) (row_at look (first_name x) (record two { broken = two.broken ++ rules_here }) (read look e) own.target)) (sym i)
+        subst (λ (y : Aim). AreStarts (row_at there (first_name x) (record one { broken = one.broken ++ rules_there }) (read there e) y.target)
+        (row_at look (first_name x) (record two { broken = two.broken ++ rules_here }) (read look e) own.target)) (sym i)
         (row_at_moved (first_name x) (read look e) (read there e) (read_moved prefix b.entries look e) own.target _ _ second)
     row_moved null a c h = other_moved null a c h
     row_moved (when q x) a c h = other_moved (when q x) a c h
@@ -271,10 +294,13 @@ module _ (prefix : Text) (b : Design) where
     nothing_started = record { starts = refl; rules = λ e. refl }
 
     pub initial_follows : (p : Place) (x : StmtTree) (t : Stage) → initial_item (over s) p x ≡ good t → Follows P (initial_item s p x) t
-    initial_follows p x t = with_starts_follows p (initial_starts there (so_far (over s)) x) (initial_starts look (so_far s) x) t (initial_moved x (so_far (over s)) (so_far s) nothing_started)
+    initial_follows p x t =
+        with_starts_follows p (initial_starts there (so_far (over s)) x) (initial_starts look (so_far s) x) t (initial_moved x (so_far (over s)) (so_far s) nothing_started)
 
-    start_follows : (p : Place) (x : Text) (o : Option Meaning) (v w : Term) (t : Stage) → w ≡ moved_term k v → start_of (over s) p x (moved_if k o) w ≡ good t → Follows P (start_of s p x o v) t
-    start_follows p x (Some (a_signal n)) v w t i = with_starts_follows p (start there x (k + n) w (so_far (over s))) (start look x n v (so_far s)) t (start_moved x n v w (so_far (over s)) (so_far s) i nothing_started)
+    start_follows : (p : Place) (x : Text) (o : Option Meaning) (v w : Term) (t : Stage) → w ≡ moved_term k v → start_of (over s) p x (moved_if k o) w ≡ good t
+        → Follows P (start_of s p x o v) t
+    start_follows p x (Some (a_signal n)) v w t i =
+        with_starts_follows p (start there x (k + n) w (so_far (over s))) (start look x n v (so_far s)) t (start_moved x n v w (so_far (over s)) (so_far s) i nothing_started)
     start_follows p x None v w t i = same_follows P by_number p w.broken v.broken s (over s) t (ap (λ (y : Term). y.broken) i) refl h
     start_follows p x (Some (a_param q)) v w t i = same_follows P by_number p w.broken v.broken s (over s) t (ap (λ (y : Term). y.broken) i) refl h
     start_follows p x (Some (a_memory m)) v w t i = same_follows P by_number p w.broken v.broken s (over s) t (ap (λ (y : Term). y.broken) i) refl h

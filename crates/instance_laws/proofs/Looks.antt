@@ -24,7 +24,8 @@ module _ (k : ℕ) (names : Names) where
   found_moved [] x = refl
   found_moved (p ∷ more) x = go (bytes_eq p.0 x) (found_moved more x)
     where
-      go : (b : Bool) → found_in (moved_names k more) x ≡ moved_if k (found_in more x) → cond b (Some (moved_meaning k p.1)) (found_in (moved_names k more) x) ≡ moved_if k (cond b (Some p.1) (found_in more x))
+      go : (b : Bool) → found_in (moved_names k more) x ≡ moved_if k (found_in more x)
+          → cond b (Some (moved_meaning k p.1)) (found_in (moved_names k more) x) ≡ moved_if k (cond b (Some p.1) (found_in more x))
       go true e = refl
       go false e = e
 
@@ -175,7 +176,8 @@ module _ (prefix : Text) (base : List Entry) where
         go None = refl
         go (Some e) = refl
 
-    pub told_moved : {A : Type 0} (g : Entry → A) (d : A) → ((e : Entry) → g (moved_entry prefix e) ≡ g e) → option_map_or g (slice_get (behind es) (count + s)) d ≡ option_map_or g (slice_get es s) d
+    pub told_moved : {A : Type 0} (g : Entry → A) (d : A) → ((e : Entry) → g (moved_entry prefix e) ≡ g e)
+        → option_map_or g (slice_get (behind es) (count + s)) d ≡ option_map_or g (slice_get es s) d
     told_moved {A} g d h = ap (λ o. option_map_or g o d) (at_moved es s) ∙ go (slice_get es s)
       where
         go : (o : Option Entry) → option_map_or g (option_map (moved_entry prefix) o) d ≡ option_map_or g o d

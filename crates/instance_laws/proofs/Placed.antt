@@ -18,7 +18,7 @@ use Rattle.instance_laws.specs.Moved.{moved_assign, moved_names}
 use Rattle.instance_laws.specs.Laws.{entries_behind, behind as design_behind, placed, HaveNoReset, InstancesAreModules}
 use Rattle.instance_laws.proofs.Looks.{moved_if, meaning_moved, behind, width_moved, reset_moved}
 use Rattle.instance_laws.proofs.Bits.{length_moved}
-use Rattle.instance_laws.proofs.Follows.{over}
+use Rattle.instance_laws.proofs.Follows.{over, Follows}
 use Rattle.instance_laws.proofs.Processes.{unreset_at}
 use Rattle.instance_laws.proofs.Declared.{alike_itself, given, IsPlain, parameters_follow, declarations_follow, resets_over, resets_plain}
 use Rattle.instance_laws.proofs.Ports.{wires, connect_wires, wires_same}
@@ -32,7 +32,18 @@ late_same (bad e) = refl
 
 -- behind it stands no more than before
 nothing_behind : (prefix : Text) (d : Design) → design_behind prefix d (no_design []) ≡ d
-nothing_behind prefix d = rw (append-nil d.entries, append-nil d.assigns, append-nil d.combs, append-nil d.clocked, append-nil d.resets, append-nil d.outputs, append-nil d.starts, append-nil d.givens, late_same d.late)
+nothing_behind prefix d =
+    rw (
+      append-nil d.entries,
+      append-nil d.assigns,
+      append-nil d.combs,
+      append-nil d.clocked,
+      append-nil d.resets,
+      append-nil d.outputs,
+      append-nil d.starts,
+      append-nil d.givens,
+      late_same d.late,
+    )
 
 same_given : (overrides : Overrides) → given (λ e. e) overrides ≡ overrides
 same_given [] = refl
@@ -83,7 +94,8 @@ module _ (prefix : Text) (links : List Link) (d : Design) (none : d.pins ≡ [])
       go (x ∷ xs) e = absurd (search (rules, e))
 
   -- the names of ports mean the same signals once all items are there
-  wires_later : (s own : Stage) → IsPlain s → ((x : Text) (i : ℕ) → meaning_in s.names x ≡ Some (a_signal i) → i < length s.design.entries) → IsLater s own → wires_of own ≡ wires_of s
+  wires_later : (s own : Stage) → IsPlain s → ((x : Text) (i : ℕ) → meaning_in s.names x ≡ Some (a_signal i) → i < length s.design.entries) → IsLater s own
+      → wires_of own ≡ wires_of s
   wires_later s own h among l =
       wires_same (moved_names k s.names) (moved_names k own.names) (behind prefix d.entries s.design.entries) (behind prefix d.entries own.design.entries)
       (λ x. meaning_moved k own.names x ∙ ap (moved_if k) (l.names x) ∙ sym (meaning_moved k s.names x))
@@ -99,13 +111,16 @@ module _ (prefix : Text) (links : List Link) (d : Design) (none : d.pins ≡ [])
           subst (λ i. (width_at (behind prefix d.entries own.design.entries) i ≡ width_at (behind prefix d.entries s.design.entries) i)
           × (reset_at (behind prefix d.entries own.design.entries) i ≡ reset_at (behind prefix d.entries s.design.entries) i)) j (
             width_moved prefix d.entries own.design.entries n ∙ l.widths n (among x n m) ∙ sym (width_moved prefix d.entries s.design.entries n),
-            reset_moved prefix d.entries own.design.entries n ∙ unreset_at own.design.entries l.plain.unreset n ∙ sym (unreset_at s.design.entries h.unreset n) ∙ sym (reset_moved prefix d.entries s.design.entries n),
+            reset_moved prefix d.entries own.design.entries n ∙ unreset_at own.design.entries l.plain.unreset n ∙ sym (unreset_at s.design.entries h.unreset n)
+                ∙ sym (reset_moved prefix d.entries s.design.entries n),
           )
       signal x i (Some (a_memory p)) m e = absurd (search (rules, e))
       signal x i (Some no_value) m e = absurd (search (rules, e))
 
   placed_is : (own : Stage) → over prefix (wired (wires_of own)) own ≡ placed prefix links d own
-  placed_is own = ap (λ xs. over prefix (record d { assigns = xs }) own) (sym (ap (λ (c : Design). c.assigns) (connect_wires (moved_names k own.names) (entries_behind prefix d own.design) links g)))
+  placed_is own =
+      ap (λ xs. over prefix (record d { assigns = xs }) own) (sym (ap (λ (c : Design). c.assigns)
+      (connect_wires (moved_names k own.names) (entries_behind prefix d own.design) links g)))
 
   module _ (modules : List ModuleTree) (n : ℕ) (visiting : List Text) (m : ModuleTree) (overrides : Overrides) (e : Stage) where
     abbrev items : Text → Stage → Outcome Stage
@@ -114,23 +129,47 @@ module _ (prefix : Text) (links : List Link) (d : Design) (none : d.pins ≡ [])
     abbrev Result : Type 0
     Result = (own : Stage) × (visit modules (suc n) [] visiting m overrides (λ s. s) alone ≡ good own) × (e ≡ placed prefix links d own)
 
+    -- the ports of the instance, once it is declared
+    abbrev ports : Stage → Stage
+    ports t = connected links (with_resets (length (behind prefix d.entries [])) t)
+
+    behind_declarations : (s t : Stage) → parameters overrides m first ≡ good s → declarations [] m s ≡ good t → IsPlain t → items (prefix ++ []) (ports (over prefix d t)) ≡ good e → Result
+    behind_declarations s t i j h q = (
+      v.own,
+      ap (λ o. then_ o (λ u. then_ (declarations [] m u) (λ w. items [] (with_resets 0 w)))) i ∙ ap (λ o. then_ o (λ w. items [] (with_resets 0 w))) j ∙ v.is,
+      v.over_it ∙ ap (λ xs. over prefix (wired xs) v.own) (sym (wires_later start v.own plain in_range v.holds)) ∙ placed_is v.own,
+    )
+      where
+        start : Stage
+        start = with_resets 0 t
+
+        plain : IsPlain start
+        plain = resets_plain prefix d 0 t h
+
+        opened : ports (over prefix d t) ≡ over prefix (wired (wires_of start)) start
+        opened =
+            ap (λ n. connected links (with_resets n (over prefix d t))) (length_moved prefix d.entries []) ∙ ap (connected links) (resets_over prefix d none 0 t h)
+            ∙ ports_wired start (nothing_assigned overrides m s t i j)
+
+        v : Follows prefix (wired (wires_of start)) (IsLater start) (items [] start) e
+        v = items_follow prefix (wired (wires_of start)) modules n (visit_moves prefix (wired (wires_of start)) modules none n) visiting [] start m plain e
+            (subst (λ u. items (prefix ++ []) u ≡ good e) opened q)
+
+        as_many : length start.design.entries ≡ length t.design.entries
+        as_many = from_keeps (λ es. length es ≡ length t.design.entries) _ (λ n es k. same_length _ n es ∙ k) 0 (length t.design.entries - 0) t.design.entries refl
+
+        in_range : (x : Text) (n : ℕ) → meaning_in start.names x ≡ Some (a_signal n) → n < length start.design.entries
+        in_range x n k = subst (λ c. n < c) (sym as_many) (among overrides m s t i j x n k)
+
     is_placed : visit modules (suc n) (prefix ++ []) visiting m (given (λ x. x) overrides) (connected links) (design_behind prefix d alone) ≡ good e → Result
     is_placed q =
         let bare : IsPlain first = record { pins = refl; unreset = All-nil _ } in
         let a = good_then (parameters (given (λ x. x) overrides) m (over prefix d first)) _ e q in
-        let p = parameters_follow prefix d (λ x. x) alike_itself overrides m first a.0 bare a.1 in
-        let r = subst (λ u. then_ (declarations (prefix ++ []) m u) (λ t. items (prefix ++ []) (connected links (with_resets (length (behind prefix d.entries [])) t))) ≡ good e) p.over_it a.2 in
-        let c = good_then (declarations (prefix ++ []) m (over prefix d p.own)) _ e r in
-        let t = declarations_follow prefix d [] m p.own c.0 p.holds c.1 in
-        let s = with_resets 0 t.own in let plain = resets_plain prefix d 0 t.own t.holds in
-        let kept_length = from_keeps (λ es. length es ≡ length t.own.design.entries) _ (λ i es h. same_length _ i es ∙ h) 0 (length t.own.design.entries - 0) t.own.design.entries refl in
-        let opened = ap (λ i. connected links (with_resets i (over prefix d t.own))) (length_moved prefix d.entries []) ∙ ap (connected links) (resets_over prefix d none 0 t.own t.holds) ∙ ports_wired s (nothing_assigned overrides m p.own t.own p.is t.is) in
-        let v = items_follow prefix (wired (wires_of s)) modules n (visit_moves prefix (wired (wires_of s)) modules none n) visiting [] s m plain e
-        (subst (λ u. items (prefix ++ []) u ≡ good e) opened (subst (λ u. items (prefix ++ []) (connected links (with_resets (length (behind prefix d.entries [])) u)) ≡ good e) t.over_it c.2)) in (
-          v.own,
-          ap (λ o. then_ o (λ s. then_ (declarations [] m s) (λ t. items [] (with_resets 0 t)))) p.is ∙ ap (λ o. then_ o (λ t. items [] (with_resets 0 t))) t.is ∙ v.is,
-          v.over_it ∙ ap (λ xs. over prefix (wired xs) v.own) (sym (wires_later s v.own plain (λ x i h. subst (λ c. i < c) (sym kept_length) (among overrides m p.own t.own p.is t.is x i h)) v.holds)) ∙ placed_is v.own,
-        )
+        let s = parameters_follow prefix d (λ x. x) alike_itself overrides m first a.0 bare a.1 in
+        let r = subst (λ u. then_ (declarations (prefix ++ []) m u) (λ t. items (prefix ++ []) (ports t)) ≡ good e) s.over_it a.2 in
+        let c = good_then (declarations (prefix ++ []) m (over prefix d s.own)) _ e r in
+        let t = declarations_follow prefix d [] m s.own c.0 s.holds c.1 in
+        behind_declarations s.own t.own s.is t.is t.holds (subst (λ u. items (prefix ++ []) (ports u) ≡ good e) {y = over prefix d t.own} t.over_it c.2)
 
 pub instances_are_modules : InstancesAreModules
 instances_are_modules modules zero prefix visiting m overrides links d e none g q = absurd (search (rules, q))

@@ -128,7 +128,8 @@ module _ (prefix : Text) (b : Design) (s : Stage) where
   pub overrides_moved : (m : ModuleTree) (params : ConnsTree) → overrides_of there m params ≡ given (moved_expr k) (overrides_of own m params)
   overrides_moved m params = go (joints (overridable m) params)
     where
-      one : (o : Option Text) (v : Term) (c g : Bool) (rest : Overrides) → cons_option (overriding o (moved_term k v) c g) (given (moved_expr k) rest) ≡ given (moved_expr k) (cons_option (overriding o v c g) rest)
+      one : (o : Option Text) (v : Term) (c g : Bool) (rest : Overrides)
+          → cons_option (overriding o (moved_term k v) c g) (given (moved_expr k) rest) ≡ given (moved_expr k) (cons_option (overriding o v c g) rest)
       one None v c g rest = refl
       one (Some x) v c g rest = refl
 
@@ -141,7 +142,9 @@ module _ (prefix : Text) (b : Design) (s : Stage) where
   -- ---- widths of what is given
 
   leaning_joint_moved : (j : Joint) → leaning_joint there j ≡ leaning_joint own j
-  leaning_joint_moved j = ap₂ (λ c n. cond c (option_map (leaning n) j.name) None) (leans_moved k s.names j.value) (ap (λ (v : Term). size v.expr) (read_same j.value) ∙ size_moved k (read own j.value).expr)
+  leaning_joint_moved j =
+      ap₂ (λ c n. cond c (option_map (leaning n) j.name) None) (leans_moved k s.names j.value)
+      (ap (λ (v : Term). size v.expr) (read_same j.value) ∙ size_moved k (read own j.value).expr)
     where
       leaning : ℕ → Text → Leaning
       leaning n x = record { name = x; bits = n }
@@ -347,7 +350,8 @@ module _ (names : Names) where
 
 -- the same, where the names of ports mean the same signals, which are as wide and resolve to the same
 pub wires_same : (names more : Names) (es fs : List Entry) → ((x : Text) → meaning_in more x ≡ meaning_in names x)
-    → ((x : Text) (s : ℕ) → meaning_in names x ≡ Some (a_signal s) → (width_at fs s ≡ width_at es s) × (reset_at fs s ≡ reset_at es s)) → (ls : List Link) → wires more fs ls ≡ wires names es ls
+    → ((x : Text) (s : ℕ) → meaning_in names x ≡ Some (a_signal s) → (width_at fs s ≡ width_at es s) × (reset_at fs s ≡ reset_at es s)) → (ls : List Link) → wires more fs ls
+    ≡ wires names es ls
 wires_same names more es fs h j [] = refl
 wires_same names more es fs h j (l ∷ ls) = ap₂ (λ xs ys. xs ++ ys) (one l) (wires_same names more es fs h j ls)
   where

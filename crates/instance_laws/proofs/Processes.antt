@@ -83,7 +83,8 @@ module _ (prefix : Text) (b : Design) (look : Look) where
   wide_moved : (e : Edge) → is_wide there e ≡ is_wide look e
   wide_moved e = ap (λ o. option_map_or (λ s. not (width_at there.entries s == 1)) o false) (edge_signal_moved e) ∙ go (edge_signal look e)
     where
-      go : (o : Option ℕ) → option_map_or (λ s. not (width_at there.entries s == 1)) (option_map (λ s. k + s) o) false ≡ option_map_or (λ s. not (width_at look.entries s == 1)) o false
+      go : (o : Option ℕ) → option_map_or (λ s. not (width_at there.entries s == 1)) (option_map (λ s. k + s) o) false
+          ≡ option_map_or (λ s. not (width_at look.entries s == 1)) o false
       go None = refl
       go (Some s) = ap (λ w. not (w == 1)) (width_moved prefix b.entries look.entries s)
 
@@ -144,7 +145,8 @@ module _ (prefix : Text) (b : Design) (look : Look) where
         let f = or_parts (not (has_form es)) (list_any (is_wide look) es) (not_broken _ 316 (first_edge es) p.1) in
         ap (λ o. unwrap_or o 0) (clock_is_first there unreset_there es) ∙ first es f.0 p.0 ∙ ap (λ o. k + unwrap_or o 0) (sym (clock_is_first look unreset_names es))
       where
-        named : (first : Text) (c : Edge) (o : Option Meaning) → meaning look c.name ≡ o → meant_edge look first c o ≡ [] → unwrap_or (option_map (λ s. k + s) (meant_signal look o)) 0 ≡ k + unwrap_or (meant_signal look o) 0
+        named : (first : Text) (c : Edge) (o : Option Meaning) → meaning look c.name ≡ o → meant_edge look first c o ≡ []
+            → unwrap_or (option_map (λ s. k + s) (meant_signal look o)) 0 ≡ k + unwrap_or (meant_signal look o) 0
         named first c None m e = let u = not_broken (is_none (meaning look c.name)) 305 c.name e in absurd (search (rules, sym (ap is_none m) ∙ u))
         named first c (Some (a_signal n)) m e = refl
         named first c (Some (a_param q)) m e = absurd (search (rules, e))
@@ -201,16 +203,20 @@ module _ (prefix : Text) (b : Design) (P : Stage → Type 0) (stays : Stays pref
       with_parts ps rs o = with_design here (record here.design { clocked = ps; resets = rs; late = o })
 
       same : clocked_rules (look_of here) es body ≡ []
-          → with_design here (also_clocked here.design (unwrap_or (clock_of (look_of here) es) 0) (done (look_of here) clocked body).stmt (edge_late es p)) ≡ over prefix b (with_design s next)
+          → with_design here (also_clocked here.design (unwrap_or (clock_of (look_of here) es) 0) (done (look_of here) clocked body).stmt (edge_late es p))
+          ≡ over prefix b (with_design s next)
       same i =
           let r = sym (clocked_rules_moved prefix b own es body) ∙ i in
           let ev = (none_of_both (event_rules own es) _ (none_of_both _ (delay_rules body) r).0).0 in
-          ap₂ (λ m (y : Done). with_design here (also_clocked here.design m y.stmt (edge_late es p))) (clock_moved prefix b own plain es ev) (done_moved prefix b.entries own clocked body)
-          ∙ ap₃ with_parts (one_more (moved_clocked n) b.clocked s.design.clocked (c, x)) (one_more (moved_reset n) b.resets s.design.resets (None, Null)) (after_both b.late s.design.late (edge_late es p))
+          ap₂ (λ m (y : Done). with_design here (also_clocked here.design m y.stmt (edge_late es p))) (clock_moved prefix b own plain es ev)
+          (done_moved prefix b.entries own clocked body)
+          ∙ ap₃ with_parts (one_more (moved_clocked n) b.clocked s.design.clocked (c, x)) (one_more (moved_reset n) b.resets s.design.resets (None, Null))
+          (after_both b.late s.design.late (edge_late es p))
 
   pub always_follows : (p : Place) (e : Event) (body : StmtTree) (t : Stage) → always_item here p e body ≡ good t → Follows prefix b P (always_item s p e body) t
   always_follows p e body t = go (is_of_wires e)
     where
-      go : (w : Bool) → cond w (wires_process here p e body) (clocked_process here p (edges_of e) body) ≡ good t → Follows prefix b P (cond w (wires_process s p e body) (clocked_process s p (edges_of e) body)) t
+      go : (w : Bool) → cond w (wires_process here p e body) (clocked_process here p (edges_of e) body) ≡ good t
+          → Follows prefix b P (cond w (wires_process s p e body) (clocked_process s p (edges_of e) body)) t
       go true q = wires_follows p e body t q
       go false q = clocked_follows p (edges_of e) body t q

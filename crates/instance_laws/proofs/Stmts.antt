@@ -78,7 +78,8 @@ module _ (k : ℕ) where
   tests_moved : (w : ℕ) (s before : Expr) (ms : List Mask) → also_tests w (moved_expr k s) (moved_expr k before) (map moved_mask ms) ≡ moved_expr k (also_tests w s before ms)
   tests_moved w s before [] = refl
   tests_moved w s before (m ∷ ms) =
-      ap (λ e. also_tests w (moved_expr k s) (Binary logical_or (moved_expr k before) e) (map moved_mask ms)) (test_moved w s m) ∙ tests_moved w s (Binary logical_or before (mask_test w s m)) ms
+      ap (λ e. also_tests w (moved_expr k s) (Binary logical_or (moved_expr k before) e) (map moved_mask ms)) (test_moved w s m)
+      ∙ tests_moved w s (Binary logical_or before (mask_test w s m)) ms
 
   way_test_moved : (w : ℕ) (s : Expr) (ms : List Mask) → way_test w (moved_expr k s) (map moved_mask ms) ≡ moved_expr k (way_test w s ms)
   way_test_moved w s [] = refl
@@ -106,7 +107,8 @@ module _ (prefix : Text) (base : List Entry) (look : Look) (kind : Kind) where
 
   -- ---- assignments
 
-  writes_moved : (m : Memory) (i v : Expr) (j more : ℕ) → writes_from (record { first = n + m.first; words = m.words }) (moved_expr n i) (moved_expr n v) j more ≡ moved_stmts n (writes_from m i v j more)
+  writes_moved : (m : Memory) (i v : Expr) (j more : ℕ) → writes_from (record { first = n + m.first; words = m.words }) (moved_expr n i) (moved_expr n v) j more
+      ≡ moved_stmts n (writes_from m i v j more)
   writes_moved m i v j zero = refl
   writes_moved m i v j (suc more) =
       ap₃ (λ w s rest. stmt (If (Binary is_equal (moved_expr n i) (Number w j)) (Set false (Whole s) (moved_expr n v)) Null) rest)
@@ -116,9 +118,11 @@ module _ (prefix : Text) (base : List Entry) (look : Look) (kind : Kind) where
   word_set_moved blocking (fixed a) v = refl
   word_set_moved true (a_word m i bs) v = refl
   word_set_moved false (a_word m i bs) v =
-      ap (λ w. Block (writes_from (record { first = n + m.first; words = m.words }) (moved_expr n i) (moved_expr n v) 0 (2 ^ w))) (size_moved n i) ∙ ap Block (writes_moved m i v 0 (2 ^ size i))
+      ap (λ w. Block (writes_from (record { first = n + m.first; words = m.words }) (moved_expr n i) (moved_expr n v) 0 (2 ^ w))) (size_moved n i)
+      ∙ ap Block (writes_moved m i v 0 (2 ^ size i))
 
-  set_moved : (blocking : Bool) (t : TargetTree) (g : Goal) (v : Term) → set_done there kind blocking t (moved_goal n g) (moved_term n v) ≡ moved_done n (set_done look kind blocking t g v)
+  set_moved : (blocking : Bool) (t : TargetTree) (g : Goal) (v : Term)
+      → set_done there kind blocking t (moved_goal n g) (moved_term n v) ≡ moved_done n (set_done look kind blocking t g v)
   set_moved blocking t g v = ap₃ (λ s bs b. with_rules s bs b) (word_set_moved blocking g v.expr) (broken_same g) (word_same g)
     where
       with_rules : Stmt → List Broken → Bool → Done
@@ -168,14 +172,22 @@ module _ (prefix : Text) (base : List Entry) (look : Look) (kind : Kind) where
       closed : Stmt → Done
       closed s = record { stmt = s; broken = t.broken ++ a.broken }
 
-  cased_else_moved : (t : Term) (a : Arms) (d : Done) → cased (moved_term n t) (moved_arms n a) (default_item (moved_stmt n d.stmt)) d.broken ≡ moved_done n (cased t a (default_item d.stmt) d.broken)
+  cased_else_moved : (t : Term) (a : Arms) (d : Done) → cased (moved_term n t) (moved_arms n a) (default_item (moved_stmt n d.stmt)) d.broken
+      ≡ moved_done n (cased t a (default_item d.stmt) d.broken)
   cased_else_moved t a d = ap (λ is. closed (Case (moved_expr n t.expr) is)) (last_moved n a.items (default_item d.stmt))
     where
       closed : Stmt → Done
       closed s = record { stmt = s; broken = t.broken ++ a.broken ++ d.broken }
 
   abbrev armed : List Term → Done → Arms → Arms
-  armed ls a b = record { items = item (joined ls) a.stmt b.items; is_sound = all_sound ls && b.is_sound; is_constant = all_constant ls && b.is_constant; broken = all_broken ls ++ a.broken ++ b.broken }
+  armed ls a b =
+      record {
+        items = item (joined ls) a.stmt b.items;
+        is_sound = all_sound ls && b.is_sound;
+        is_constant = all_constant ls && b.is_constant;
+        broken = all_broken ls
+            ++ a.broken ++ b.broken;
+      }
 
   armed_moved : (ls : List Term) (a : Done) (b : Arms) → armed (map (moved_term n) ls) (moved_done n a) (moved_arms n b) ≡ moved_arms n (armed ls a b)
   armed_moved ls a b = rw (joined_moved n ls, all_sound_moved n ls, all_constant_moved n ls, all_broken_moved n ls)
@@ -203,7 +215,8 @@ module _ (prefix : Text) (base : List Entry) (look : Look) (kind : Kind) where
   mutual
     pub done_moved : (s : StmtTree) → done there kind s ≡ moved_done n (done look kind s)
     done_moved null = refl
-    done_moved (set blocking delay t v) = ap₂ (set_done there kind blocking t) (goal_moved prefix base look t) (read_moved prefix base look v) ∙ set_moved blocking t (goal look t) (read look v)
+    done_moved (set blocking delay t v) =
+        ap₂ (set_done there kind blocking t) (goal_moved prefix base look t) (read_moved prefix base look v) ∙ set_moved blocking t (goal look t) (read look v)
     done_moved (when c s) = ap₂ when_done (read_moved prefix base look c) (done_moved s)
     done_moved (either c s z) = ap₃ either_done (read_moved prefix base look c) (done_moved s) (done_moved z)
     done_moved (switch c rows) =
@@ -214,10 +227,13 @@ module _ (prefix : Text) (base : List Entry) (look : Look) (kind : Kind) where
         (ap₂ cased_alone r (arms_moved rows) ∙ cased_moved (read look c.value) (arms look kind rows))
     done_moved (switch_else c rows d) =
         let r = read_moved prefix base look c.value in
-        either_moved c.masks (chained (read there c.value) (ways there kind rows) (done there kind d)) (cased (read there c.value) (arms there kind rows) (default_item (done there kind d).stmt) (done there kind d).broken)
-        (chained (read look c.value) (ways look kind rows) (done look kind d)) (cased (read look c.value) (arms look kind rows) (default_item (done look kind d).stmt) (done look kind d).broken)
+        either_moved c.masks (chained (read there c.value) (ways there kind rows) (done there kind d))
+        (cased (read there c.value) (arms there kind rows) (default_item (done there kind d).stmt) (done there kind d).broken)
+        (chained (read look c.value) (ways look kind rows) (done look kind d))
+        (cased (read look c.value) (arms look kind rows) (default_item (done look kind d).stmt) (done look kind d).broken)
         (ap₃ chained r (ways_moved rows) (done_moved d) ∙ chained_moved n (read look c.value) (ways look kind rows) (done look kind d))
-        (ap₃ (λ t a (b : Done). cased t a (default_item b.stmt) b.broken) r (arms_moved rows) (done_moved d) ∙ cased_else_moved (read look c.value) (arms look kind rows) (done look kind d))
+        (ap₃ (λ t a (b : Done). cased t a (default_item b.stmt) b.broken) r (arms_moved rows) (done_moved d)
+        ∙ cased_else_moved (read look c.value) (arms look kind rows) (done look kind d))
     done_moved (block rows) = ap block_done (done_all_moved rows)
 
     done_all_moved : (ss : StmtTrees) → done_all there kind ss ≡ moved_rows n (done_all look kind ss)
@@ -226,7 +242,8 @@ module _ (prefix : Text) (base : List Entry) (look : Look) (kind : Kind) where
 
     arms_moved : (rows : ArmTrees) → arms there kind rows ≡ moved_arms n (arms look kind rows)
     arms_moved no_arms = refl
-    arms_moved (and_arms labels s rest) = ap₃ armed (labels_moved labels) (done_moved s) (arms_moved rest) ∙ armed_moved (read_list look kind labels) (done look kind s) (arms look kind rest)
+    arms_moved (and_arms labels s rest) =
+        ap₃ armed (labels_moved labels) (done_moved s) (arms_moved rest) ∙ armed_moved (read_list look kind labels) (done look kind s) (arms look kind rest)
 
     ways_moved : (rows : ArmTrees) → ways there kind rows ≡ map (moved_way n) (ways look kind rows)
     ways_moved no_arms = refl

@@ -87,7 +87,8 @@ module _ (k : ℕ) where
   moved_terms ts = map moved_term ts
 
   pub bound_moved : (t : Term) → as_bound (moved_term t) ≡ moved_term (as_bound t)
-  bound_moved t = ap (λ n. spoilt (moved_expr k t.expr) t.is_constant ((as_constant t).broken ++ breaks_if (is_sound (as_constant t) && nat_le (2 ^ 31) n) 307 [])) (own_moved t.expr)
+  bound_moved t =
+      ap (λ n. spoilt (moved_expr k t.expr) t.is_constant ((as_constant t).broken ++ breaks_if (is_sound (as_constant t) && nat_le (2 ^ 31) n) 307 [])) (own_moved t.expr)
 
   count_moved : (t : Term) → as_count (moved_term t) ≡ moved_term (as_count t)
   count_moved t =
@@ -212,7 +213,8 @@ module _ (prefix : Text) (base : List Entry) (look : Look) where
         go true = signal_bits_moved x s (bit_select (range_at look.entries s) (own_value i.expr))
         go false = refl
 
-    words_moved : (m : Memory) (j more : ℕ) → words_from there (record { first = n + m.first; words = m.words }) (moved i).expr j more ≡ moved_expr n (words_from look m i.expr j more)
+    words_moved : (m : Memory) (j more : ℕ) → words_from there (record { first = n + m.first; words = m.words }) (moved i).expr j more
+        ≡ moved_expr n (words_from look m i.expr j more)
     words_moved m j zero = ap (whole_of there) (first_moved m.first j) ∙ whole_of_moved (m.first + j)
     words_moved m j (suc more) =
         rw (size_moved n i.expr, first_moved m.first j)
@@ -225,8 +227,10 @@ module _ (prefix : Text) (base : List Entry) (look : Look) where
         far_memory = record { first = n + m.first; words = m.words }
 
         go : (b c : Bool)
-            → cond b (word_bits there x (word_of far_memory (own_value i.expr))) (cond c (variable (words_from there far_memory (moved i).expr 0 (2 ^ size i.expr - 1))) (spoilt (moved i).expr false (breaks 315 x)))
-            ≡ moved (cond b (word_bits look x (word_of m (own_value i.expr))) (cond c (variable (words_from look m i.expr 0 (2 ^ size i.expr - 1))) (spoilt i.expr false (breaks 315 x))))
+            → cond b (word_bits there x (word_of far_memory (own_value i.expr)))
+            (cond c (variable (words_from there far_memory (moved i).expr 0 (2 ^ size i.expr - 1))) (spoilt (moved i).expr false (breaks 315 x)))
+            ≡ moved (cond b (word_bits look x (word_of m (own_value i.expr)))
+            (cond c (variable (words_from look m i.expr 0 (2 ^ size i.expr - 1))) (spoilt i.expr false (breaks 315 x))))
         go true c = word_bits_moved x m (own_value i.expr)
         go false true = ap variable (words_moved m 0 (2 ^ size i.expr - 1))
         go false false = refl
@@ -279,7 +283,8 @@ module _ (prefix : Text) (base : List Entry) (look : Look) where
     where
       go : (a b : Term) → parted there (unknown look x) x kind (moved a) (moved b) (moved_if n (meaning look x)) ≡ moved (parted look (unknown look x) x kind a b (meaning look x))
       go a b =
-          ap (λ q. spoilt (meant_part there x kind q (moved_if n (meaning look x))).expr (meant_part there x kind q (moved_if n (meaning look x))).is_constant (unknown look x ++ a.broken ++ b.broken ++ (meant_part there x kind q (moved_if n (meaning look x))).broken)) (range_of_moved n a b)
+          ap (λ q. spoilt (meant_part there x kind q (moved_if n (meaning look x))).expr (meant_part there x kind q (moved_if n (meaning look x))).is_constant
+          (unknown look x ++ a.broken ++ b.broken ++ (meant_part there x kind q (moved_if n (meaning look x))).broken)) (range_of_moved n a b)
           ∙ ap (λ (t : Term). spoilt t.expr t.is_constant (unknown look x ++ a.broken ++ b.broken ++ t.broken)) (meant_part_moved x kind (range_of a b) (meaning look x))
 
   -- ---- expressions
@@ -293,7 +298,8 @@ module _ (prefix : Text) (base : List Entry) (look : Look) where
       go true (Some v) = refl
       go false o = refl
 
-  whole_judged : (e : ExprTree) (t u : Term) → t ≡ moved u → judged_whole there (counted_size there.names e) (whole there.names e) t ≡ moved (judged_whole look (counted_size look.names e) (whole look.names e) u)
+  whole_judged : (e : ExprTree) (t u : Term) → t ≡ moved u → judged_whole there (counted_size there.names e) (whole there.names e) t
+      ≡ moved (judged_whole look (counted_size look.names e) (whole look.names e) u)
   whole_judged e t u h =
       ap₃ (judged_whole there) (counted_moved n look.names e) (whole_moved n look.names e) h ∙ judged_moved (counted_size look.names e) (whole look.names e) u
 
@@ -303,12 +309,15 @@ module _ (prefix : Text) (base : List Entry) (look : Look) where
     read_moved (name x) = ap (meant_term there x) (known x) ∙ meant_moved x (meaning look x)
     read_moved (index x i) = ap (index_term there x) (read_moved i) ∙ index_moved x (read look i)
     read_moved (part x kind l r) = ap₂ (part_term there x kind) (read_moved l) (read_moved r) ∙ part_moved x kind (read look l) (read look r)
-    read_moved (unary op a) = whole_judged (unary op a) (unary_term op (read there a)) (unary_term op (read look a)) (ap (unary_term op) (read_moved a) ∙ unary_moved n op (read look a))
+    read_moved (unary op a) =
+        whole_judged (unary op a) (unary_term op (read there a)) (unary_term op (read look a)) (ap (unary_term op) (read_moved a) ∙ unary_moved n op (read look a))
     read_moved (binary op a b) =
-        whole_judged (binary op a b) (also (binary_term op (read there a) (read there b)) (breaks_if (compares_signed there.names op a b) 307 [])) (also (binary_term op (read look a) (read look b)) (breaks_if (compares_signed look.names op a b) 307 []))
+        whole_judged (binary op a b) (also (binary_term op (read there a) (read there b)) (breaks_if (compares_signed there.names op a b) 307 []))
+        (also (binary_term op (read look a) (read look b)) (breaks_if (compares_signed look.names op a b) 307 []))
         (ap₃ (λ t u s. also (binary_term op t u) (breaks_if s 307 [])) (read_moved a) (read_moved b) (compares_moved n look.names op a b))
     read_moved (choice c a b) =
-        whole_judged (choice c a b) (choice_term (read there c) (read there a) (read there b)) (choice_term (read look c) (read look a) (read look b)) (ap₃ choice_term (read_moved c) (read_moved a) (read_moved b))
+        whole_judged (choice c a b) (choice_term (read there c) (read there a) (read there b)) (choice_term (read look c) (read look a) (read look b))
+        (ap₃ choice_term (read_moved c) (read_moved a) (read_moved b))
     read_moved (join parts) = ap join_term (parts_moved parts) ∙ join_moved n (read_parts look parts)
     read_moved (repeat c parts) = ap₂ repeat_term (read_moved c) (parts_moved parts) ∙ repeat_moved n (read look c) (read_parts look parts)
     read_moved (paren a) = read_moved a

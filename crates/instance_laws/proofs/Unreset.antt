@@ -69,7 +69,8 @@ module _ (look : Look) (none : (x : Text) (s : ℕ) → meaning look x ≡ Some 
   no_signals (part x kind l r) = untested (part x kind l r)
   no_signals (unary op a) = untested (unary op a)
   no_signals (binary op a b) =
-      ap₂ (λ o p. option_or o (cond (is_or look op a b) p None)) (untested (binary op a b)) (ap₂ (both_signals look) (no_signals a) (no_signals b)) ∙ same_both (is_or look op a b) None
+      ap₂ (λ o p. option_or o (cond (is_or look op a b) p None)) (untested (binary op a b)) (ap₂ (both_signals look) (no_signals a) (no_signals b))
+      ∙ same_both (is_or look op a b) None
   no_signals (choice c a b) = untested (choice c a b)
   no_signals (join parts) = untested (join parts)
   no_signals (repeat c parts) = untested (repeat c parts)
@@ -155,7 +156,8 @@ module _ (s : Stage) (none : (x : Text) (n : ℕ) → meaning (look_of s) x ≡ 
   look = look_of s
 
   pub clocked_is : (p : Place) (edges : List Edge) (body : StmtTree)
-      → clocked_process s p edges body ≡ judged by_number p (clocked_rules look edges body) (with_design s (also_clocked s.design (unwrap_or (clock_of look edges) 0) (done look clocked body).stmt (edge_late edges p)))
+      → clocked_process s p edges body ≡ judged by_number p (clocked_rules look edges body)
+      (with_design s (also_clocked s.design (unwrap_or (clock_of look edges) 0) (done look clocked body).stmt (edge_late edges p)))
   clocked_is p edges body = ap₂ with_form (no_form look none edges body) (no_reset_edge look none edges) ∙ ap with_givens (append-nil s.design.givens)
     where
       with_form : Option ResetForm → Option Edge → Outcome Stage
@@ -169,4 +171,6 @@ module _ (s : Stage) (none : (x : Text) (n : ℕ) → meaning (look_of s) x ≡ 
       }))
 
       with_givens : List Given → Outcome Stage
-      with_givens gs = judged by_number p (clocked_rules look edges body) (with_design s (record (also_clocked s.design (unwrap_or (clock_of look edges) 0) (done look clocked body).stmt (edge_late edges p)) { givens = gs }))
+      with_givens gs =
+          judged by_number p (clocked_rules look edges body) (with_design s
+          (record (also_clocked s.design (unwrap_or (clock_of look edges) 0) (done look clocked body).stmt (edge_late edges p)) { givens = gs }))

@@ -13,7 +13,7 @@ use Rattle.flat_unfolding.specs.Outcome.{Text, Broken, Outcome, good, then_, eac
 use Rattle.flat_unfolding.specs.Names.{width_of, Meaning, no_value, Names, as_value, meaning_in, is_declared, Entry, width_at, printed_part}
 use Rattle.flat_unfolding.specs.Parameters.{Overrides, parameters}
 use Rattle.flat_unfolding.specs.Declarations.{header_decls, declarations}
-use Rattle.flat_unfolding.specs.Instances.{override_rules, overrides_of, connection_rules, links_of, connected, leaning_of, is_short}
+use Rattle.flat_unfolding.specs.Instances.{override_rules, overrides_of, Link, connection_rules, links_of, connected, leaning_of, is_short}
 use Rattle.flat_unfolding.specs.Design.{Design, Stage, look_of}
 use Rattle.flat_unfolding.specs.Unfolding.{module_named, declared_value, instance_of, instance_item, item_of, item, header_values, with_resets, visit}
 use Rattle.flat_unfolding.specs.Laws.{Kept, kept, StandsBehind}
@@ -39,7 +39,8 @@ also_none names x y = go names
     last true = refl
     last false = refl
 
-    one : (c : Bool) (m : Meaning) (o q : Option Meaning) → option_and_then as_value o ≡ option_and_then as_value q → option_and_then as_value (cond c (Some m) o) ≡ option_and_then as_value (cond c (Some m) q)
+    one : (c : Bool) (m : Meaning) (o q : Option Meaning) → option_and_then as_value o ≡ option_and_then as_value q
+        → option_and_then as_value (cond c (Some m) o) ≡ option_and_then as_value (cond c (Some m) q)
     one true m o q e = refl
     one false m o q e = e
 
@@ -58,7 +59,8 @@ module _ (es fs : List Entry) (h : StandsBehind es fs) where
       let a = count_kept es in let c = count_kept fs in let d = length_of_both (map kept es) h.0 in omega (arith, a, c, d, e)
 
   width_behind : (i : ℕ) → i < length es → width_at fs i ≡ width_at es i
-  width_behind i l = sym (told fs i) ∙ ap (λ ks. width_in ks i) h.1 ∙ before (map kept es) i (let a = count_kept es in let m : i < length (map kept es) = omega (arith, a, l) in m) ∙ told es i
+  width_behind i l =
+      sym (told fs i) ∙ ap (λ ks. width_in ks i) h.1 ∙ before (map kept es) i (let a = count_kept es in let m : i < length (map kept es) = omega (arith, a, l) in m) ∙ told es i
     where
       width_in : List Kept → ℕ → ℕ
       width_in ks i = option_map_or (λ (q : Kept). width_of q.range) (slice_get ks i) 0
@@ -111,61 +113,84 @@ module _ (prefix : Text) (b : Design) (modules : List ModuleTree) where
 
   abbrev pub Moves : ℕ → Type 0
   Moves n = (inner : Text) (visiting : List Text) (m : ModuleTree) (f : Expr → Expr) → KeepsValues f → (overrides : Overrides) (own there : Stage → Stage) → MovePorts own there
-      → (d : Design) → IsPlain (record { names = []; design = d }) → (t : Stage) → visit modules n (prefix ++ inner) visiting m (given f overrides) there (design_behind prefix b d) ≡ good t
+      → (d : Design) → IsPlain (record { names = []; design = d }) → (t : Stage) → visit modules n (prefix ++ inner) visiting m (given f overrides) there
+      (design_behind prefix b d) ≡ good t
       → Next IsPlain (visit modules n inner visiting m overrides own d) t
 
   module _ (n : ℕ) (moves : Moves n) (visiting : List Text) (inner : Text) (start : Stage) where
-    module _ (s : Stage) (h : IsLater start s) (p : Place) (m : ModuleTree) (params : ConnsTree) (x : Text) (ports : ConnsTree) where
-      abbrev finished : Stage → Stage
-      finished u = record { names = s.names ++ ((x, no_value) ∷ []); design = u.design }
+    -- an instance inside the module that is visited
+    module _ (p : Place) (m : ModuleTree) (params : ConnsTree) (x : Text) (ports : ConnsTree) where
+      abbrev finished : (s u : Stage) → Stage
+      finished s u = record { names = s.names ++ ((x, no_value) ∷ []); design = u.design }
 
-      abbrev sized : Stage → Outcome Stage
-      sized u = then_ (refused_if (list_any (is_short u) (leaning_of (look_of s) m params ports)) 306 (Some p) m.name) (λ v. good (finished u))
+      abbrev sized : (s u : Stage) → Outcome Stage
+      sized s u = then_ (refused_if (list_any (is_short u) (leaning_of (look_of s) m params ports)) 306 (Some p) m.name) (λ v. good (finished s u))
 
-      abbrev inside : Text
-      inside = inner ++ printed_part x ++ codes "."
+      abbrev inside : Text → Text
+      inside z = z ++ printed_part x ++ codes "."
 
-      abbrev visited : Outcome Stage
-      visited = then_ (visit modules n inside (m.name ∷ visiting) m (overrides_of (look_of s) m params) (connected (links_of (look_of s) m ports)) s.design) sized
+      abbrev its_visit : (z : Text) → Stage → Outcome Stage
+      its_visit z s = visit modules n (inside z) (m.name ∷ visiting) m (overrides_of (look_of s) m params) (connected (links_of (look_of s) m ports)) s.design
 
-      abbrev ruled : List Broken → Outcome Stage
-      ruled bs = then_ (judged by_number p bs (tt {0})) (λ u. visited)
+      abbrev rules_of : Stage → List Broken
+      rules_of s = override_rules (look_of s) m params ++ connection_rules (look_of s) m ports
 
-      abbrev named : Bool → Outcome Stage
-      named c = then_ (refused_if c 304 (Some p) x) (λ u. ruled (override_rules (look_of s) m params ++ connection_rules (look_of s) m ports))
+      abbrev ruled : (z : Text) → Stage → List Broken → Outcome Stage
+      ruled z s bs = then_ (judged by_number p bs (tt {0})) (λ u. then_ (its_visit z s) (sized s))
 
-      sized_follows : (u t : Stage) → visit modules n inside (m.name ∷ visiting) m (overrides_of (look_of s) m params) (connected (links_of (look_of s) m ports)) s.design ≡ good u → IsPlain u
-          → then_ (refused_if (list_any (is_short (above u)) (leaning_of (look_of (above s)) m params ports)) 306 (Some p) m.name) (λ v. good (record { names = (above s).names ++ ((x, no_value) ∷ []); design = (above u).design })) ≡ good t
-          → Next (IsLater start) (sized u) t
-      sized_follows u t c q e =
-          let links = links_of (look_of s) m ports in let stand = numbers_law modules n inside (m.name ∷ visiting) m (overrides_of (look_of s) m params) links s.design u c in
-          let es = s.design.entries in let fs = u.design.entries in let more = longer_behind es fs stand in let first = h.longer in
-          subst (λ c. Next (IsLater start) (then_ (refused_if c 306 (Some p) m.name) (λ v. good (finished u))) t) (ap₂ list_any (fun_ext (short_moved prefix b u)) (leaning_moved prefix b s m params ports))
-          (then_follows prefix b (IsLater start) (refused_if (list_any (is_short (above u)) (leaning_of (look_of (above s)) m params ports)) 306 (Some p) m.name) _ _ t
-          (λ v i j. good_follows prefix b (IsLater start) (finished u) t record {
-            plain = record { pins = q.pins; unreset = q.unreset };
-            names = λ y. also_none s.names x y ∙ h.names y;
-            widths = λ i l. width_behind es fs stand i (let g : i < length es = omega (arith, l, first) in g) ∙ h.widths i l;
-            longer = (let g : length start.design.entries ≤ length fs = omega (arith, more, first) in g);
-          } (ap (λ ns. good (record { names = ns; design = (above u).design })) (map_push (moved_name k) s.names (x, no_value)) ∙ j)) e)
+      abbrev named : (z : Text) → Stage → Bool → Outcome Stage
+      named z s c = then_ (refused_if c 304 (Some p) x) (λ u. ruled z s (rules_of s))
 
-      instance_follows : (t : Stage) → instance_of modules visiting (prefix ++ inner) (visit modules n) (above s) p m params x ports ≡ good t → Next (IsLater start) (instance_of modules visiting inner (visit modules n) s p m params x ports) t
-      instance_follows t e =
-          then_follows prefix b (IsLater start) (refused_if (is_in visiting m.name) 303 (Some p) m.name) _ _ t
-          (λ u i e.
-          subst (λ c. Next (IsLater start) (named c) t) (declared_moved k s.names x)
-          (then_follows prefix b (IsLater start) (refused_if (is_declared (above s).names x) 304 (Some p) x) _ _ t
-          (λ u i e.
-          subst (λ bs. Next (IsLater start) (ruled bs) t) (ap₂ (λ xs ys. xs ++ ys) (override_rules_moved prefix b s m params) (connection_rules_moved prefix b s m ports))
-          (then_follows prefix b (IsLater start) (judged by_number p (override_rules (look_of (above s)) m params ++ connection_rules (look_of (above s)) m ports) (tt {0})) _ _ t
-          (λ u i e. bind_follows prefix b (IsLater start) IsPlain (visit modules n (prefix ++ inner ++ printed_part x ++ codes ".") (m.name ∷ visiting) m (overrides_of (look_of (above s)) m params) (connected (links_of (look_of (above s)) m ports)) (above s).design) _ _ sized t
-          (λ u e. moves inside (m.name ∷ visiting) m (moved_expr k) (moved_alike k) (overrides_of (look_of s) m params) (connected (links_of (look_of s) m ports)) (connected (map (moved_link k) (links_of (look_of s) m ports)))
-          (record { moves = λ u q. connected_moved prefix b (links_of (look_of s) m ports) u; plain = λ u q. connected_plain (links_of (look_of s) m ports) u (links_none prefix b s h.plain m ports) q })
-          s.design (record { pins = h.plain.pins; unreset = h.plain.unreset }) u
-          (sym (ap₃ (λ z os ls. visit modules n z (m.name ∷ visiting) m os (connected ls) (above s).design) (ap (λ z. z ++ codes ".") (append_assoc prefix inner (printed_part x)) ∙ append_assoc prefix (inner ++ printed_part x) (codes ".")) (overrides_moved prefix b s m params) (links_moved prefix b s m ports)) ∙ e))
-          (λ u c q e. sized_follows u t c q e) e) e)) e)) e
+      module _ (s : Stage) (h : IsLater start s) where
+        abbrev links : List Link
+        links = links_of (look_of s) m ports
 
-    item_follows : (s : Stage) → IsLater start s → (p : Place) (body : BodyTree) (t : Stage) → item_of modules visiting (prefix ++ inner) (visit modules n) (above s) p body ≡ good t
+        finished_later : (u : Stage) → its_visit inner s ≡ good u → IsPlain u → IsLater start (finished s u)
+        finished_later u c q =
+            let stand = numbers_law modules n (inside inner) (m.name ∷ visiting) m (overrides_of (look_of s) m params) links s.design u c in
+            let es = s.design.entries in let fs = u.design.entries in let more = longer_behind es fs stand in let first = h.longer in
+            record {
+              plain = record { pins = q.pins; unreset = q.unreset };
+              names = λ y. also_none s.names x y ∙ h.names y;
+              widths = λ i l. width_behind es fs stand i (let g : i < length es = omega (arith, l, first) in g) ∙ h.widths i l;
+              longer = (let g : length start.design.entries ≤ length fs = omega (arith, more, first) in g);
+            }
+
+        sized_follows : (u t : Stage) → its_visit inner s ≡ good u → IsPlain u → sized (above s) (above u) ≡ good t → Next (IsLater start) (sized s u) t
+        sized_follows u t c q e =
+            subst (λ c. Next (IsLater start) (then_ (refused_if c 306 (Some p) m.name) (λ v. good (finished s u))) t)
+            (ap₂ list_any (fun_ext (short_moved prefix b u)) (leaning_moved prefix b s m params ports))
+            (then_follows prefix b (IsLater start) (refused_if (list_any (is_short (above u)) (leaning_of (look_of (above s)) m params ports)) 306 (Some p) m.name) _ _ t
+            (λ v i j. good_follows prefix b (IsLater start) (finished s u) t (finished_later u c q)
+            (ap (λ ns. good (record { names = ns; design = (above u).design })) (map_push (moved_name k) s.names (x, no_value)) ∙ j)) e)
+
+        visit_follows : (u : Stage) → its_visit (prefix ++ inner) (above s) ≡ good u → Next IsPlain (its_visit inner s) u
+        visit_follows u e =
+            moves (inside inner) (m.name ∷ visiting) m (moved_expr k) (moved_alike k) (overrides_of (look_of s) m params) (connected links) (connected (map (moved_link k) links))
+            record { moves = λ u q. connected_moved prefix b links u; plain = λ u q. connected_plain links u (links_none prefix b s h.plain m ports) q } s.design
+            record { pins = h.plain.pins; unreset = h.plain.unreset } u
+            (sym (ap₃ (λ z os ls. visit modules n z (m.name ∷ visiting) m os (connected ls) (above s).design)
+            (ap (λ z. z ++ codes ".") (append_assoc prefix inner (printed_part x)) ∙ append_assoc prefix (inner ++ printed_part x) (codes "."))
+            (overrides_moved prefix b s m params) (links_moved prefix b s m ports)) ∙ e)
+
+        ruled_follows : (t : Stage) → ruled (prefix ++ inner) (above s) (rules_of (above s)) ≡ good t → Next (IsLater start) (ruled inner s (rules_of s)) t
+        ruled_follows t e =
+            subst (λ bs. Next (IsLater start) (ruled inner s bs) t) (ap₂ (λ xs ys. xs ++ ys) (override_rules_moved prefix b s m params) (connection_rules_moved prefix b s m ports))
+            (then_follows prefix b (IsLater start) (judged by_number p (rules_of (above s)) (tt {0})) _ _ t
+            (λ u i j. bind_follows prefix b (IsLater start) IsPlain (its_visit (prefix ++ inner) (above s)) (its_visit inner s) (sized (above s)) (sized s) t visit_follows
+            (λ u c q. sized_follows u t c q) j) e)
+
+        named_follows : (t : Stage) → named (prefix ++ inner) (above s) (is_declared (above s).names x) ≡ good t → Next (IsLater start) (named inner s (is_declared s.names x)) t
+        named_follows t e =
+            subst (λ c. Next (IsLater start) (named inner s c) t) (declared_moved k s.names x)
+            (then_follows prefix b (IsLater start) (refused_if (is_declared (above s).names x) 304 (Some p) x) _ _ t (λ u i. ruled_follows t) e)
+
+        instance_follows : (t : Stage) → instance_of modules visiting (prefix ++ inner) (visit modules n) (above s) p m params x ports ≡ good t
+            → Next (IsLater start) (instance_of modules visiting inner (visit modules n) s p m params x ports) t
+        instance_follows t e = then_follows prefix b (IsLater start) (refused_if (is_in visiting m.name) 303 (Some p) m.name) _ _ t (λ u i. named_follows t) e
+
+    item_follows : (s : Stage) → IsLater start s → (p : Place) (body : BodyTree) (t : Stage)
+        → item_of modules visiting (prefix ++ inner) (visit modules n) (above s) p body ≡ good t
         → Next (IsLater start) (item_of modules visiting inner (visit modules n) s p body) t
     item_follows s h p (param q) t e = good_follows prefix b (IsLater start) s t h e
     item_follows s h p (decl d) t e = value_follows prefix b (IsLater start) (stays_later prefix b start) s h p d.name d.init d.kind t e
@@ -176,12 +201,13 @@ module _ (prefix : Text) (b : Design) (modules : List ModuleTree) where
         go : (o : Option ModuleTree) → instance_item modules visiting (prefix ++ inner) (visit modules n) (above s) p o child params x ports ≡ good t
             → Next (IsLater start) (instance_item modules visiting inner (visit modules n) s p o child params x ports) t
         go None e = absurd (search (rules, e))
-        go (Some m) e = instance_follows s h p m params x ports t e
+        go (Some m) e = instance_follows p m params x ports s h t e
     item_follows s h p (always event body) t e = always_follows prefix b (IsLater start) (stays_later prefix b start) s h h.plain.unreset p event body t e
     item_follows s h p (initial body) t e = initial_follows prefix b (IsLater start) (stays_later prefix b start) s h p body t e
 
     -- all that comes behind the ports
-    pub items_follow : (m : ModuleTree) → IsPlain start → (t : Stage) → then_ (header_values m (above start)) (λ u. each (item modules visiting (prefix ++ inner) (visit modules n)) u m.items) ≡ good t
+    pub items_follow : (m : ModuleTree) → IsPlain start → (t : Stage)
+        → then_ (header_values m (above start)) (λ u. each (item modules visiting (prefix ++ inner) (visit modules n)) u m.items) ≡ good t
         → Next (IsLater start) (then_ (header_values m start) (λ u. each (item modules visiting inner (visit modules n)) u m.items)) t
     items_follow m h t e =
         bind_follows prefix b (IsLater start) (IsLater start) (header_values m (above start)) _ _ (λ u. each (item modules visiting inner (visit modules n)) u m.items) t
@@ -203,7 +229,9 @@ module _ (prefix : Text) (b : Design) (modules : List ModuleTree) where
         (λ u e. declarations_follow prefix b inner m s u q e)
         (λ s c q e.
         let at = with_resets (length d.entries) s in
-        let opened = ap (λ i. there (with_resets i (above s))) (length_moved prefix b.entries d.entries) ∙ ap there (resets_over prefix b none (length d.entries) s q) ∙ ports.moves at (resets_plain prefix b (length d.entries) s q) in
+        let opened =
+        ap (λ i. there (with_resets i (above s))) (length_moved prefix b.entries d.entries) ∙ ap there (resets_over prefix b none (length d.entries) s q)
+        ∙ ports.moves at (resets_plain prefix b (length d.entries) s q) in
         only_plain (own at) _ t (items_follow n (visit_moves n) visiting inner (own at) m (ports.plain at (resets_plain prefix b (length d.entries) s q)) t
         (subst (λ u. then_ (header_values m u) (λ u. each (item modules visiting (prefix ++ inner) (visit modules n)) u m.items) ≡ good t) opened e))) e) e
       where
