@@ -428,7 +428,8 @@ module _ (prefix : Text) (b : Design) where
 
   pub declarations_follow : (inner : Text) (m : ModuleTree) (s t : Stage) → IsPlain s → declarations (prefix ++ inner) m (above s) ≡ good t → Next (declarations inner m s) t
   declarations_follow inner m s t h e =
-      then_follows prefix b IsPlain (header_twice m) (λ u. then_ (each declaration (above s) (sites (prefix ++ inner) m)) direct) (λ u. then_ (each declaration s (sites inner m)) direct) t
+      then_follows prefix b IsPlain (header_twice m) (λ u. then_ (each declaration (above s) (sites (prefix ++ inner) m)) direct)
+      (λ u. then_ (each declaration s (sites inner m)) direct) t
       (λ u i j. bind_follows prefix b IsPlain IsPlain (each declaration (above s) (sites (prefix ++ inner) m)) (each declaration s (sites inner m)) direct direct t declared
       (λ u c q e. each_follows prefix b IsPlain (directed m) (directed m) (λ s x t. directed_follows m s x t) u (header_of m) t q e) j) e
     where

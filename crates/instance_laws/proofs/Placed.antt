@@ -133,7 +133,8 @@ module _ (prefix : Text) (links : List Link) (d : Design) (none : d.pins ≡ [])
     abbrev ports : Stage → Stage
     ports t = connected links (with_resets (length (behind prefix d.entries [])) t)
 
-    behind_declarations : (s t : Stage) → parameters overrides m first ≡ good s → declarations [] m s ≡ good t → IsPlain t → items (prefix ++ []) (ports (over prefix d t)) ≡ good e → Result
+    behind_declarations : (s t : Stage) → parameters overrides m first ≡ good s → declarations [] m s ≡ good t → IsPlain t
+        → items (prefix ++ []) (ports (over prefix d t)) ≡ good e → Result
     behind_declarations s t i j h q = (
       v.own,
       ap (λ o. then_ o (λ u. then_ (declarations [] m u) (λ w. items [] (with_resets 0 w)))) i ∙ ap (λ o. then_ o (λ w. items [] (with_resets 0 w))) j ∙ v.is,
