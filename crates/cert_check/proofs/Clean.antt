@@ -1,5 +1,5 @@
 -- The lists of a verdict without findings, and all FIFOs, certify the net.
-use Rattle.std.proofs.Common.{◌≡◌, ◌∙◌, inl, inr, refl, sym, ap, subst, Bool, true, false, List, [], map, Contains}
+use Rattle.std.proofs.Common.{◌≡◌, ◌∙◌, inl, inr, refl, sym, ap, subst, Bool, true, List, [], map, Contains}
 use mathlib.Core.Path.{fun_ext}
 use Rattle.cdc_base.specs.declared.bit.Bit.{Bit}
 use Rattle.cell_graph.specs.declared.net.Net.{Net}
@@ -11,7 +11,7 @@ use Rattle.cdc_model.specs.Design.{Design}
 use Rattle.cdc_model.specs.Listed.{IsVerdictOf}
 use Rattle.cdc_model.specs.Nets.{design_of, net_trees}
 use Rattle.cdc_model.specs.Ordered.{IsAll}
-use Rattle.cdc_model.specs.Schemes.{Trees, IsCrossing, IsLoad, Justified, Ring, Sync}
+use Rattle.cdc_model.specs.Schemes.{Trees, IsLoad, Justified, Ring, Sync}
 use Rattle.cdc_model.specs.Verdict.{IsServed}
 use Rattle.cdc_model.proofs.Ascending.{from_map, in_map}
 use Rattle.cdc_model.proofs.CleanVerdict.{justified}
@@ -19,10 +19,9 @@ use Rattle.cdc_model.proofs.Listing.{clean_listed}
 use Rattle.fifo_scheme.specs.declared.found.Fifo.{Fifo as Entry}
 use Rattle.fifo_scheme.specs.declared.found.FifoPair.{FifoPair}
 use Rattle.fifo_scheme.specs.Entries.{IsListedFifo, fifo_key}
-use Rattle.fifo_scheme.specs.Pairs.{IsStoodFor}
 use Rattle.fifo_scheme.proofs.Listing.{one_truth}
 use Rattle.cert_text.specs.declared.certificate.Certificate.{Certificate}
-use Rattle.cert_check.specs.OnNets.{is_among, AreFifosOf, IsCertifiedOn, IsGrayOn, Stands, is_of_fifo}
+use Rattle.cert_check.specs.OnNets.{is_among, AreFifosOf, IsCertifiedOn, Stands, is_of_fifo}
 use Rattle.cert_check.specs.Promised.{HasListed, pair_of, plain_load}
 use Rattle.cert_check.proofs.Among.{among_in, in_among}
 

@@ -8,7 +8,6 @@ pub mod Searches
 pub mod SyncItems
 pub mod Walks
 pub mod FirstFlops
-pub mod Firsts
 pub mod ListedLoads
 pub mod ListedRings
 pub mod Neighbours

@@ -1,5 +1,5 @@
 -- The line of the first bad item, by its kind and its place among the items of its kind.
-use Rattle.std.proofs.Common.{◌≡◌, inl, inr, refl, ap, subst, arith, ℕ, zero, suc, ◌+◌, ◌<◌, Some, None, Option, List, [], ◌∷◌, ◌++◌, map, length, length-append, slice_get, Contains}
+use Rattle.std.proofs.Common.{◌≡◌, inl, inr, refl, ap, subst, arith, ℕ, zero, suc, ◌+◌, ◌<◌, Some, Option, List, [], ◌∷◌, ◌++◌, map, length, length-append, slice_get, Contains}
 use Rattle.std.proofs.lemmas.List.{append-nil, length-map}
 use Rattle.std.proofs.lemmas.List.Elements.{Contains-append_cases}
 use Rattle.std.proofs.lemmas.Option.{slice_get_within}

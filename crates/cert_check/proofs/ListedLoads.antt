@@ -34,7 +34,7 @@ use Rattle.cert_check.specs.Certified.{IsLoadItem}
 use Rattle.cert_check.specs.Loads.{ends_of, IsGateAt, is_between, is_guarded}
 use Rattle.cert_check.specs.declared.loads.Ends.{Ends}
 use Rattle.cert_check.specs.declared.loads.Gate.{Gate}
-use Rattle.cert_check.proofs.ListedRings.{same_ring, same_all}
+use Rattle.cert_check.proofs.Meant.{same_rings}
 
 never : {A : Type 0} → true ≡ false → A
 never e = cc
@@ -152,7 +152,7 @@ module _ (net : Net) (domains : Domains) (fit : Fit net domains) (grays : GrayRe
 
   module _ (entries : List RingEntry) (same : entries ≡ map ring_entry rs) where
     pub item_load : IsLoadItem (design_of net domains) (net_trees net grays) entries l → IsLoad (design_of net domains) (net_trees net grays) rs l
-    item_load h = subst (λ xs. IsLoad (design_of net domains) (net_trees net grays) xs l) (same_all ring_entry same_ring h.0 rs (sym h.1 ∙ same)) h.2
+    item_load h = subst (λ xs. IsLoad (design_of net domains) (net_trees net grays) xs l) (same_rings h.0 rs (sym h.1 ∙ same)) h.2
 
     pub no_entry : length entries ≤ l.ring → IsLoadItem (design_of net domains) (net_trees net grays) entries l → ⊥
     no_entry past h =

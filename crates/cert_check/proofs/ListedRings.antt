@@ -1,5 +1,5 @@
 -- Rings over listed synchronizers, and what their lines determine.
-use Rattle.std.proofs.Common.{◌≡◌, ◌∙◌, ◌↔◌, refl, sym, ap, ap₂, subst, arith, Bool, true, false, Option, Some, List, [], ◌∷◌, ◌++◌, map, length, slice_get, Contains}
+use Rattle.std.proofs.Common.{◌≡◌, ◌∙◌, ◌↔◌, sym, ap, ap₂, subst, Bool, true, false, Option, Some, List, [], ◌∷◌, map, slice_get, Contains}
 use Rattle.std.proofs.lemmas.Bool.{and_parts}
 use Rattle.cdc_base.specs.declared.bit.Bit.{Bit}
 use Rattle.cell_graph.specs.declared.net.Net.{Net}
@@ -20,56 +20,9 @@ use Rattle.handshake.specs.Pairs.{are_closed, may_turn, start_alike, turns}
 use Rattle.handshake.proofs.AllRings.{closed_registers, makes_ring, may, does}
 use Rattle.cert_check.specs.Certified.{IsRingItem}
 use Rattle.cert_check.specs.Rings.{line_of, BeginsAt, HaveOwnFirsts}
+use Rattle.cert_check.proofs.Meant.{same_line, same_ring, same_syncs}
 
--- ---- lines
-
-heads : {A : Type 0} (x y : A) (xs ys : List A) → x ∷ xs ≡ y ∷ ys → (x ≡ y) × (xs ≡ ys)
-heads x y xs ys e = (cc, cc)
-
--- lists of one length in front of both are one
-split : (xs ys : List Bit) (a b : Bit) (us vs : List Bit) → length xs ≡ length ys → xs ++ a ∷ us ≡ ys ++ b ∷ vs → (xs ≡ ys) × (a ≡ b) × (us ≡ vs)
-split [] [] a b us vs l e = let h = heads a b us vs e in (refl, h.0, h.1)
-split [] (y ∷ ys) a b us vs l e = absurd (omega arith)
-split (x ∷ xs) [] a b us vs l e = absurd (omega arith)
-split (x ∷ xs) (y ∷ ys) a b us vs l e =
-    let h = heads x y (xs ++ a ∷ us) (ys ++ b ∷ vs) e in
-    let k = split xs ys a b us vs (omega arith) h.1 in
-    (ap₂ (λ z zs. z ∷ zs) h.0 k.0, k.1, k.2)
-
--- a ring's line determines its parts
-pub same_line : (a c b d : Bit) (fs hs gs ks : List Bit) → line_of a fs b gs ≡ line_of c hs d ks → (a ≡ c) × (fs ≡ hs) × (b ≡ d) × (gs ≡ ks)
-same_line a c b d fs hs gs ks e =
-    let h = heads a c (fs ++ b ∷ gs) (hs ++ d ∷ ks) (ap (λ (x : RingEntry). x.bits) e) in
-    let k = split fs hs b d gs ks (ap (λ (x : RingEntry). x.end) e) h.1 in
-    (h.0, k.0, k.1, k.2)
-
-abbrev made : (f : Bit) (x : Bit) (xs : List Bit) → Sync
-made f x xs = record { from = f; first = x; more = xs }
-
-from_parts : (s r : Sync) → s.from ≡ r.from → flops s ≡ flops r → s ≡ r
-from_parts s r e f =
-    let h = heads s.first r.first s.more r.more f in
-    ap (λ (b : Bit). made b s.first s.more) e ∙ ap (λ (b : Bit). made r.from b s.more) h.0 ∙ ap (made r.from r.first) h.1
-
-pub same_sync : (s r : Sync) → sync_entry s ≡ sync_entry r → s ≡ r
-same_sync s r e = from_parts s r (ap (λ (x : SyncEntry). x.from) e) (ap (λ (x : SyncEntry). x.flops) e)
-
-abbrev both : (s b : Sync) → Ring
-both s b = record { there = s; back = b }
-
-pub same_ring : (r q : Ring) → ring_entry r ≡ ring_entry q → r ≡ q
-same_ring r q e =
-    let k = same_line (request r) (request q) (acknowledge r) (acknowledge q) (flops r.there) (flops q.there) (flops r.back) (flops q.back) e in
-    ap₂ both (from_parts r.there q.there k.0 k.1) (from_parts r.back q.back k.2 k.3)
-
--- a list is determined by what each item determines
-pub same_all : {A B : Type 0} (f : A → B) → ((x y : A) → f x ≡ f y → x ≡ y) → (xs ys : List A) → map f xs ≡ map f ys → xs ≡ ys
-same_all f one [] [] e = refl
-same_all f one [] (y ∷ ys) e = cc
-same_all f one (x ∷ xs) [] e = cc
-same_all f one (x ∷ xs) (y ∷ ys) e =
-    let h = heads (f x) (f y) (map f xs) (map f ys) e in
-    ap₂ (λ z zs. z ∷ zs) (one x y h.0) (same_all f one xs ys h.1)
+-- ---- synchronizers
 
 -- the synchronizer of a line
 pub listed_sync : (ss : List Sync) (entries : List SyncEntry) → entries ≡ map sync_entry ss → (e : SyncEntry) → Contains entries e → (s : Sync) × Contains ss s × (e ≡ sync_entry s)
@@ -113,23 +66,10 @@ module _ (net : Net) (domains : Domains) (is : IsNet net) (fit : Fit net domains
 
   -- ---- rings
 
-  to_all : (r : Ring) → IsRing (design_of net domains) (net_trees net grays) ss r → IsRing (design_of net domains) (net_trees net grays) (syncs_of net domains) r
-  to_all r k = record {
-    there = whole r.there k.there;
-    back = whole r.back k.back;
-    registers = k.registers;
-    there_group = k.there_group;
-    back_group = k.back_group;
-    apart = k.apart;
-    start = k.start;
-    reads = k.reads;
-    waits = k.waits;
-    answers = k.answers;
-  }
-
-  from_all : (r : Ring) → Contains ss r.there → Contains ss r.back → IsRing (design_of net domains) (net_trees net grays) (syncs_of net domains) r
-      → IsRing (design_of net domains) (net_trees net grays) ss r
-  from_all r i j k = record {
+  -- a ring over other synchronizers, its own among them
+  over : (others own : List Sync) (r : Ring) → Contains own r.there → Contains own r.back → IsRing (design_of net domains) (net_trees net grays) others r
+      → IsRing (design_of net domains) (net_trees net grays) own r
+  over others own r i j k = record {
     there = i;
     back = j;
     registers = k.registers;
@@ -141,6 +81,13 @@ module _ (net : Net) (domains : Domains) (is : IsNet net) (fit : Fit net domains
     waits = k.waits;
     answers = k.answers;
   }
+
+  to_all : (r : Ring) → IsRing (design_of net domains) (net_trees net grays) ss r → IsRing (design_of net domains) (net_trees net grays) (syncs_of net domains) r
+  to_all r k = over ss (syncs_of net domains) r (whole r.there k.there) (whole r.back k.back) k
+
+  from_all : (r : Ring) → Contains ss r.there → Contains ss r.back → IsRing (design_of net domains) (net_trees net grays) (syncs_of net domains) r
+      → IsRing (design_of net domains) (net_trees net grays) ss r
+  from_all r i j k = over (syncs_of net domains) ss r i j k
 
   module _ (s b : Sync) (i : Contains ss s) (j : Contains ss b) where
     -- of two that may turn both sources are bits of registers
@@ -175,7 +122,7 @@ module _ (net : Net) (domains : Domains) (is : IsNet net) (fit : Fit net domains
     -- the ring of a line
     item_ring : IsRingItem (design_of net domains) (net_trees net grays) entries e → (r : Ring) × (e ≡ ring_entry r) × IsRing (design_of net domains) (net_trees net grays) ss r
     item_ring h =
-        let own : h.0 ≡ ss = same_all sync_entry same_sync h.0 ss (sym h.1 ∙ same) in
+        let own : h.0 ≡ ss = same_syncs h.0 ss (sym h.1 ∙ same) in
         (h.2.0, h.2.1, subst (λ xs. IsRing (design_of net domains) (net_trees net grays) xs h.2.0) own h.2.2)
 
     -- a line with a part missing

@@ -5,57 +5,66 @@ use Rattle.cdc_model.specs.declared.scheme.Ring.{Ring as RingEntry}
 use Rattle.cdc_model.specs.declared.scheme.Sync.{Sync as SyncEntry}
 use Rattle.cdc_model.specs.Design.{Design}
 use Rattle.cdc_model.specs.Listed.{sync_entry, ring_entry}
-use Rattle.cdc_model.specs.Schemes.{Trees, Sync, IsSync, AreSyncs, Ring, IsRing, flops, request, acknowledge, ring_bits}
+use Rattle.cdc_model.specs.Schemes.{Trees, Sync, IsSync, AreSyncs, Ring, IsRing, flops, request, acknowledge}
 use Rattle.cdc_model.proofs.Ascending.{here, later, parts, nothing_in}
 use Rattle.cert_check.specs.Certified.{IsSyncItem, IsRingItem}
+use Rattle.cert_check.specs.Rings.{line_of}
 
 -- ---- lines are those of one synchronizer or ring
 
+heads : {A : Type 0} (x y : A) (xs ys : List A) → x ∷ xs ≡ y ∷ ys → (x ≡ y) × (xs ≡ ys)
+heads x y xs ys e = (cc, cc)
+
+-- lists of one length in front of both are one
+split : (xs ys : List Bit) (a b : Bit) (us vs : List Bit) → length xs ≡ length ys → xs ++ a ∷ us ≡ ys ++ b ∷ vs → (xs ≡ ys) × (a ≡ b) × (us ≡ vs)
+split [] [] a b us vs l e = let h = heads a b us vs e in (refl, h.0, h.1)
+split [] (y ∷ ys) a b us vs l e = absurd (omega arith)
+split (x ∷ xs) [] a b us vs l e = absurd (omega arith)
+split (x ∷ xs) (y ∷ ys) a b us vs l e =
+    let h = heads x y (xs ++ a ∷ us) (ys ++ b ∷ vs) e in
+    let k = split xs ys a b us vs (omega arith) h.1 in
+    (ap₂ (λ z zs. z ∷ zs) h.0 k.0, k.1, k.2)
+
+-- a ring's line determines its parts
+pub same_line : (a c b d : Bit) (fs hs gs ks : List Bit) → line_of a fs b gs ≡ line_of c hs d ks → (a ≡ c) × (fs ≡ hs) × (b ≡ d) × (gs ≡ ks)
+same_line a c b d fs hs gs ks e =
+    let h = heads a c (fs ++ b ∷ gs) (hs ++ d ∷ ks) (ap (λ (x : RingEntry). x.bits) e) in
+    let k = split fs hs b d gs ks (ap (λ (x : RingEntry). x.end) e) h.1 in
+    (h.0, k.0, k.1, k.2)
+
+abbrev made : (f : Bit) (x : Bit) (xs : List Bit) → Sync
+made f x xs = record { from = f; first = x; more = xs }
+
+from_parts : (s r : Sync) → s.from ≡ r.from → flops s ≡ flops r → s ≡ r
+from_parts s r e f =
+    let h = heads s.first r.first s.more r.more f in
+    ap (λ (b : Bit). made b s.first s.more) e ∙ ap (λ (b : Bit). made r.from b s.more) h.0 ∙ ap (made r.from r.first) h.1
+
 pub same_sync : (s r : Sync) → sync_entry s ≡ sync_entry r → s ≡ r
-same_sync s r e =
-    let flops_are : (s.first ∷ s.more) ≡ (r.first ∷ r.more) = ap (λ (x : SyncEntry). x.flops) e in
-    made (ap (λ (x : SyncEntry). x.from) e) (let h : s.first ≡ r.first = cc in h) (let h : s.more ≡ r.more = cc in h)
-  where
-    made : s.from ≡ r.from → s.first ≡ r.first → s.more ≡ r.more → s ≡ r
-    made a b c = ap₂ (λ (x y : Bit). let q : Sync = record { from = x; first = y; more = s.more } in q) a b ∙ ap (λ xs. let q : Sync = record { from = r.from; first = r.first; more = xs } in q) c
+same_sync s r e = from_parts s r (ap (λ (x : SyncEntry). x.from) e) (ap (λ (x : SyncEntry). x.flops) e)
 
-pub same_syncs : (ss rs : List Sync) → map sync_entry ss ≡ map sync_entry rs → ss ≡ rs
-same_syncs [] [] e = refl
-same_syncs [] (r ∷ rs) e = cc
-same_syncs (s ∷ ss) [] e = cc
-same_syncs (s ∷ ss) (r ∷ rs) e =
-    ap₂ (λ x xs. x ∷ xs) (same_sync s r (let h : sync_entry s ≡ sync_entry r = cc in h)) (same_syncs ss rs (let h : map sync_entry ss ≡ map sync_entry rs = cc in h))
-
-split : (xs ys us vs : List Bit) → length xs ≡ length ys → xs ++ us ≡ ys ++ vs → (xs ≡ ys) × (us ≡ vs)
-split [] [] us vs l e = (refl, e)
-split [] (y ∷ ys) us vs l e = absurd (omega arith)
-split (x ∷ xs) [] us vs l e = absurd (omega arith)
-split (x ∷ xs) (y ∷ ys) us vs l e =
-    let h : x ≡ y = cc in
-    let r = split xs ys us vs (omega arith) (let f : xs ++ us ≡ ys ++ vs = cc in f) in
-    (ap₂ (λ z zs. z ∷ zs) h r.0, r.1)
+abbrev both : (s b : Sync) → Ring
+both s b = record { there = s; back = b }
 
 pub same_ring : (r q : Ring) → ring_entry r ≡ ring_entry q → r ≡ q
 same_ring r q e =
-    let bits : ring_bits r ≡ ring_bits q = ap (λ (x : RingEntry). x.bits) e in
-    let ends : length (flops r.there) ≡ length (flops q.there) = ap (λ (x : RingEntry). x.end) e in
-    let from : request r ≡ request q = cc in
-    let rest : flops r.there ++ acknowledge r ∷ flops r.back ≡ flops q.there ++ acknowledge q ∷ flops q.back = cc in
-    let p = split (flops r.there) (flops q.there) (acknowledge r ∷ flops r.back) (acknowledge q ∷ flops q.back) ends rest in
-    let there = p.0 in
-    let behind = p.1 in
-    let ack : acknowledge r ≡ acknowledge q = cc in
-    let back : flops r.back ≡ flops q.back = cc in
-    ap₂ (λ (x y : Sync). let z : Ring = record { there = x; back = y } in z)
-    (same_sync r.there q.there (ap₂ (λ b fs. let z : SyncEntry = record { from = b; flops = fs } in z) from there))
-    (same_sync r.back q.back (ap₂ (λ b fs. let z : SyncEntry = record { from = b; flops = fs } in z) ack back))
+    let k = same_line (request r) (request q) (acknowledge r) (acknowledge q) (flops r.there) (flops q.there) (flops r.back) (flops q.back) e in
+    ap₂ both (from_parts r.there q.there k.0 k.1) (from_parts r.back q.back k.2 k.3)
+
+-- a list is determined by what each item determines
+same_all : {A B : Type 0} (f : A → B) → ((x y : A) → f x ≡ f y → x ≡ y) → (xs ys : List A) → map f xs ≡ map f ys → xs ≡ ys
+same_all f one [] [] e = refl
+same_all f one [] (y ∷ ys) e = cc
+same_all f one (x ∷ xs) [] e = cc
+same_all f one (x ∷ xs) (y ∷ ys) e =
+    let h = heads (f x) (f y) (map f xs) (map f ys) e in
+    ap₂ (λ z zs. z ∷ zs) (one x y h.0) (same_all f one xs ys h.1)
+
+pub same_syncs : (ss rs : List Sync) → map sync_entry ss ≡ map sync_entry rs → ss ≡ rs
+same_syncs ss rs e = same_all sync_entry same_sync ss rs e
 
 pub same_rings : (rs qs : List Ring) → map ring_entry rs ≡ map ring_entry qs → rs ≡ qs
-same_rings [] [] e = refl
-same_rings [] (q ∷ qs) e = cc
-same_rings (r ∷ rs) [] e = cc
-same_rings (r ∷ rs) (q ∷ qs) e =
-    ap₂ (λ x xs. x ∷ xs) (same_ring r q (let h : ring_entry r ≡ ring_entry q = cc in h)) (same_rings rs qs (let h : map ring_entry rs ≡ map ring_entry qs = cc in h))
+same_rings rs qs e = same_all ring_entry same_ring rs qs e
 
 -- ---- all lines
 

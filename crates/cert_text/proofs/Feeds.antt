@@ -1,7 +1,6 @@
 -- Lines that are each ended by a line feed are the lines of their text.
-use Rattle.std.proofs.Common.{◌≡◌, ◌≢◌, ◌∙◌, refl, sym, ap, ap₂, subst, arith, rules, ℕ, ◌==◌, Bool, true, false, Option, Some, None, List, [], ◌∷◌, ◌++◌, append_assoc, map}
-use Rattle.std.specs.Prelude.{codes, if◌then◌else◌}
-use Rattle.std.specs.List.{list_all}
+use Rattle.std.proofs.Common.{◌≡◌, ◌∙◌, refl, ap, ◌==◌, Bool, false, Some, List, [], ◌∷◌, ◌++◌, append_assoc, map}
+use Rattle.std.specs.Prelude.{if◌then◌else◌}
 use Rattle.report.specs.VerdictText.{ended}
 use Rattle.cert_text.specs.Words.{lines_of, onto_line}
 use Rattle.clock_constraints.specs.Refusals.{Text}

@@ -1,13 +1,13 @@
 -- Words that spaces join are the words of their text.
-use Rattle.std.proofs.Common.{◌≡◌, ◌≢◌, ◌∙◌, refl, sym, ap, ap₂, subst, arith, rules, ℕ, ◌+◌, ◌*◌, ◌-◌, ◌/◌, ◌%◌, ◌<◌, ◌≤◌, ◌^◌, ◌==◌, ◌&&◌, ◌||◌, not, Bool, true, false, Option, Some, None, List, [], ◌∷◌, ◌++◌, length, append_assoc, lt-ltb}
-use Rattle.std.specs.Prelude.{codes, if◌then◌else◌, nat_lt}
+use Rattle.std.proofs.Common.{◌≡◌, ◌∙◌, refl, ap, ap₂, arith, ℕ, ◌+◌, ◌*◌, ◌-◌, ◌/◌, ◌%◌, ◌<◌, ◌≤◌, ◌^◌, ◌==◌, ◌&&◌, ◌||◌, not, Bool, true, false, Some, None, List, [], ◌∷◌, ◌++◌, append_assoc, lt-ltb}
+use Rattle.std.specs.Prelude.{if◌then◌else◌, nat_lt}
 use Rattle.std.specs.Char.{is_ascii_digit}
 use Rattle.std.specs.Fmt.{decimal}
 use Rattle.std.specs.List.{list_all}
 use Rattle.std.proofs.lemmas.Fmt.{decimal_by_steps}
 use Rattle.std.proofs.lemmas.Bool.Decides.{nat_tests}
 use Rattle.cert_text.specs.Names.{is_name}
-use Rattle.cert_text.specs.Words.{is_decimal, leads_plainly, number_below, onto_word, parts_words, stays_escaped, value_from, words_from, words_of}
+use Rattle.cert_text.specs.Words.{is_decimal, leads_plainly, number_below, onto_word, stays_escaped, value_from, words_from, words_of}
 use Rattle.cert_text.proofs.Feeds.{HasNoEnd}
 use Rattle.cert_text.proofs.Spelled.{name_alone, name_in_front, name_has_no_end}
 use Rattle.clock_constraints.specs.Refusals.{Text}

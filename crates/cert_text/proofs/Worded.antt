@@ -1,6 +1,6 @@
 -- The line of an item is read as the item.
-use Rattle.std.proofs.Common.{◌≡◌, ◌≢◌, ◌∙◌, refl, sym, ap, ap₂, subst, arith, rules, ℕ, zero, suc, ◌+◌, ◌-◌, ◌<◌, ◌^◌, ◌&&◌, not, Bool, true, false, Option, Some, None, List, [], ◌∷◌, ◌++◌, length, length-append, map, take, drop, slice_get, Contains, append_assoc}
-use Rattle.std.specs.Prelude.{codes, if◌then◌else◌, unwrap_or, min}
+use Rattle.std.proofs.Common.{◌≡◌, ◌≢◌, ◌∙◌, refl, sym, ap, ap₂, subst, arith, rules, ℕ, zero, suc, ◌+◌, ◌-◌, ◌<◌, ◌^◌, ◌&&◌, not, Bool, true, false, Option, Some, None, List, [], ◌∷◌, ◌++◌, length, length-append, map, take, drop, slice_get, append_assoc}
+use Rattle.std.specs.Prelude.{codes, if◌then◌else◌, unwrap_or}
 use Rattle.std.specs.Fmt.{decimal}
 use Rattle.std.specs.List.{list_all}
 use Rattle.std.proofs.lemmas.Bool.{and_parts}
@@ -17,14 +17,14 @@ use Rattle.cdc_model.specs.declared.scheme.Sync.{Sync}
 use Rattle.cdc_model.proofs.Ascending.{here, later}
 use Rattle.fifo_scheme.specs.declared.found.FifoPair.{FifoPair}
 use Rattle.report.specs.Findings.{ring_number}
-use Rattle.report.specs.Names.{bit_of, bits_of, signal_of, spaced}
+use Rattle.report.specs.Names.{bit_of, bits_of, signal_of}
 use Rattle.report.specs.VerdictText.{gray_line, shape_of}
 use Rattle.cert_text.specs.declared.certificate.Entry.{Entry}
 use Rattle.cert_text.specs.declared.certificate.Entry.TheVariants as entry
-use Rattle.cert_text.specs.Names.{bit_named, bits_named, in_front, is_name, signal_named}
-use Rattle.cert_text.specs.Read.{are_ring_words, entry_in, gray_of, is_bit_name, known_load, known_ring, line_in, parted_ring, place_numbered, placed_ring, ring_numbered, ring_of, ring_words, RingWords, ringed_load, gated_load, load_of, shape_named, sync_of, fifo_of, worded_ring, size_of, ring_place}
+use Rattle.cert_text.specs.Names.{bits_named, in_front, is_name}
+use Rattle.cert_text.specs.Read.{are_ring_words, entry_in, gray_of, is_bit_name, known_load, known_ring, line_in, parted_ring, place_numbered, placed_ring, ring_numbered, ring_words, RingWords, ringed_load, gated_load, shape_named, sync_of, fifo_of, worded_ring, size_of, ring_place}
 use Rattle.cert_text.specs.Texts.{fifo_line, is_empty, load_line, ring_line, sync_line}
-use Rattle.cert_text.specs.Words.{is_decimal, number_below, words_of}
+use Rattle.cert_text.specs.Words.{number_below, words_of}
 use Rattle.cert_text.specs.Written.{AreFound, CanWriteLoad, CanWriteRing, CanWriteSync, IsFound, IsFoundSignal, plain_load}
 use Rattle.cert_text.proofs.Joined.{AreWords, IsWord, are_words_append, decimal_is, decimal_is_word, joined, joined_append, name_is_word, no_end_joined, number_of, words_joined}
 use Rattle.cert_text.proofs.Feeds.{HasNoEnd}

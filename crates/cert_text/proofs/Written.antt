@@ -1,5 +1,5 @@
 -- What was written reads as the certificate.
-use Rattle.std.proofs.Common.{◌≡◌, ◌∙◌, refl, sym, ap, ap₂, arith, ℕ, suc, ◌+◌, Bool, true, false, Option, Some, None, List, [], ◌∷◌, ◌++◌, append_assoc, length, map, Contains, Ok, Err, Result}
+use Rattle.std.proofs.Common.{◌≡◌, ◌∙◌, refl, sym, ap, ap₂, arith, ℕ, suc, ◌+◌, Bool, true, false, Option, Some, List, [], ◌∷◌, ◌++◌, append_assoc, length, map, Contains, Ok, Err, Result}
 use Rattle.std.specs.Prelude.{codes, if◌then◌else◌, nat_le}
 use Rattle.std.proofs.lemmas.Bool.Decides.{nat_tests}
 use Rattle.std.proofs.lemmas.List.{append-nil}
@@ -15,11 +15,11 @@ use Rattle.cdc_model.proofs.Ascending.{here, later}
 use Rattle.cert_text.specs.declared.certificate.Certificate.{Certificate}
 use Rattle.cert_text.specs.declared.certificate.Entry.{Entry}
 use Rattle.cert_text.specs.declared.certificate.Entry.TheVariants as entry
-use Rattle.cert_text.specs.Read.{at_end, behind_line, certificate_in, empty, entry_read, is_end, kind_of, line_in, lines_read, ring_place, ring_places, text_read, with_entry, broken_line}
-use Rattle.cert_text.specs.Texts.{certificate_lines, certificate_text, entries_of, entry_line, head_line, fifo_line, load_line, ring_line, sync_line}
+use Rattle.cert_text.specs.Read.{at_end, behind_line, certificate_in, empty, entry_read, is_end, kind_of, lines_read, ring_place, ring_places, text_read, with_entry, broken_line}
+use Rattle.cert_text.specs.Texts.{certificate_lines, certificate_text, head_line, fifo_line, load_line, ring_line, sync_line}
 use Rattle.report.specs.VerdictText.{ended as ended_text, gray_line}
 use Rattle.cert_text.specs.Words.{lines_of}
-use Rattle.cert_text.specs.Written.{CanWrite, plain, plain_load, WrittenIsRead}
+use Rattle.cert_text.specs.Written.{CanWrite, plain, plain_load}
 use Rattle.cert_text.proofs.Feeds.{HasNoEnd, HaveNoEnd, lines_ended}
 use Rattle.cert_text.proofs.Entries.{entry_lines}
 use Rattle.cert_text.proofs.Worded.{IsLineOf, sync_is, gray_is, ring_is, ring_has, load_is, fifo_is, end_is}

@@ -1,12 +1,9 @@
 -- The signals and bits that a certificate names.
-use Rattle.std.specs.Prelude.{ℕ, zero, suc, ◌+◌, ◌==◌, List, [], ◌∷◌, ◌++◌, Bool, true, false, Option, None, Some, if◌then◌else◌}
+use Rattle.std.specs.Prelude.{ℕ, ◌==◌, List, [], ◌∷◌, Bool, true, false, Option, None, Some, if◌then◌else◌}
 use Rattle.std.specs.Char.{is_ascii_digit}
-use Rattle.std.specs.List.{position_from}
-use Rattle.std.specs.Str.{bytes_eq}
 use Rattle.cdc_base.specs.declared.bit.Bit.{Bit}
 use Rattle.cdc_base.specs.declared.bytes.Class.TheVariants as class
 use Rattle.cdc_base.specs.declared.signal.Signal.{Signal}
-use Rattle.cdc_base.specs.Bits.{bit_text}
 use Rattle.cdc_base.specs.Bytes.{in_class, is_word_start}
 use Rattle.clock_constraints.specs.Refusals.{Text}
 use Rattle.domains.specs.Tables.{named, first_signal, bit_names}

@@ -1,5 +1,5 @@
 //! Certificates as they are written.
-ghost use Rattle.std.specs.Prelude.{◌≡◌, [], ◌∷◌, ◌++◌, map, codes, IfOk};
+ghost use Rattle.std.specs.Prelude.{◌≡◌, ◌++◌, map, codes, IfOk};
 ghost use Rattle.report.specs.VerdictText.{ended, gray_line};
 ghost use Rattle.cert_text.specs.Texts.{certificate_text, fifo_line, head_line, load_line, ring_line, sync_line};
 
@@ -11,7 +11,7 @@ use fifo_scheme::FifoPair;
 use report::line::Line;
 use report::names::{add_bit, add_bits, add_signal};
 use report::text::Text;
-use report::verdict::gray_line;
+use report::verdict::{add_line, gray_line};
 use std::alloc::Global;
 
 /// The text of a certificate: a line for each item, by the printed names of the net's bits and signals.
@@ -27,14 +27,6 @@ pub fn write(alloc: Global, net: &Net, certificate: &Certificate) -> Result<List
     add_fifos(&mut text, net, certificate.fifos.as_slice())?;
     text.add("end\n")?;
     Ok(text.into_list())
-}
-
-/// Adds the line and a line feed.
-fn add_line(text: &mut Text, line: &Line) -> Result<(), NoMemory>
-    ensures { IfOk result (λ _. text.new ≡ text.old ++ ended (line.now ∷ [])) }
-{
-    text.add(line.as_str())?;
-    text.add("\n")
 }
 
 fn sync_line(alloc: Global, net: &Net, sync: &Sync) -> Result<Line, NoMemory>

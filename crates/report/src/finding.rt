@@ -48,7 +48,8 @@ pub fn code_of(finding: &Finding) -> &'static str
     }
 }
 
-fn add_crossing(line: &mut Line, net: &Net, from: Bit, to: Bit) -> Result<(), NoMemory>
+/// Adds the ends of a crossing.
+pub fn add_crossing(line: &mut Line, net: &Net, from: Bit, to: Bit) -> Result<(), NoMemory>
     ensures { IfOk result (λ _. line.new ≡ line.old ++ crossing_of net.now.graph.signals from to) }
 {
     add_bit(line, net, from)?;
@@ -57,7 +58,7 @@ fn add_crossing(line: &mut Line, net: &Net, from: Bit, to: Bit) -> Result<(), No
 }
 
 /// Adds a word and the group that it enters.
-fn add_entry(
+pub fn add_entry(
     line: &mut Line,
     net: &Net,
     domains: &Domains,

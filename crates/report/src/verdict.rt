@@ -32,7 +32,7 @@ use domains::Domains;
 use std::alloc::Global;
 
 /// Adds the line and a line feed.
-fn add_line(text: &mut Text, line: &Line) -> Result<(), NoMemory>
+pub fn add_line(text: &mut Text, line: &Line) -> Result<(), NoMemory>
     ensures { IfOk result (λ _. text.new ≡ text.old ++ ended (line.now ∷ [])) }
 {
     text.add(line.as_str())?;

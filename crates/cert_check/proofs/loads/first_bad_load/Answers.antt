@@ -5,7 +5,7 @@ use Rattle.cdc_model.specs.declared.scheme.Load.{Load}
 use Rattle.cdc_model.specs.Nets.{design_of, net_trees}
 use Rattle.cdc_model.specs.Tables.{ShowsNet}
 use Rattle.cert_check.specs.Certified.{IsLoadItem}
-use Rattle.cert_check.proofs.Firsts.{one_more, all_hold}
+use Rattle.cert_check.proofs.FirstFailing.{one_more, all_hold}
 use Rattle.cert_check.proofs.loads.first_bad_load.Goals as goal
 
 abbrev none : Load

@@ -4,7 +4,7 @@ use Rattle.std.proofs.lemmas.Option.{slice_get-get_or}
 use Rattle.cdc_model.specs.Nets.{design_of, net_trees}
 use Rattle.cdc_model.specs.Tables.{ShowsNet}
 use Rattle.cert_check.specs.Certified.{IsRingItem}
-use Rattle.cert_check.proofs.Firsts.{one_more, all_hold}
+use Rattle.cert_check.proofs.FirstFailing.{one_more, all_hold}
 use Rattle.cert_check.proofs.rings.first_bad_ring.Goals as goal
 
 pub loop-place-preserved : goal.loop-place-preserved

@@ -1,5 +1,5 @@
 -- What was read has no more items than the text has bytes.
-use Rattle.std.proofs.Common.{ℕ, ◌≤◌, ◌^◌, length}
+use Rattle.std.proofs.Common.{◌≤◌, ◌^◌, length}
 use Rattle.cert_text.proofs.Counts.{few_read}
 use Rattle.cert_text.proofs.reading.read.Goals as goal
 
