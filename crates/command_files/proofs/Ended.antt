@@ -1,5 +1,5 @@
 -- How a command ends, by how its reading and its texts do.
-use Rattle.std.proofs.Common.{◌≡◌, sym, subst, inl, inr, ◌⊎◌, true, ℕ, List, Some, Ok, Err, Result}
+use Rattle.std.proofs.Common.{◌≡◌, sym, subst, inl, inr, true, Some, Ok, Err, Result}
 use Rattle.std.specs.Prelude.{IfOk, IfErr, MatchResult}
 use Rattle.std.proofs.lemmas.Bool.{false≢true}
 use Rattle.cdc_base.specs.declared.fault.Fault.{Fault}
@@ -40,6 +40,13 @@ no_read s h (inl is) = cc
 no_read s h (inr (inl is)) = cc
 no_read s h (inr (inr is)) = cc
 
+-- a refusal with one cause has each other that follows from it
+pub also : {T : Type 0} (first then : Status → Fault → Type 0) (r : Result T Ending) → ((s : Status) (f : Fault) → first s f → then s f)
+    → IfErr r (HasCause first) → IfErr r (HasCause then)
+also first then (Ok v) more h = tt
+also first then (Err (Refused s f)) more h = more s f h
+also first then (Err Memory) more h = tt
+
 -- ---- two files
 
 module _ (done : Text → Text → Status → Text → Type 0) (refused : Text → Text → Fault → Status → Type 0) (net con : Text) (before now : Seen) where
@@ -75,9 +82,8 @@ module _ (done : Text → Text → Status → Text → Type 0) (refused : Text �
 
     told_causes : (r : Result Answer Ending) → IfErr r (HasCause (λ s f. refused net_read con_read f s))
         → IfErr r (HasCause (λ s f. IsOfStatus s → IsCausedBy refused now net con s f))
-    told_causes (Ok own) h = tt
-    told_causes (Err Memory) h = tt
-    told_causes (Err (Refused s f)) h = λ _. inr (told (λ n c. refused n c f s) h)
+    told_causes r h = also (λ s f. refused net_read con_read f s) (λ s f. IsOfStatus s → IsCausedBy refused now net con s f) r
+        (λ s f x _. inr (told (λ n c. refused n c f s) x)) h
 
     -- both files were read, and their texts have an answer or a refusal
     pub both_ended : {T : Type 0} (texts : T) (r : Result Answer Ending) → IsReadOfBoth {T = T} net con before now (Ok texts)
@@ -131,9 +137,8 @@ module _ (done : Text → Text → Text → Status → Text → Type 0) (refused
 
     all_causes : (r : Result Answer Ending) → IfErr r (HasCause (λ s f. refused net_read con_read third_read f s))
         → IfErr r (HasCause (λ s f. IsOfStatus s → IsCausedByAny refused now net con third s f))
-    all_causes (Ok own) h = tt
-    all_causes (Err Memory) h = tt
-    all_causes (Err (Refused s f)) h = λ _. inr (all_told (λ n c t. refused n c t f s) h)
+    all_causes r h = also (λ s f. refused net_read con_read third_read f s) (λ s f. IsOfStatus s → IsCausedByAny refused now net con third s f) r
+        (λ s f x _. inr (all_told (λ n c t. refused n c t f s) x)) h
 
     -- all three files were read, and their texts have an answer or a refusal
     pub three_ended : {T : Type 0} (texts : T) (r : Result Answer Ending) → IsReadOfThree {T = T} net con third before now (Ok texts)
