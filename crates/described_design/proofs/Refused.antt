@@ -22,10 +22,10 @@ use Rattle.reset_nets.specs.Designs.{IsDesign as IsUnfolded}
 use Rattle.refusals.specs.Limits.{Tells}
 use Rattle.elaborate.specs.Refusals.{IsRefusedFor}
 use Rattle.command_files.specs.declared.answer.Ending.{Ending}
-use Rattle.command_files.specs.declared.answer.Ending.TheVariants.{Refused, Memory}
 use Rattle.command_files.specs.declared.status.Status.{Status}
 use Rattle.command_files.specs.declared.status.Status.TheVariants.{Netlist, Constraints}
 use Rattle.command_files.specs.Endings.{HasCause, ended_with}
+use Rattle.command_files.proofs.Ended.{also}
 use Rattle.described_design.specs.Refused.{IsNetlistRefused, tokens, reading, IsDesignRefused, rule, cells, domains, AreTextsRefused, netlist, constraints, design}
 use Rattle.described_design.specs.ConstraintFiles.{BreaksRule, HasConstraints}
 use Rattle.described_design.specs.Described.{IsNetOfModules, ReadsAs, named_in}
@@ -70,12 +70,6 @@ module _ (modules : List ModuleTree) (c : ConstraintsOf) where
   domains_cause net of_modules is (Err stop.Memory) h = tt
 
 -- ---- the stages of an audit
-
-pub also : {T : Type 0} (first then : Status → Fault → Type 0) (r : Result T Ending) → ((s : Status) (f : Fault) → first s f → then s f)
-    → IfErr r (HasCause first) → IfErr r (HasCause then)
-also first then (Ok v) more h = tt
-also first then (Err (Refused s f)) more h = more s f h
-also first then (Err Memory) more h = tt
 
 -- an ending is passed on with its cause
 pub passed_on : {T : Type 0} {U : Type 0} (cause : Status → Fault → Type 0) (r : Result T Ending) (out : Result U Ending) (e : Ending) → r ≡ Err e → out ≡ Err e
