@@ -11,9 +11,8 @@ use Rattle.cdc_model.specs.declared.scheme.Ring.{Ring}
 use Rattle.cdc_model.specs.declared.verdict.Finding.{Finding as FindingEntry}
 use Rattle.cdc_model.specs.declared.verdict.Verdict.{Verdict as VerdictEntry}
 use Rattle.cdc_model.specs.Design.{Design}
-use Rattle.cdc_model.specs.Listed.{AreEntries, IsVerdictOf}
+use Rattle.cdc_model.specs.Listed.{AreEntries}
 use Rattle.cdc_model.specs.Nets.{design_of, net_trees}
-use Rattle.cdc_model.specs.Runs.{Trace, IsRun}
 use Rattle.cdc_model.specs.Schemes.{Sync, Trees, ring_bits}
 use Rattle.cdc_model.specs.Sound.{Sound}
 use Rattle.cdc_model.specs.Verdict.{Finding}
@@ -31,7 +30,7 @@ use Rattle.obligations.specs.Judged.{CanAudit}
 use Rattle.report.specs.Waived.{set_aside}
 use Rattle.command_files.specs.declared.status.Status.{Status}
 use Rattle.command_files.specs.declared.status.Status.TheVariants.{Done, Violations, Waived}
-use Rattle.audit_command.specs.Audits.{IsAuditOf, IsSoundBy, IsStatusOf, IsTogetherBy, audited_status, text_of}
+use Rattle.audit_command.specs.Audits.{AreTextsJudged, IsAuditOf, IsSoundBy, IsStatusOf, IsTogetherBy, audited_status, text_of}
 use Rattle.audit_command.proofs.FifoOrder.{in_order_by}
 use Rattle.described_design.specs.Designs.{IsDesignOf}
 use Rattle.described_design.proofs.Described.{net_of_design}
@@ -79,7 +78,7 @@ module _ (f : Flat) (sel : Selects) (c : Constraints) (net : Net) (domains : Dom
       (subst (AreEntries net (design_of net domains) (net_trees net w.grays) w.syncs w.verdict.findings) found w.is_listed.findings)))
 
 -- only where nothing was found the audit is done
-done_clean : (es : List FindingEntry) (aside : List (Option ℕ)) → audited_status (length es) aside ≡ Done → es ≡ []
+pub done_clean : (es : List FindingEntry) (aside : List (Option ℕ)) → audited_status (length es) aside ≡ Done → es ≡ []
 done_clean [] aside h = refl
 done_clean (e ∷ es) aside h = absurd (found (list_all is_some aside)
     (subst (λ (none : Bool). (if none then Done else (if list_all is_some aside then Waived else Violations)) ≡ Done) some h))
@@ -90,6 +89,26 @@ done_clean (e ∷ es) aside h = absurd (found (list_all is_some aside)
     found : (waived : Bool) → (if waived then Waived else Violations) ≡ Done → ⊥
     found true k = cc
     found false k = cc
+
+-- the verdict on the design that the texts describe
+module _ {word text con : List ℕ} (c : Constraints) (net : Net) (domains : Domains) (j : Judged) (design : IsDesignOf word text con c net domains)
+    (all : IsJudged net domains j) where
+  abbrev pub judged_texts : AreTextsJudged word text con
+  judged_texts =
+      let flat = design.of_modules.flat in
+      let (sel, is_net) = net_of_design design.modules c net domains design.design design.of_modules in
+      record {
+        constraints = c;
+        net = net;
+        domains = domains;
+        design = design;
+        meaning = has_meaning flat sel c net domains is_net;
+        listed = j.verdict;
+        fifos = all.fifos;
+        are_fifos = all.are_fifos;
+        is_verdict = all.on.exact;
+        exact = verdict_meaning flat sel c net domains is_net (is_of_fifo all.fifos) j.verdict all.on.exact;
+      }
 
 -- an audit of the design that the texts describe
 pub audited_texts : (json : Bool) (word text con : List ℕ) (c : Constraints) (net : Net) (domains : Domains) (j : Judged)
@@ -105,16 +124,7 @@ audited_texts json word text con c net domains j aside s answer design judged wa
     let e = j.verdict in
     let on = all.on in
     record {
-      constraints = c;
-      net = net;
-      domains = domains;
-      design = design;
-      meaning = has_meaning flat sel c net domains is_net;
-      listed = e;
-      fifos = all.fifos;
-      are_fifos = all.are_fifos;
-      is_verdict = on.exact;
-      exact = verdict_meaning flat sel c net domains is_net extra e on.exact;
+      judged = judged_texts c net domains j design all;
       told = subst (IsStatusOf flat c net domains extra e on.exact) (sym is) (told_by flat sel c net domains is_net extra e on aside e.findings refl);
       in_order = λ done fifo i. in_order_by flat sel c net domains is_net extra e on.exact fifo (all.in_order (done_clean e.findings aside (sym is ∙ done)) fifo i);
       aside = aside;

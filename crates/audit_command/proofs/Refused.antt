@@ -16,9 +16,9 @@ use Rattle.net_verdict.specs.Judged.{IsJudged}
 use Rattle.obligations.specs.Judged.{CanAudit}
 use Rattle.report.specs.Waived.{set_aside}
 use Rattle.command_files.specs.declared.answer.Ending.{Ending}
-use Rattle.command_files.specs.declared.answer.Ending.TheVariants.{Refused, Memory}
 use Rattle.command_files.specs.declared.status.Status.TheVariants.{Netlist, Constraints}
 use Rattle.command_files.specs.Endings.{HasCause}
+use Rattle.command_files.proofs.Ended.{also}
 use Rattle.described_design.specs.Designs.{IsDesignOf}
 use Rattle.described_design.specs.Refused.{AreTextsRefused}
 use Rattle.audit_command.specs.Refused.{AreTooMany, IsVerdictRefused, crossings, waivers, IsAuditRefused, texts, verdict}
@@ -38,18 +38,14 @@ waivers_cause c net d j is (Err stop.Memory) h = tt
 module _ (word text con : List ℕ) where
   pub texts_refused : {T : Type 0} (r : Result T Ending) → IfErr r (HasCause (λ s f. AreTextsRefused word text con f s))
       → IfErr r (HasCause (λ s f. IsAuditRefused word text con f s))
-  texts_refused (Ok v) h = tt
-  texts_refused (Err (Refused s f)) h = texts h
-  texts_refused (Err Memory) h = tt
+  texts_refused r h = also (λ s f. AreTextsRefused word text con f s) (λ s f. IsAuditRefused word text con f s) r (λ s f x. texts x) h
 
   pub crossings_refused : {T : Type 0} (c : ConstraintsOf) (net : Net) (d : Domains) → IsDesignOf word text con c net d → (r : Result T Ending)
       → IfErr r (HasCause (λ s f. AreTooMany net d f s)) → IfErr r (HasCause (λ s f. IsAuditRefused word text con f s))
-  crossings_refused c net d design (Ok v) h = tt
-  crossings_refused c net d design (Err (Refused s f)) h = verdict c net d design (crossings h)
-  crossings_refused c net d design (Err Memory) h = tt
+  crossings_refused c net d design r h =
+      also (λ s f. AreTooMany net d f s) (λ s f. IsAuditRefused word text con f s) r (λ s f x. verdict c net d design (crossings x)) h
 
   pub verdict_refused : {T : Type 0} (c : ConstraintsOf) (net : Net) (d : Domains) → IsDesignOf word text con c net d → (r : Result T Ending)
       → IfErr r (HasCause (λ s f. IsVerdictRefused c net d f s)) → IfErr r (HasCause (λ s f. IsAuditRefused word text con f s))
-  verdict_refused c net d design (Ok v) h = tt
-  verdict_refused c net d design (Err (Refused s f)) h = verdict c net d design h
-  verdict_refused c net d design (Err Memory) h = tt
+  verdict_refused c net d design r h =
+      also (λ s f. IsVerdictRefused c net d f s) (λ s f. IsAuditRefused word text con f s) r (λ s f x. verdict c net d design x) h

@@ -93,9 +93,9 @@ abbrev pub text_of : Bool → Net → Domains → VerdictEntry → List (List �
 text_of json net domains verdict lines waivers aside =
     if json then verdict_json net domains verdict waivers aside lines else ended lines ++ verdict_text net domains verdict waivers aside
 
--- The audit of the design which a netlist's bytes describe, under the constraints of a file with this word and these bytes. Nothing but `design` speaks of
--- the word and the bytes, so two files with equal constraints, in TOML or in SDC, have the same answers.
-pub record IsAuditOf (json : Bool) (word text con : List ℕ) (status : Status) (answer : List ℕ) : Type 0 where
+-- The design which a netlist's bytes describe, under the constraints of a file with this word and these bytes, and the verdict on it. Nothing but `design`
+-- speaks of the word and the bytes, so two files with equal constraints, in TOML or in SDC, have the same verdict.
+pub record AreTextsJudged (word text con : List ℕ) : Type 0 where
   pub constraints : Constraints
   pub net : Net
   pub domains : Domains
@@ -107,11 +107,16 @@ pub record IsAuditOf (json : Bool) (word text con : List ℕ) (status : Status) 
   pub are_fifos : AreFifosOf net domains listed.grays fifos
   pub is_verdict : IsVerdictOf net domains (is_of_fifo fifos) listed
   pub exact : (d : Design) (m : IsMeaning design.of_modules.flat constraints d) → HasVerdict design.of_modules.flat m.sel d (is_of_fifo fifos) is_verdict.verdict
-  pub told : IsStatusOf design.of_modules.flat constraints net domains (is_of_fifo fifos) listed is_verdict status
+
+-- the audit of both texts
+pub record IsAuditOf (json : Bool) (word text con : List ℕ) (status : Status) (answer : List ℕ) : Type 0 where
+  pub judged : AreTextsJudged word text con
+  pub told : IsStatusOf judged.design.of_modules.flat judged.constraints judged.net judged.domains (is_of_fifo judged.fifos) judged.listed judged.is_verdict status
   -- where the design is clean, words go through each of the FIFOs in order
-  pub in_order : status ≡ Done → (e : FifoEntry) → Contains fifos e → IsInOrderBy design.of_modules.flat constraints net.graph is_verdict.syncs listed.grays e
+  pub in_order : status ≡ Done → (e : FifoEntry) → Contains judged.fifos e
+      → IsInOrderBy judged.design.of_modules.flat judged.constraints judged.net.graph judged.is_verdict.syncs judged.listed.grays e
   -- each waiver meets a finding, and by what they set aside the status and the text are fixed
   pub aside : List (Option ℕ)
-  pub waived : set_aside net domains listed.findings constraints.waivers ≡ Ok aside
-  pub status_is : status ≡ audited_status (length listed.findings) aside
-  pub answer_is : answer ≡ text_of json net domains listed (fifo_lines_from net.graph.signals 1 fifos) constraints.waivers aside
+  pub waived : set_aside judged.net judged.domains judged.listed.findings judged.constraints.waivers ≡ Ok aside
+  pub status_is : status ≡ audited_status (length judged.listed.findings) aside
+  pub answer_is : answer ≡ text_of json judged.net judged.domains judged.listed (fifo_lines_from judged.net.graph.signals 1 judged.fifos) judged.constraints.waivers aside

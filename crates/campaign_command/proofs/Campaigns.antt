@@ -1,5 +1,5 @@
 -- A campaign over the design of both texts.
-use Rattle.std.proofs.Common.{◌≡◌, ◌∙◌, ◌≤◌, ◌^◌, ℕ, List, length, map, Option, Result, Ok, Err, sym}
+use Rattle.std.proofs.Common.{◌≡◌, ◌∙◌, ◌≤◌, ◌^◌, ℕ, List, length, map, Option, Result, sym}
 use Rattle.std.specs.Prelude.{IfErr}
 use Rattle.cdc_base.specs.declared.limits.TheConstants.{MAX_CROSSINGS}
 use Rattle.cell_graph.specs.declared.net.Net.{Net}
@@ -15,9 +15,9 @@ use Rattle.campaign.specs.Campaign.{IsAnswer}
 use Rattle.campaign.specs.Run.{CanRun}
 use Rattle.campaign.specs.Shows.{FoundsShowCaptures}
 use Rattle.command_files.specs.declared.answer.Ending.{Ending}
-use Rattle.command_files.specs.declared.answer.Ending.TheVariants.{Refused, Memory}
 use Rattle.command_files.specs.declared.status.Status.{Status}
 use Rattle.command_files.specs.Endings.{HasCause}
+use Rattle.command_files.proofs.Ended.{also}
 use Rattle.audit_command.specs.Refused.{AreTooMany}
 use Rattle.described_design.specs.Designs.{CanReplay, IsDesignOf}
 use Rattle.described_design.specs.Refused.{AreTextsRefused}
@@ -55,12 +55,9 @@ module _ (word text con : List ℕ) where
 
   pub texts_refused : {T : Type 0} (r : Result T Ending) → IfErr r (HasCause (λ s f. AreTextsRefused word text con f s))
       → IfErr r (HasCause (λ s f. IsCampaignRefused word text con f s))
-  texts_refused (Ok v) h = tt
-  texts_refused (Err (Refused s f)) h = texts h
-  texts_refused (Err Memory) h = tt
+  texts_refused r h = also (λ s f. AreTextsRefused word text con f s) (λ s f. IsCampaignRefused word text con f s) r (λ s f x. texts x) h
 
   pub crossings_refused : {T : Type 0} (c : Constraints) (net : Net) (domains : Domains) → IsDesignOf word text con c net domains → (r : Result T Ending)
       → IfErr r (HasCause (λ s f. AreTooMany net domains f s)) → IfErr r (HasCause (λ s f. IsCampaignRefused word text con f s))
-  crossings_refused c net domains design (Ok v) h = tt
-  crossings_refused c net domains design (Err (Refused s f)) h = crossings c net domains design h
-  crossings_refused c net domains design (Err Memory) h = tt
+  crossings_refused c net domains design r h =
+      also (λ s f. AreTooMany net domains f s) (λ s f. IsCampaignRefused word text con f s) r (λ s f x. crossings c net domains design x) h

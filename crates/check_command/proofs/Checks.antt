@@ -1,7 +1,6 @@
 -- The check of a certificate that was read, or wasn't.
-use Rattle.std.proofs.Common.{◌≡◌, ◌∙◌, ◌≤◌, ◌^◌, ℕ, List, [], length, map, Contains, Result, Ok, Err, refl, sym, subst, arith}
+use Rattle.std.proofs.Common.{◌≡◌, ◌∙◌, ◌≤◌, ℕ, List, length, map, Result, Ok, Err, refl, sym, arith}
 use Rattle.std.specs.Prelude.{IfErr}
-use Rattle.cdc_base.specs.declared.fault.Fault.{Fault}
 use Rattle.cdc_base.specs.declared.fault.Stop.{Stop}
 use Rattle.cdc_base.specs.declared.fault.Stop.TheVariants as stop
 use Rattle.cell_graph.specs.declared.net.Net.{Net}
@@ -10,7 +9,6 @@ use Rattle.clock_constraints.specs.Refusals.{Gives}
 use Rattle.domains.specs.declared.Domains.{Domains}
 use Rattle.domains.specs.Assignment.{Refuses}
 use Rattle.cdc_model.specs.declared.scheme.Ring.{Ring as RingEntry}
-use Rattle.fifo_scheme.specs.declared.found.Fifo.{Fifo as FifoEntry}
 use Rattle.flat_meaning.specs.Design.{Flat}
 use Rattle.flat_meaning.specs.Trees.{Selects}
 use Rattle.flat_model.specs.Laws.{IsNetOf}
@@ -23,16 +21,14 @@ use Rattle.cert_check.specs.declared.Checked.{Checked}
 use Rattle.cert_check.specs.declared.Checked.TheVariants.{Holds, BadItem, Bare, Word}
 use Rattle.cert_check.specs.Certified.{covers_of}
 use Rattle.cert_check.specs.Checked.{CanCheck, DoesHold}
-use Rattle.cert_check.specs.OnNets.{IsCertifiedOn, IsCheckedOn, is_among, is_of_fifo, trees_by}
+use Rattle.cert_check.specs.OnNets.{is_among, is_of_fifo}
 use Rattle.cert_check.specs.Promised.{IsSoundBy, IsTogetherBy, KeepOrder}
 use Rattle.command_files.specs.declared.answer.Ending.{Ending}
-use Rattle.command_files.specs.declared.answer.Ending.TheVariants.{Refused, Memory}
 use Rattle.command_files.specs.declared.status.Status.{Status}
-use Rattle.command_files.specs.declared.status.Status.TheVariants.{Done, Violations, Record}
+use Rattle.command_files.specs.declared.status.Status.TheVariants.{Done, Record}
 use Rattle.command_files.specs.Endings.{HasCause}
+use Rattle.command_files.proofs.Ended.{also}
 use Rattle.command_files.specs.Files.{max_bytes}
-use Rattle.audit_command.specs.Audits.{IsInOrderBy}
-use Rattle.audit_command.specs.Audits as audits
 use Rattle.audit_command.proofs.FifoOrder.{in_order_over}
 use Rattle.described_design.specs.Designs.{IsDesignOf}
 use Rattle.described_design.specs.Refused.{AreTextsRefused}
@@ -127,18 +123,11 @@ module _ (word text con cert : List ℕ) where
 
   pub texts_refused : {T : Type 0} (r : Result T Ending) → IfErr r (HasCause (λ s f. AreTextsRefused word text con f s))
       → IfErr r (HasCause (λ s f. IsCheckRefused word text con cert f s))
-  texts_refused (Ok v) h = tt
-  texts_refused (Err (Refused s f)) h = texts h
-  texts_refused (Err Memory) h = tt
-
-  broken_refused : {T : Type 0} (c : Constraints) (net : Net) (domains : Domains) → IsDesignOf word text con c net domains → (r : Result T Ending)
-      → IfErr r (HasCause (λ s f. IsBrokenCertificate net cert f s)) → IfErr r (HasCause (λ s f. IsCheckRefused word text con cert f s))
-  broken_refused c net domains design (Ok v) h = tt
-  broken_refused c net domains design (Err (Refused s f)) h = certificate c net domains design h
-  broken_refused c net domains design (Err Memory) h = tt
+  texts_refused r h = also (λ s f. AreTextsRefused word text con f s) (λ s f. IsCheckRefused word text con cert f s) r (λ s f x. texts x) h
 
   pub certificate_refused : {T : Type 0} (c : Constraints) (net : Net) (domains : Domains) → IsDesignOf word text con c net domains → (r : Result T Ending)
       → (CanCheckText net domains → IfErr r (HasCause (λ s f. IsBrokenCertificate net cert f s)))
       → IfErr r (HasCause (λ s f. IsCheckRefused word text con cert f s))
   certificate_refused c net domains design r h =
-      broken_refused c net domains design r (h (record { can_audit = design.design.can_audit; numbered = design.design.can.read.signals }))
+      also (λ s f. IsBrokenCertificate net cert f s) (λ s f. IsCheckRefused word text con cert f s) r (λ s f x. certificate c net domains design x)
+      (h (record { can_audit = design.design.can_audit; numbered = design.design.can.read.signals }))

@@ -6,9 +6,7 @@ use Rattle.clock_constraints.specs.declared.Constraints.{Constraints}
 use Rattle.domains.specs.declared.Domains.{Domains}
 use Rattle.cdc_model.specs.declared.scheme.Ring.{Ring as RingEntry}
 use Rattle.cdc_model.specs.Design.{Design}
-use Rattle.cdc_model.specs.Listed.{sync_entry}
 use Rattle.cdc_model.specs.Nets.{design_of}
-use Rattle.cdc_model.specs.Schemes.{Sync}
 use Rattle.cdc_model.specs.Sound.{Sound}
 use Rattle.cdc_model.specs.Together.{OneFamily}
 use Rattle.fifo_scheme.specs.declared.found.Fifo.{Fifo as FifoEntry}

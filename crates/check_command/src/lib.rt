@@ -1,23 +1,23 @@
 //! The command `check`: whether a certificate holds of a netlist under its constraints.
 #![tactic(auto)]
 
-ghost use Rattle.std.specs.Prelude.{◌≡◌, ◌≤◌, ◌++◌, length, IfOk, IfErr, MatchResult};
+ghost use Rattle.std.specs.Prelude.{◌≡◌, ◌≤◌, length, IfOk, IfErr, MatchResult};
 ghost use Rattle.command_files.specs.Endings.{HasCause, IsEndOfThree, IsOfFiles};
 ghost use Rattle.command_files.specs.Files.{Seen, max_bytes};
 ghost use Rattle.command_files.specs.Statuses.{IsEnd};
 ghost use Rattle.check_command.specs.Checks.{CanCheckText, IsCheckOf, IsCheckedText, line_of, status_of, text_of};
-ghost use Rattle.report.specs.Findings.{crossing_of, entry_of};
 ghost use Rattle.check_command.specs.Refused.{IsBrokenCertificate, IsCheckRefused};
 
-use cdc_base::{Bit, Files, List, NoMemory};
+use cdc_base::{Files, List, NoMemory};
 use cell_graph::Net;
 use cert_check::Checked;
 use command_files::{Answer, Ending, Status, or_refused, read_three};
 use described_design::design_of_texts;
 use domains::Domains;
+use report::finding::{add_crossing, add_entry};
 use report::line::Line;
-use report::names::{add_bit, add_group, add_signal};
 use report::text::Text;
+use report::verdict::add_line;
 use std::alloc::Global;
 
 /// What a check answers to the certificate that these bytes are. Refused with the record's status for the first line that
@@ -42,29 +42,6 @@ fn status_of(checked: &Checked) -> Status
         Checked::Holds { .. } => Status::Done,
         _ => Status::Violations,
     }
-}
-
-fn add_crossing(line: &mut Line, net: &Net, from: Bit, to: Bit) -> Result<(), NoMemory>
-    ensures { IfOk result (λ _. line.new ≡ line.old ++ crossing_of net.now.graph.signals from to) }
-{
-    add_bit(line, net, from)?;
-    line.add(" -> ")?;
-    add_bit(line, net, to)
-}
-
-/// Adds a word and the group that it enters.
-fn add_entry(
-    line: &mut Line,
-    net: &Net,
-    domains: &Domains,
-    word: u32,
-    group: u32,
-) -> Result<(), NoMemory>
-    ensures { IfOk result (λ _. line.new ≡ line.old ++ entry_of net.now domains.now word group) }
-{
-    add_signal(line, net, word)?;
-    line.add(" -> ")?;
-    add_group(line, domains, group)
 }
 
 /// The line of a check, without its line feed.
@@ -104,8 +81,7 @@ fn text_of(
 {
     let line = line_of(alloc, net, domains, checked)?;
     let mut text = Text::new(alloc);
-    text.add(line.as_str())?;
-    text.add("\n")?;
+    add_line(&mut text, &line)?;
     Ok(text.into_list())
 }
 

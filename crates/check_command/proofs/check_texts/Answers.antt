@@ -1,4 +1,4 @@
-use Rattle.std.proofs.Common.{refl, rules}
+use Rattle.std.proofs.Common.{rules}
 use Rattle.std.specs.Prelude.{IfErr}
 use Rattle.command_files.specs.Endings.{HasCause}
 use Rattle.check_command.specs.Refused.{IsCheckRefused}

@@ -1,4 +1,4 @@
-use Rattle.std.proofs.Common.{◌≤◌, ◌^◌, Result, Ok, length, refl, rules}
+use Rattle.std.proofs.Common.{◌≤◌, ◌^◌, Ok, length, refl, rules}
 use Rattle.std.specs.Prelude.{IfErr}
 use Rattle.cert_text.specs.Read.{certificate_numbers}
 use Rattle.cert_text.specs.Texts.{entries_of}
