@@ -242,7 +242,7 @@ module _ (f : Flat) (sel : Selects) (c : Constraints) (net : Net) (domains : Dom
     )
 
     abbrev AssignReads : Target × Expr → Type 0
-    AssignReads a = TargetReads may a.0 × Reads may a.1
+    AssignReads a = TargetReads may may a.0 × Reads may may a.1
 
     unread_resets : IsUnread f may
     unread_resets = record {

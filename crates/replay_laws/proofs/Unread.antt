@@ -100,7 +100,7 @@ module _ (f : Flat) (sized : AreWords (size_in f)) (may : ℕ → Bool) where
 
     -- a clocked process that reads and assigns such signals alone
     abbrev IsApart : ℕ × Stmt → Type 0
-    IsApart p = IsSoundClocked f p.1 × (StmtReads may p.1 × ((s : ℕ) → assigns p.1 s ≡ true → may s ≡ true))
+    IsApart p = IsSoundClocked f p.1 × (StmtReads may may p.1 × ((s : ℕ) → assigns p.1 s ≡ true → may s ≡ true))
 
     next_apart : (ps : List (ℕ × Stmt)) → Each IsApart ps → (s i : ℕ) → may s ≡ true → i < size_in f s → next_in (size_in f) ps v s i ≡ next_in (size_in f) ps u s i
     next_apart [] h s i m l = same s i m
@@ -127,12 +127,12 @@ module _ (f : Flat) (sized : AreWords (size_in f)) (may : ℕ → Bool) where
         all_held_same no_targets d i = refl
         all_held_same (target t ts) d i = ap₂ (λ (g h : ℕ → Bool). cat g (target_sizes (size_in f) ts) h i) (fun_ext (held_same t d.0)) (fun_ext (all_held_same ts d.1))
 
-      holds_too : (a : Target × Expr) → IsSoundAssign f a → Reads may a.1 → HoldsValue f v a → HoldsValue f u a
+      holds_too : (a : Target × Expr) → IsSoundAssign f a → Reads may may a.1 → HoldsValue f v a → HoldsValue f u a
       holds_too a sound reads h i l =
           sym (held_same a.0 sound.1 i) ∙ h i l
           ∙ value_same a.1 (fits_on (size_in f) may (MayBe (inside f)) (MayBe ok) both a.1 reads sound.0) (value_size (size_in f) a.0 a.1) (omega arith) i (omega (arith, l))
 
-      kept_too : (body : Stmt) → IsSoundComb f body → StmtReads may body → IsKept f v body → IsKept f u body
+      kept_too : (body : Stmt) → IsSoundComb f body → StmtReads may may body → IsKept f v body → IsKept f u body
       kept_too body sound reads h s i l = by_bool (may_assign (size_in f) body s i)
           (λ e. let a = assigned body s i e in let m = wires s (sound.wires s a) in
           sym (comb_same body fits s i a l (sound.no_latch s i l e)) ∙ h s i l ∙ same s i m)
@@ -146,9 +146,9 @@ module _ (f : Flat) (sized : AreWords (size_in f)) (may : ℕ → Bool) where
 -- A design that reads no signal but those that may be read: no wire is among the others, and no process assigns one of them.
 pub record IsUnread (f : Flat) (may : ℕ → Bool) : Type 0 where
   pub wires : (s : ℕ) → is_variable f s ≡ false → may s ≡ true
-  pub values : Each (λ (a : Target × Expr). Reads may a.1) f.assigns
-  pub combs : Each (StmtReads may) f.combs
-  pub clocked : Each (λ (p : ℕ × Stmt). StmtReads may p.1 × ((s : ℕ) → assigns p.1 s ≡ true → may s ≡ true)) f.clocked
+  pub values : Each (λ (a : Target × Expr). Reads may may a.1) f.assigns
+  pub combs : Each (StmtReads may may) f.combs
+  pub clocked : Each (λ (p : ℕ × Stmt). StmtReads may may p.1 × ((s : ℕ) → assigns p.1 s ≡ true → may s ≡ true)) f.clocked
 
 module _ (f : Flat) (sound : IsSound f) (may : ℕ → Bool) (unread : IsUnread f may) (pins others : ℕ → Pin) (same : (s : ℕ) → may s ≡ true → pins s ≡ others s) (r : Reading) where
   module _ (v w : Words) (c : Consistent f pins r v) (k : Consistent f others r w) where

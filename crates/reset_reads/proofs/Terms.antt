@@ -100,7 +100,7 @@ module _ (may : ℕ → Bool) (look : Look) (free : (s : ℕ) → s < length loo
         go : (b : Bool) → IsSpare (cond b (signal_bits look x s (bit_select (range_at look.entries s) (own_value i.expr)))
             (spoilt (At s i.expr) false (breaks_if (not (may_index (range_at look.entries s) (size i.expr))) 315 x)))
         go true = signal_spares x s (bit_select (range_at look.entries s) (own_value i.expr)) l
-        go false = spare
+        go false = (refl, spare)
 
     words_spare : (m : Memory) → IsHeld count (a_memory m) → (n more : ℕ) → n + more < m.words → Spares may (words_from look m i.expr n more)
     words_spare m h n zero l = whole_spares (m.first + n) (h n (let a : n < m.words = omega arith in a))

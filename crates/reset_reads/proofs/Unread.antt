@@ -110,8 +110,8 @@ module _ (pins : List ResetPin) (named : List Text) (d : Design) (h : AllReadSpa
   flat_unread sized words = record {
     assigns = both_hold (AssignSpares pins may) AssignSized AssignReads f.assigns (λ a k l. (target_reads may can wid words unpinned_may wide_may a.0 l.0 k.0, expr_reads may can wid words unpinned_may wide_may a.1 l.1 k.1))
         (All-append (AssignSpares pins may) d.assigns (constants_from c 0 c.entries) h.assigns (constants_hold (AssignSpares pins may) c 0 c.entries (λ s t v i p o l m. (tt, tt)))) sized.assigns;
-    combs = both_hold (StmtSpares may) (IsStmtSized wid any) (StmtReads can) f.combs (λ b k l. stmt_reads may can wid words unpinned_may wide_may b l k) h.combs sized.combs;
-    clocked = both_hold (λ (p : ℕ × Stmt). ProcessSpares pins may p × IsOwn p) (λ (p : ℕ × Stmt). IsStmtSized wid any p.1) (λ (p : ℕ × Stmt). StmtReads can p.1) f.clocked
+    combs = both_hold (StmtSpares may) (IsStmtSized wid any) (StmtReads can can) f.combs (λ b k l. stmt_reads may can wid words unpinned_may wide_may b l k) h.combs sized.combs;
+    clocked = both_hold (λ (p : ℕ × Stmt). ProcessSpares pins may p × IsOwn p) (λ (p : ℕ × Stmt). IsStmtSized wid any p.1) (λ (p : ℕ × Stmt). StmtReads can can p.1) f.clocked
         (λ p k l. stmt_reads (may_in pins may p.1) can wid words (own_may p.1 k.1) wide_may p.1 l k.0)
         (among_all (ProcessSpares pins may) (λ (p : ℕ × Stmt). ProcessSpares pins may p × IsOwn p) (λ p s. assigns p.1 s) d.clocked d.clocked (λ s e. e) (λ p o k. (k, o)) h.clocked) sized.clocked;
   }
@@ -132,7 +132,7 @@ module _ (pins : List ResetPin) (named : List Text) (d : Design) (h : AllReadSpa
       AssignSized a = IsTargetSized wid any a.0 × IsSized wid a.1
 
       AssignReads : Target × Expr → Type 0
-      AssignReads a = TargetReads can a.0 × Reads can a.1
+      AssignReads a = TargetReads can can a.0 × Reads can can a.1
 
       -- what it assigns is a register
       IsOwn : ℕ × Stmt → Type 0

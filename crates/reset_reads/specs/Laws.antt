@@ -30,9 +30,9 @@ may_read pins f s = not (is_reset_input pins f s)
 
 -- no expression reads a reset that comes from outside: each reads as its inactive level
 pub record ReadsNoReset (pins : List ResetPin) (f : Flat) : Type 0 where
-  pub assigns : All (λ (a : Target × Expr). TargetReads (may_read pins f) a.0 × Reads (may_read pins f) a.1) f.assigns
-  pub combs : All (StmtReads (may_read pins f)) f.combs
-  pub clocked : All (λ (p : ℕ × Stmt). StmtReads (may_read pins f) p.1) f.clocked
+  pub assigns : All (λ (a : Target × Expr). TargetReads (may_read pins f) (may_read pins f) a.0 × Reads (may_read pins f) (may_read pins f) a.1) f.assigns
+  pub combs : All (StmtReads (may_read pins f) (may_read pins f)) f.combs
+  pub clocked : All (λ (p : ℕ × Stmt). StmtReads (may_read pins f) (may_read pins f) p.1) f.clocked
 
 -- so it is of every unfolding
 abbrev pub ResetsAreUnread : Type 0

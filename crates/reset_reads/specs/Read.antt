@@ -1,13 +1,13 @@
--- Expressions and statements that read no signal but those that may be read.
+-- Expressions and statements that read words of no signals but those of `may`, and choose a bit by an index of none but those of `choose`.
 use Rattle.std.specs.Prelude.{◌≡◌, ℕ, Bool, true}
 use Rattle.flat_meaning.specs.Flat.{Expr, Number, Read, At, Unary, Binary, Choose, Gate, Join, Repeat, Exprs, no_exprs, expr, Target, Whole, Part, Pick, Group, Targets, no_targets, target, Stmt, Null, Set, If, Case, Block, Items, no_items, default_item, item, Stmts, no_stmts, stmt}
 
-module _ (may : ℕ → Bool) where
+module _ (may choose : ℕ → Bool) where
   abbrev mutual
     pub Reads : Expr → Type 0
     Reads (Number w n) = Unit {0}
     Reads (Read s at w) = may s ≡ true
-    Reads (At s e) = (may s ≡ true) × Reads e
+    Reads (At s e) = (choose s ≡ true) × Reads e
     Reads (Unary op a) = Reads a
     Reads (Binary op a b) = Reads a × Reads b
     Reads (Choose c x y) = Reads c × Reads x × Reads y
