@@ -1,8 +1,9 @@
 -- The trees of registers and outputs, one by one.
-use Rattle.std.proofs.Common.{◌≡◌, ◌∙◌, refl, sym, ap, ap₂, subst, arith, ℕ, zero, suc, ◌+◌, ◌<◌, ◌≤◌, List, [], ◌∷◌, ◌++◌, length, map, drop, take, get_or, All, Option}
+use Rattle.std.proofs.Common.{◌≡◌, ◌∙◌, refl, sym, ap, ap₂, subst, arith, ℕ, zero, suc, ◌+◌, ◌<◌, ◌≤◌, ◌⊎◌, inl, inr, List, [], ◌∷◌, ◌++◌, length, map, drop, take, get_or, All, Option}
 use Rattle.std.specs.List.{Contains}
 use Rattle.std.proofs.lemmas.List.{append_assoc, drop_more, map-append, take_more}
 use Rattle.std.proofs.lemmas.List.Elements.{Contains-append_left, Contains-append_right, All-head, All-push, All-tail, All-weaker}
+use Rattle.std.proofs.lemmas.Option.{slice_get-get_or}
 use Rattle.cdc_base.specs.declared.signal.Signal.{Signal}
 use Rattle.cell_graph.specs.declared.cell.CellId.{CellId}
 use Rattle.cell_graph.specs.declared.net.Reg.{Reg}
@@ -17,6 +18,7 @@ use Rattle.driver_trees.specs.declared.draft.Draft.{Draft}
 use Rattle.driver_trees.specs.declared.sketch.Sketch.{Sketch}
 use Rattle.driver_trees.specs.Drafts.{IsDraftOf, tree_in, width_at}
 use Rattle.driver_trees.specs.Sketches.{IsSketchOf}
+use Rattle.driver_loops.proofs.Members.{take_cases}
 use Rattle.elaborate.specs.declared.lower.Tree.{Tree as Lowered}
 use Rattle.elaborate.specs.Grown.{Grows}
 use Rattle.elaborate.specs.Lowered.{AreMet, AreNeeded, IsMet, Knows}
@@ -84,6 +86,13 @@ take-whole [] zero l = refl
 take-whole [] (suc n) l = refl
 take-whole (x ∷ xs) zero l = absurd (omega arith)
 take-whole (x ∷ xs) (suc n) l = ap (λ ys. x ∷ ys) (take-whole xs n (omega arith))
+
+-- what is known of each item before a place is known of the next one too, unless it is the one at that place
+pub next-known : (xs : List ℕ) (k x : ℕ) (P : ℕ → Type 0) → k < length xs → ((y : ℕ) → Contains (take k xs) y → P y) → Contains (take (k + 1) xs) x → (x ≡ get_or xs k 0) ⊎ P x
+next-known xs k x P l before has = elim (take_cases xs k (get_or xs k 0) x (slice_get-get_or xs k 0 l) has) [
+  | inl old ↦ inr (before x old)
+  | inr e ↦ inl (sym e)
+]
 
 pub drop-whole : {A : Type 0} (xs : List A) (n : ℕ) → length xs ≤ n → drop n xs ≡ []
 drop-whole [] zero l = refl

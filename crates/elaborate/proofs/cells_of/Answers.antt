@@ -1,9 +1,7 @@
-use Rattle.std.proofs.Common.{◌≡◌, ◌⊎◌, ◌∙◌, ◌+◌, inl, inr, sym, ap, subst, arith, length, take, get_or}
+use Rattle.std.proofs.Common.{◌≡◌, ◌∙◌, ◌+◌, sym, ap, subst, arith, length, get_or}
 use Rattle.std.specs.List.{Contains}
-use Rattle.std.proofs.lemmas.List.{take_more}
-use Rattle.std.proofs.lemmas.List.Elements.{Contains-push_cases}
 use Rattle.std.proofs.lemmas.Option.{slice_get-get_or}
-use Rattle.elaborate.proofs.NetTrees.{take-whole}
+use Rattle.elaborate.proofs.NetTrees.{next-known, take-whole}
 use Rattle.elaborate.proofs.Roots.{roots-counted}
 use Rattle.elaborate.proofs.cells_of.Goals as goal
 
@@ -25,10 +23,7 @@ loop-vertex-preserved c =
       known = λ f sel can sorted v has.
           c.meet.ensures.met f sel can inv.counted
           (λ e leads. inv.known f sel can sorted e (sorted k (get_or order k 0) e (slice_get-get_or order k 0 lt) leads)) v
-          (elim (Contains-push_cases (take k order) (get_or order k 0) v (subst (λ ys. Contains ys v) (take_more order k 0 lt) has)) [
-            | inl old ↦ inr (inv.known f sel can sorted v old)
-            | inr e ↦ inl (sym e)
-          ]);
+          (next-known order k v _ lt (inv.known f sel can sorted) has);
     }
 
 pub returns : goal.returns
