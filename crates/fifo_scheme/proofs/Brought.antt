@@ -1,6 +1,6 @@
 -- Between the clocks of a FIFO codes are brought in both directions.
-use Rattle.std.proofs.Common.{◌≡◌, ◌∙◌, refl, ap, ap₂, sym, subst, arith, inl, inr, ℕ, zero, suc, ◌≤◌, ◌==◌, ◌++◌, ◌&&◌, Bool, true, false, cond, Option, Some, None, List, [], ◌∷◌, map, Contains}
-use Rattle.std.specs.Prelude.{option_and_then, option_map, slice_get}
+use Rattle.std.proofs.Common.{◌≡◌, ◌∙◌, refl, ap, ap₂, sym, subst, arith, inl, inr, ℕ, zero, suc, ◌≤◌, ◌==◌, ◌&&◌, Bool, true, false, cond, Option, Some, List, [], ◌∷◌, map, Contains}
+use Rattle.std.specs.Prelude.{option_and_then, option_map}
 use Rattle.std.specs.List.{AllByRecursion, list_any}
 use Rattle.std.proofs.lemmas.Bool.{and_parts}
 use Rattle.std.proofs.lemmas.List.Elements.{Contains-append_left, Contains-append_right}
@@ -12,14 +12,13 @@ use Rattle.cell_graph.proofs.Bits.{bit_eq-true}
 use Rattle.domains.specs.declared.Domains.{Domains}
 use Rattle.domains.specs.Assignment.{clock_of}
 use Rattle.cdc_model.specs.declared.scheme.GrayReg.{GrayReg}
-use Rattle.cdc_model.specs.declared.scheme.Sync.{Sync as SyncEntry}
 use Rattle.cdc_model.specs.Design.{Design, are_equal, bits_from}
 use Rattle.cdc_model.specs.GrayShape.{IsGrayReg}
 use Rattle.cdc_model.specs.Listed.{sync_entry}
 use Rattle.cdc_model.specs.Nets.{design_of, is_within, next_tree}
 use Rattle.cdc_model.specs.Ordered.{IsAll}
 use Rattle.cdc_model.specs.Schemes.{Sync}
-use Rattle.cdc_model.proofs.Ascending.{from_filter, here, later, nothing_in, parts}
+use Rattle.cdc_model.proofs.Ascending.{from_filter, here, nothing_in, parts}
 use Rattle.cdc_model.proofs.Chain.{equal_eq}
 use Rattle.cdc_model.proofs.NetDesign.{cond_some}
 use Rattle.fifo_laws.specs.Fifos.{Fifo, IsFifo}

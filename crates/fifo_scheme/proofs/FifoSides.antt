@@ -18,7 +18,6 @@ use Rattle.domains.specs.declared.Domains.{Domains}
 use Rattle.domains.specs.Assignment.{clock_of}
 use Rattle.cdc_model.specs.declared.scheme.GrayReg.{GrayReg}
 use Rattle.cdc_model.specs.declared.scheme.Shape.{Shape}
-use Rattle.cdc_model.specs.declared.scheme.Shape.TheVariants.{G1, G2, G3}
 use Rattle.cdc_model.specs.Design.{are_equal, bits_from, word}
 use Rattle.cdc_model.specs.GrayShape.{HasShape, IsGrayReg}
 use Rattle.cdc_model.specs.Nets.{HasNextCells, bit_count, clock_of_bit, design_of, is_register_bit, is_within, next_cell, next_tree}
@@ -28,6 +27,7 @@ use Rattle.cdc_model.proofs.Ascending.{from_filter, from_map, here, in_map}
 use Rattle.cdc_model.proofs.Justify.{slice_in}
 use Rattle.cdc_model.proofs.NetDesign.{cond_some}
 use Rattle.gray_pointer.specs.Words.{IsPlain}
+use Rattle.gray_pointer.proofs.Grays.{one_shape}
 use Rattle.fifo_laws.specs.Fifos.{Fifo, IsFifo, marks_of}
 use Rattle.fifo_laws.specs.Laws.{AreLists}
 use Rattle.fifo_laws.specs.Sides.{Side, IsSide, side_width, syncs_on}
@@ -54,18 +54,7 @@ use Rattle.fifo_scheme.proofs.VarsRead.{read_var}
 abbrev pub fifo_is : Fifo → Key
 fifo_is f = record { wb = f.wb; wg = f.wg; rb = f.rb; rg = f.rg }
 
--- ---- one shape
-
-one_shape : (s r : Shape) (b g w : ℕ) (n m : List TreeBit) → HasShape s b g w n m → HasShape r b g w n m → s ≡ r
-one_shape G1 G1 b g w n m h k = refl
-one_shape G1 G2 b g w n m h k = absurd (k.0 h)
-one_shape G1 G3 b g w n m h k = absurd (k.0 h)
-one_shape G2 G1 b g w n m h k = absurd (h.0 k)
-one_shape G2 G2 b g w n m h k = refl
-one_shape G2 G3 b g w n m h k = absurd (k.1 h.1)
-one_shape G3 G1 b g w n m h k = absurd (h.0 k)
-one_shape G3 G2 b g w n m h k = absurd (h.1 k.1)
-one_shape G3 G3 b g w n m h k = refl
+-- ---- what comes first
 
 first_word : (P : Bit → Type 0) (bits : List Bit) (b : Bit) → Contains bits b → AllByRecursion P bits → P b
 first_word P [] b i h = absurd (let l = i.1 in omega arith)

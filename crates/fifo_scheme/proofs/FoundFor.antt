@@ -1,5 +1,5 @@
 -- FIFOs that were found fit the design and the lists, and have their order.
-use Rattle.std.proofs.Common.{◌≡◌, ◌∙◌, ◌↔◌, inl, inr, sym, ap, subst, refl, Bool, true, false, List, [], ◌∷◌, map, Contains}
+use Rattle.std.proofs.Common.{◌≡◌, ◌∙◌, ◌↔◌, inl, inr, sym, ap, subst, List, [], ◌∷◌, map, Contains}
 use Rattle.cell_graph.specs.declared.net.Net.{Net}
 use Rattle.domains.specs.declared.Domains.{Domains}
 use Rattle.cdc_model.specs.declared.scheme.Crossing.{Crossing}

@@ -28,8 +28,8 @@ use Rattle.fifo_scheme.proofs.OneFifo.{fifo_match, one_match}
 pub not_paired : (net : Net) (domains : Domains) (syncs : List Sync) (grays : List GrayReg) (write read : SideEntry) → IsPaired net domains syncs grays write.reg read.reg None → IsJudged net domains syncs grays write read None
 not_paired net domains syncs grays write read h f k ew er = h k.write k.read ew er (fifo_match (design_of net domains) (next_tree net) syncs grays f k)
 
-module _ (net : Net) (domains : Domains) (table : Rows) (syncs : List Sync) (grays : List GrayReg) (i : Index) (p : Pair) (write read : SideEntry) (w r : Side) (met : IsMet net domains table syncs grays i p w r)
-    (ew : w.reg ≡ write.reg) (er : r.reg ≡ read.reg) (match : IsMatch (design_of net domains) (next_tree net) syncs grays w r) (places : List ℕ) (are : AreReadersAt net domains i w r places) where
+module _ {net : Net} {domains : Domains} {table : Rows} {syncs : List Sync} {grays : List GrayReg} {i : Index} {p : Pair} {w r : Side} (met : IsMet net domains table syncs grays i p w r)
+    (write read : SideEntry) (ew : w.reg ≡ write.reg) (er : r.reg ≡ read.reg) (match : IsMatch (design_of net domains) (next_tree net) syncs grays w r) (places : List ℕ) (are : AreReadersAt net domains i w r places) where
   readers : IsAll (IsReader (design_of net domains) (next_tree net) w r) one_bit_key (bits_at i.readings places)
   readers = all_readers net domains table syncs grays i p w r met places are
 

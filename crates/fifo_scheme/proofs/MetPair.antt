@@ -25,6 +25,8 @@ use Rattle.fifo_parts.specs.declared.pair.Teller.{Teller}
 use Rattle.fifo_parts.specs.declared.side.Side.{Side as SideEntry}
 use Rattle.fifo_parts.specs.Brought.{AreBrought}
 use Rattle.fifo_parts.specs.Words.{lowest}
+use Rattle.fifo_scheme.specs.declared.index.Index.{Index}
+use Rattle.fifo_scheme.specs.Indexed.{IsIndex}
 use Rattle.fifo_scheme.specs.Met.{IsMatch, IsPaired, IsTold, MayTell}
 use Rattle.fifo_parts.specs.Sides.{IsSideAlone}
 use Rattle.fifo_parts.specs.Tellers.{IsSideOf, IsTeller, IsTestBy}
@@ -84,7 +86,7 @@ few_over net domains syncs gray clock width bits over b e wide few =
 abbrev pub side_with : SideEntry → List Term → List Sync → Side
 side_with e ts over = record { reg = e.reg; clock = e.clock; under = ts; over = over }
 
-module _ (net : Net) (domains : Domains) (syncs : List Sync) (grays : List GrayReg) (e : SideEntry) (ts : List Term) (alone : IsSideAlone net domains e ts) (listed : Contains grays e.reg) where
+module _ {net : Net} {domains : Domains} {e : SideEntry} {ts : List Term} (syncs : List Sync) (grays : List GrayReg) (alone : IsSideAlone net domains e ts) (listed : Contains grays e.reg) where
   pub of_entry : (over : List Sync) → IsSideOf net domains e (side_with e ts over)
   of_entry over = record { alone = alone; reg = refl; clock = refl }
 
@@ -127,35 +129,51 @@ module _ (net : Net) (domains : Domains) (syncs : List Sync) (grays : List GrayR
 
 -- ---- two of them
 
-module _ (net : Net) (domains : Domains) (syncs : List Sync) (grays : List GrayReg) (fit : Fit net domains) (write read : SideEntry) (wts rts : List Term) (w : IsSideAlone net domains write wts) (r : IsSideAlone net domains read rts)
-    (lw : Contains grays write.reg) (lr : Contains grays read.reg) where
+-- Two sides, each of which is found alone.
+pub record AreAlone (net : Net) (domains : Domains) (grays : List GrayReg) (write read : SideEntry) : Type 0 where
+  pub fits : Fit net domains
+  pub write_terms : List Term
+  pub read_terms : List Term
+  pub writes : IsSideAlone net domains write write_terms
+  pub reads : IsSideAlone net domains read read_terms
+  pub listed : Contains grays write.reg × Contains grays read.reg
+
+-- two sides of an index are
+pub are_alone : (net : Net) (domains : Domains) (syncs : List Sync) (grays : List GrayReg) (i : Index) → Fit net domains → IsIndex net domains syncs grays i → (write read : SideEntry)
+    → Contains i.sides.items write → Contains i.sides.items read → AreAlone net domains grays write read
+are_alone net domains syncs grays i fits is write read hw hr =
+    let w = is.sides.only write hw in
+    let r = is.sides.only read hr in
+    record { fits = fits; write_terms = w.0.0; read_terms = r.0.0; writes = w.0.1; reads = r.0.1; listed = (w.1, r.1) }
+
+module _ {net : Net} {domains : Domains} {grays : List GrayReg} {write read : SideEntry} (both : AreAlone net domains grays write read) (syncs : List Sync) where
   abbrev Matches : Side → Side → Type 0
   Matches a b = IsMatch (design_of net domains) (next_tree net) syncs grays a b
 
   pub no_width : (write.width ≡ read.width → ⊥) → IsPaired net domains syncs grays write.reg read.reg None
-  no_width h a b ea eb m = h (sym w.count_width ∙ ap (λ (g : GrayReg). bit_count net.graph.signals g.count) (sym ea) ∙ sym m.wide.2 ∙ ap (λ (g : GrayReg). bit_count net.graph.signals g.count) eb ∙ r.count_width)
+  no_width h a b ea eb m = h (sym both.writes.count_width ∙ ap (λ (g : GrayReg). bit_count net.graph.signals g.count) (sym ea) ∙ sym m.wide.2 ∙ ap (λ (g : GrayReg). bit_count net.graph.signals g.count) eb ∙ both.reads.count_width)
 
   told_write : group_of domains (lowest write.reg.count) ≡ Some ((design_of net domains).group_of write.clock)
-  told_write = group_told net domains fit write.reg.count write.clock (let l = wide_entry net domains syncs grays write wts w lw in omega arith) w.clock
+  told_write = group_told net domains both.fits write.reg.count write.clock (let l = wide_entry syncs grays both.writes both.listed.0 in omega arith) both.writes.clock
 
   told_read : group_of domains (lowest read.reg.count) ≡ Some ((design_of net domains).group_of read.clock)
-  told_read = group_told net domains fit read.reg.count read.clock (let l = wide_entry net domains syncs grays read rts r lr in omega arith) r.clock
+  told_read = group_told net domains both.fits read.reg.count read.clock (let l = wide_entry syncs grays both.reads both.listed.1 in omega arith) both.reads.clock
 
   clock_write : (a b : Side) → a.reg ≡ write.reg → Matches a b → a.clock ≡ write.clock
-  clock_write a b ea m = on_clock net domains syncs grays write wts w lw b.clock a m.writes ea
+  clock_write a b ea m = on_clock syncs grays both.writes both.listed.0 b.clock a m.writes ea
 
   clock_read : (a b : Side) → b.reg ≡ read.reg → Matches a b → b.clock ≡ read.clock
-  clock_read a b eb m = on_clock net domains syncs grays read rts r lr a.clock b m.reads eb
+  clock_read a b eb m = on_clock syncs grays both.reads both.listed.1 a.clock b m.reads eb
 
   pub no_groups : differ (group_of domains (lowest write.reg.count)) (group_of domains (lowest read.reg.count)) ≡ false → IsPaired net domains syncs grays write.reg read.reg None
   no_groups h a b ea eb m = m.apart (ap (design_of net domains).group_of (clock_write a b ea m) ∙ apart_differ ((design_of net domains).group_of write.clock) ((design_of net domains).group_of read.clock)
       (sym (ap₂ differ told_write told_read) ∙ h) ∙ ap (design_of net domains).group_of (sym (clock_read a b eb m)))
 
   brought_write : (a b : Side) → a.reg ≡ write.reg → b.reg ≡ read.reg → Matches a b → AreBrought net domains syncs write.reg.gray read.clock a.over
-  brought_write a b ea eb m = subst (λ (c : ℕ). AreBrought net domains syncs write.reg.gray c a.over) (clock_read a b eb m) (brought_of net domains syncs grays write wts w lw b.clock a m.writes ea)
+  brought_write a b ea eb m = subst (λ (c : ℕ). AreBrought net domains syncs write.reg.gray c a.over) (clock_read a b eb m) (brought_of syncs grays both.writes both.listed.0 b.clock a m.writes ea)
 
   brought_read : (a b : Side) → a.reg ≡ write.reg → b.reg ≡ read.reg → Matches a b → AreBrought net domains syncs read.reg.gray write.clock b.over
-  brought_read a b ea eb m = subst (λ (c : ℕ). AreBrought net domains syncs read.reg.gray c b.over) (clock_write a b ea m) (brought_of net domains syncs grays read rts r lr a.clock b m.reads eb)
+  brought_read a b ea eb m = subst (λ (c : ℕ). AreBrought net domains syncs read.reg.gray c b.over) (clock_write a b ea m) (brought_of syncs grays both.reads both.listed.1 a.clock b m.reads eb)
 
   pub no_write : MayTell net domains syncs write read Full None → IsPaired net domains syncs grays write.reg read.reg None
   no_write h a b ea eb m = h b.over (brought_read a b ea eb m)
@@ -165,21 +183,21 @@ module _ (net : Net) (domains : Domains) (syncs : List Sync) (grays : List GrayR
 
   module _ (t u : Teller) (h : IsTold net domains syncs write read Full t) (k : IsTold net domains syncs read write Empty u) where
     abbrev W : Side
-    W = side_with write wts k.over
+    W = side_with write both.write_terms k.over
 
     abbrev R : Side
-    R = side_with read rts h.over
+    R = side_with read both.read_terms h.over
 
-    pub write_tells : IsTeller net domains t (side_with write wts k.over) (side_with read rts h.over)
-    write_tells = h.tells (side_with write wts k.over) (side_with read rts h.over) (of_entry net domains syncs grays write wts w lw k.over) refl
+    pub write_tells : IsTeller net domains t (side_with write both.write_terms k.over) (side_with read both.read_terms h.over)
+    write_tells = h.tells (side_with write both.write_terms k.over) (side_with read both.read_terms h.over) (of_entry syncs grays both.writes both.listed.0 k.over) refl
 
-    pub read_tells : IsTeller net domains u (side_with read rts h.over) (side_with write wts k.over)
-    read_tells = k.tells (side_with read rts h.over) (side_with write wts k.over) (of_entry net domains syncs grays read rts r lr h.over) refl
+    pub read_tells : IsTeller net domains u (side_with read both.read_terms h.over) (side_with write both.write_terms k.over)
+    read_tells = k.tells (side_with read both.read_terms h.over) (side_with write both.write_terms k.over) (of_entry syncs grays both.reads both.listed.1 h.over) refl
 
-    sides : (a b : Side) → a.reg ≡ write.reg → b.reg ≡ read.reg → Matches a b → (a ≡ side_with write wts k.over) × (b ≡ side_with read rts h.over)
+    sides : (a b : Side) → a.reg ≡ write.reg → b.reg ≡ read.reg → Matches a b → (a ≡ side_with write both.write_terms k.over) × (b ≡ side_with read both.read_terms h.over)
     sides a b ea eb m = (
-      the_side net domains syncs grays write wts w lw read.clock k.over k.brought a (subst (λ (c : ℕ). IsSide (design_of net domains) (next_tree net) syncs grays c a) (clock_read a b eb m) m.writes) ea,
-      the_side net domains syncs grays read rts r lr write.clock h.over h.brought b (subst (λ (c : ℕ). IsSide (design_of net domains) (next_tree net) syncs grays c b) (clock_write a b ea m) m.reads) eb,
+      the_side syncs grays both.writes both.listed.0 read.clock k.over k.brought a (subst (λ (c : ℕ). IsSide (design_of net domains) (next_tree net) syncs grays c a) (clock_read a b eb m) m.writes) ea,
+      the_side syncs grays both.reads both.listed.1 write.clock h.over h.brought b (subst (λ (c : ℕ). IsSide (design_of net domains) (next_tree net) syncs grays c b) (clock_write a b ea m) m.reads) eb,
     )
 
     module _ (full : List Found) (tests : (x : Found) → Contains full x ↔ (Contains write.under x × IsTestBy t.apart (design_of net domains) (next_tree net) W R (term_of net.graph x))) where
@@ -190,7 +208,7 @@ module _ (net : Net) (domains : Domains) (syncs : List Sync) (grays : List GrayR
       no_full e a b ea eb m =
           let s = sides a b ea eb m in
           let p = subst (λ (q : Side). HasFullTest (design_of net domains) (next_tree net) W q W.under) s.1 (subst (λ (q : Side). HasFullTest (design_of net domains) (next_tree net) q b q.under) s.0 m.pushes) in
-          let f = term_found net domains syncs grays write wts w lw p.0 p.1 in
+          let f = term_found syncs grays both.writes both.listed.0 p.0 p.1 in
           let i = (full_tests f.0).1 (f.1, subst (IsFullTest (design_of net domains) (next_tree net) W R) (sym f.2) p.2) in
           let l = i.1 in
           omega arith
@@ -201,7 +219,7 @@ module _ (net : Net) (domains : Domains) (syncs : List Sync) (grays : List GrayR
           go : (fs : List Found) → ((x : Found) → Contains fs x → Contains write.under x × IsFullTest (design_of net domains) (next_tree net) W R (term_of net.graph x)) → (length fs ≡ 0 → ⊥)
               → HasFullTest (design_of net domains) (next_tree net) W R W.under
           go [] is n = absurd (n refl)
-          go (f ∷ fs) is n = let k = is f (here f fs) in (term_of net.graph f, term_there net domains syncs grays write wts w lw f k.0, k.1)
+          go (f ∷ fs) is n = let k = is f (here f fs) in (term_of net.graph f, term_there syncs grays both.writes both.listed.0 f k.0, k.1)
 
     module _ (has : Bool) (tests : (has ≡ true) ↔ ((x : Found) × Contains read.under x × IsTestBy u.apart (design_of net domains) (next_tree net) R W (term_of net.graph x))) where
       pop_tests : (has ≡ true) ↔ ((x : Found) × Contains read.under x × IsEmptyTest (design_of net domains) (next_tree net) W R (term_of net.graph x))
@@ -211,26 +229,26 @@ module _ (net : Net) (domains : Domains) (syncs : List Sync) (grays : List GrayR
       no_pop e a b ea eb m =
           let s = sides a b ea eb m in
           let p = subst (λ (q : Side). HasEmptyTest (design_of net domains) (next_tree net) W q q.under) s.1 (subst (λ (q : Side). HasEmptyTest (design_of net domains) (next_tree net) q b b.under) s.0 m.pops) in
-          let f = term_found net domains syncs grays read rts r lr p.0 p.1 in
+          let f = term_found syncs grays both.reads both.listed.1 p.0 p.1 in
           let yes = pop_tests.1 (f.0, f.1, subst (IsEmptyTest (design_of net domains) (next_tree net) W R) (sym f.2) p.2) in
           let no : true ≡ false = sym yes ∙ e in
           cc
 
       pub pops : has ≡ true → HasEmptyTest (design_of net domains) (next_tree net) W R R.under
-      pops e = let p = pop_tests.0 e in (term_of net.graph p.0, term_there net domains syncs grays read rts r lr p.0 p.1, p.2)
+      pops e = let p = pop_tests.0 e in (term_of net.graph p.0, term_there syncs grays both.reads both.listed.1 p.0 p.1, p.2)
 
     -- they fit each other
     pub matched : write.width ≡ read.width → differ (group_of domains (lowest write.reg.count)) (group_of domains (lowest read.reg.count)) ≡ true
         → HasFullTest (design_of net domains) (next_tree net) W R W.under → HasEmptyTest (design_of net domains) (next_tree net) W R R.under → Matches W R
     matched same groups pushes pops = record {
-      writes = is_side net domains syncs grays write wts w lw read.clock k.over k.brought;
-      reads = is_side net domains syncs grays read rts r lr write.clock h.over h.brought;
+      writes = is_side syncs grays both.writes both.listed.0 read.clock k.over k.brought;
+      reads = is_side syncs grays both.reads both.listed.1 write.clock h.over h.brought;
       apart = differ_apart ((design_of net domains).group_of write.clock) ((design_of net domains).group_of read.clock) (sym (ap₂ differ told_write told_read) ∙ groups);
-      settles = (w.settles, r.settles);
+      settles = (both.writes.settles, both.reads.settles);
       wide = (
-        wide_entry net domains syncs grays write wts w lw,
-        subst (λ (n : ℕ). n ≤ 11) (sym w.count_width) w.wide.1,
-        r.count_width ∙ sym same ∙ sym w.count_width,
+        wide_entry syncs grays both.writes both.listed.0,
+        subst (λ (n : ℕ). n ≤ 11) (sym both.writes.count_width) both.writes.wide.1,
+        both.reads.count_width ∙ sym same ∙ sym both.writes.count_width,
       );
       pushes = pushes;
       pops = pops;

@@ -48,7 +48,7 @@ pub record IsSearched (net : Net) (domains : Domains) (entries : List SyncEntry)
       → AreMade net domains syncs grays i.sides.items m.entries fifos
   pub ordered : tree.IsOrdered order.ghosts.cmp m
 
-module _ (net : Net) (domains : Domains) (entries : List SyncEntry) (grays : List GrayReg) (P : Key → Type 0) (i : Index) (m : BTreeMap Key Sides) (fifos : List Entry)
+module _ {net : Net} {domains : Domains} {entries : List SyncEntry} {grays : List GrayReg} {P : Key → Type 0} {i : Index} {m : BTreeMap Key Sides} {fifos : List Entry}
     (is : IsSearched net domains entries grays P i m fifos) (syncs : List Sync) (given : AreGiven net domains entries syncs) where
   plain : IsPlain net.graph
   plain = record { well = given.is_net.graph; shared = given.is_shared }

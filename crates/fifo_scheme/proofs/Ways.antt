@@ -1,5 +1,5 @@
 -- The ways of one synchronizer more.
-use Rattle.std.proofs.Common.{◌≡◌, ◌∙◌, ap, sym, ℕ, ◌+◌, ◌<◌, ◌++◌, ◌∷◌, [], List, cond, length, get_or, drop, append_assoc}
+use Rattle.std.proofs.Common.{◌≡◌, ◌∙◌, ap, sym, ℕ, ◌+◌, ◌<◌, ◌++◌, [], List, cond, length, get_or, drop, append_assoc}
 use Rattle.std.proofs.lemmas.List.{at_drop_more}
 use Rattle.domains.specs.declared.Domains.{Domains}
 use Rattle.cdc_model.specs.declared.scheme.GrayReg.{GrayReg}

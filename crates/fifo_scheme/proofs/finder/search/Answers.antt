@@ -1,49 +1,33 @@
 -- By what the parts of the search found; where no code is brought back there is no FIFO.
-use Rattle.std.proofs.Common.{◌≡◌, ◌∙◌, false, List, sym, subst}
+use Rattle.std.proofs.Common.{◌≡◌, ◌∙◌, false, List, [], sym, subst}
 use Rattle.cdc_model.specs.declared.scheme.Sync.{Sync as SyncEntry}
 use Rattle.cdc_model.specs.Ordered.{IsAll}
-use Rattle.fifo_scheme.specs.declared.finder.Key.{Key}
+use Rattle.cdc_model.specs.Tables.{ShowsNet}
 use Rattle.fifo_scheme.specs.Candidates.{IsReadTo, OfOne, is_returned, ways_of}
 use Rattle.fifo_scheme.specs.Entries.{IsListedFifo, fifo_key}
 use Rattle.fifo_scheme.proofs.Brought.{none_is_all}
 use Rattle.fifo_scheme.proofs.Searched.{IsSearched, all_are_found, are_listed}
 use Rattle.fifo_scheme.proofs.finder.search.Goals as goal
+use Rattle.fifo_scheme.proofs.finder.search.Goals.{In_ok-fifos}
+
+searched : (c : In_ok-fifos) → ShowsNet c.args.net.now [] c.args.table.now
+    → IsSearched c.args.net.now c.args.domains.now c.args.syncs.now c.args.grays.now (OfOne (IsReadTo c.args.net.now c.in_ok-index.index) c.in_ok-index.index.reads) c.in_ok-index.index c.in_ok-candidates.candidates c.in_ok-fifos.fifos
+searched c shown = record {
+  table = c.args.table.now;
+  after = c.of.new.table;
+  same = c.of.ensures.unchanged;
+  shows = λ well. shown;
+  index = c.in_ok-index.ensures.found;
+  candidates = c.in_ok-candidates.ensures;
+  made = c.in_ok-fifos.ensures.made;
+  ordered = c.in_ok-fifos.ensures.ordered;
+}
 
 pub returns-clause-sound : goal.returns-clause-sound
-returns-clause-sound c = λ syncs given shown.
-    let i = c.in_ok-index.index in
-    let P : Key → Type 0 = OfOne (IsReadTo c.args.net.now i) i.reads in
-    let m = c.in_ok-candidates.candidates in
-    let is : IsSearched c.args.net.now c.args.domains.now c.args.syncs.now c.args.grays.now P i m c.in_ok-fifos.fifos =
-    record {
-      table = c.args.table.now;
-      after = c.of.new.table;
-      same = c.of.ensures.unchanged;
-      shows = λ well. shown;
-      index = c.in_ok-index.ensures.found;
-      candidates = c.in_ok-candidates.ensures;
-      made = c.in_ok-fifos.ensures.made;
-      ordered = c.in_ok-fifos.ensures.ordered;
-    } in
-    are_listed c.args.net.now c.args.domains.now c.args.syncs.now c.args.grays.now P i m c.in_ok-fifos.fifos is syncs given
+returns-clause-sound c = λ syncs given shown. are_listed (searched (goal.at.returns-clause-sound c).In_ok-fifos shown) syncs given
 
 pub returns-clause-exact : goal.returns-clause-exact
-returns-clause-exact c = λ syncs t given shown lists.
-    let i = c.in_ok-index.index in
-    let P : Key → Type 0 = OfOne (IsReadTo c.args.net.now i) i.reads in
-    let m = c.in_ok-candidates.candidates in
-    let is : IsSearched c.args.net.now c.args.domains.now c.args.syncs.now c.args.grays.now P i m c.in_ok-fifos.fifos =
-    record {
-      table = c.args.table.now;
-      after = c.of.new.table;
-      same = c.of.ensures.unchanged;
-      shows = λ well. shown;
-      index = c.in_ok-index.ensures.found;
-      candidates = c.in_ok-candidates.ensures;
-      made = c.in_ok-fifos.ensures.made;
-      ordered = c.in_ok-fifos.ensures.ordered;
-    } in
-    all_are_found c.args.net.now c.args.domains.now c.args.syncs.now c.args.grays.now P i m c.in_ok-fifos.fifos is syncs given t lists (λ k h. h)
+returns-clause-exact c = λ syncs t given shown lists. all_are_found (searched (goal.at.returns-clause-exact c).In_ok-fifos shown) syncs given t lists (λ k h. h)
 
 pub returns-then-not-branch-clause-exact : goal.returns-then-not-branch-clause-exact
 returns-then-not-branch-clause-exact c = λ syncs t given shown lists.

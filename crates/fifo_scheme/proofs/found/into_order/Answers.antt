@@ -1,6 +1,6 @@
 -- By what a sort and a removal of repeated items keep.
 use Rattle.std.proofs.Common.{sym, subst}
-use Rattle.std.specs.List.{Contains, dedup}
+use Rattle.std.specs.List.{dedup}
 use Rattle.std.proofs.lemmas.List.Filters.{dedup_is}
 use Rattle.std.proofs.lemmas.List.Kept.{IsStrictlySortedBy-dedup}
 use Rattle.cell_graph.proofs.Once.{same_items}

@@ -2,7 +2,7 @@
 use Rattle.std.proofs.Common.{◌≡◌, sym, subst, ℕ, List, true, eqb-true, arith, rules, nat_eq}
 use Rattle.std.specs.Cmp.{nat_eq_equiv, nat_cmp_total}
 use Rattle.std.specs.Cmp.Rules.{comparing}
-use Rattle.std.specs.List.{Contains, dedup}
+use Rattle.std.specs.List.{dedup}
 use Rattle.std.specs.List.Sorted.{IsStrictlySortedBy}
 use Rattle.std.specs.Ordering.{eq_by_cmp, nat_cmp}
 use Rattle.std.proofs.lemmas.List.Filters.{dedup_is}
