@@ -92,11 +92,22 @@ module _ (g : Cells) (sig w : ℕ) (asked : List CellId) where
     needed = λ all. all;
   }
 
-  -- the word that is taken is a count word
-  pub settled : (met left left_then : List CellId) (x : CellId) → left ≡ left_then ++ x ∷ [] → AreCountsSoFar g sig w asked met left → Counts g sig w x → AreCountsSoFar g sig w asked met left_then
-  settled met left left_then x e so k = record {
+-- one word is taken
+module _ {g : Cells} {sig w : ℕ} {asked met left : List CellId} (left_then : List CellId) (x : CellId) (e : left ≡ left_then ++ x ∷ []) (so : AreCountsSoFar g sig w asked met left) where
+  taken_met : Contains met x
+  taken_met = so.within x (subst (λ (l : List CellId). Contains l x) (sym e) (Contains-push left_then x))
+
+  pub taken_word : HasWord g x w
+  taken_word = so.words x taken_met
+
+  within_then : (y : CellId) → Contains left_then y → Contains met y
+  within_then y h = so.within y (subst (λ (l : List CellId). Contains l y) (sym e) (Contains-append_left left_then (x ∷ []) y h))
+
+  -- it is a count word
+  pub settled : Counts g sig w x → AreCountsSoFar g sig w asked met left_then
+  settled k = record {
     words = so.words;
-    within = λ y h. so.within y (subst (λ (l : List CellId). Contains l y) (sym e) (Contains-append_left left_then (x ∷ []) y h));
+    within = within_then;
     kept = so.kept;
     done = λ y h. done y (so.done y h);
     needed = so.needed;
@@ -111,18 +122,14 @@ module _ (g : Cells) (sig w : ℕ) (asked : List CellId) where
       done y (inr f) = inr f
 
   -- it is a choice, whose branches are added
-  module _ (eq : CellId → CellId → Bool) (tells : (a b : CellId) → eq a b ≡ true → a ≡ b) (met left left_then : List CellId) (x : CellId) (e : left ≡ left_then ++ x ∷ [])
-      (so : AreCountsSoFar g sig w asked met left) (l : 1 ≤ w)
+  module _ {eq : CellId → CellId → Bool} {met_one left_one met_two left_two : List CellId} (tells : (a b : CellId) → eq a b ≡ true → a ≡ b) (l : 1 ≤ w)
       (other_own : word_of g x w ≡ own_word sig w → ⊥) (other_plus : IsPlus sig w (word_of g x w) → ⊥) (b : Choice) (is : IsChoice g x w (Some b))
-      (met_one left_one met_two left_two : List CellId) (one : Adds eq b.yes met left_then met_one left_one) (two : Adds eq b.other met_one left_one met_two left_two) where
+      (one : Adds eq b.yes met left_then met_one left_one) (two : Adds eq b.other met_one left_one met_two left_two) where
     one_of : (y : CellId) → Contains met_two y → IsOneOf met left_two b.yes b.other y
     one_of = two_added eq b.yes b.other met left_then met_one left_one met_two left_two one two
 
     still : (y : CellId) → Contains met y → Contains met_two y
     still = still_met eq b.yes b.other met left_then met_one left_one met_two left_two one two
-
-    taken_met : Contains met x
-    taken_met = so.within x (subst (λ (l : List CellId). Contains l x) (sym e) (Contains-push left_then x))
 
     chosen_now : CountsAfter g sig w met_two x
     chosen_now f = chosen_count sig w (word_of g x w) is.0.0 (tree_of g b.yes) (tree_of g b.other) is.0.1
@@ -151,9 +158,6 @@ module _ (g : Cells) (sig w : ℕ) (asked : List CellId) where
     needed all y (inr (h, inl s)) = subst (Counts g sig w) (sym s) (branches_count g sig w x other_own other_plus l b is (so.needed all x taken_met)).0
     needed all y (inr (h, inr s)) = subst (Counts g sig w) (sym s) (branches_count g sig w x other_own other_plus l b is (so.needed all x taken_met)).1
 
-    within_then : (y : CellId) → Contains left_then y → Contains met y
-    within_then y h = so.within y (subst (λ (l : List CellId). Contains l y) (sym e) (Contains-append_left left_then (x ∷ []) y h))
-
     pub branched : AreCountsSoFar g sig w asked met_two left_two
     branched = record {
       words = λ y h. words y (one_of y h);
@@ -163,26 +167,22 @@ module _ (g : Cells) (sig w : ℕ) (asked : List CellId) where
       needed = λ all y h. needed all y (one_of y h);
     }
 
-  -- nothing is left
-  below : (met : List CellId) → AreCountsSoFar g sig w asked met [] → (n : ℕ) (x : CellId) → Contains met x → x.0 < n → Counts g sig w x
-  below met so zero x h l = absurd (omega arith)
-  below met so (suc n) x h l = go (so.done x h) (below met so n)
+  -- it is none
+  pub not_all : (Counts g sig w x → ⊥) → (false ≡ true) ↔ ((y : CellId) → Contains asked y → Counts g sig w y)
+  not_all none = (λ t. cc, λ all. absurd (none (so.needed all x taken_met)))
+
+-- nothing is left
+module _ {g : Cells} {sig w : ℕ} {asked met : List CellId} (so : AreCountsSoFar g sig w asked met []) where
+  below : (n : ℕ) (x : CellId) → Contains met x → x.0 < n → Counts g sig w x
+  below zero x h l = absurd (omega arith)
+  below (suc n) x h l = go (so.done x h) (below n)
     where
       go : Contains [] x ⊎ CountsAfter g sig w met x → ((y : CellId) → Contains met y → y.0 < n → Counts g sig w y) → Counts g sig w x
       go (inl k) ih = absurd (nothing_in x k)
       go (inr f) ih = f (λ y k m. ih y k (omega arith))
 
-  pub all_count : (met : List CellId) → AreCountsSoFar g sig w asked met [] → (true ≡ true) ↔ ((x : CellId) → Contains asked x → Counts g sig w x)
-  all_count met so = (λ t x h. below met so (suc x.0) x (so.kept x h) (omega arith), λ all. refl)
-
-  -- a word that is taken is no count word
-  pub not_all : (met left left_then : List CellId) (x : CellId) → left ≡ left_then ++ x ∷ [] → AreCountsSoFar g sig w asked met left → (Counts g sig w x → ⊥)
-      → (false ≡ true) ↔ ((x : CellId) → Contains asked x → Counts g sig w x)
-  not_all met left left_then x e so none =
-      (λ t. cc, λ all. absurd (none (so.needed all x (so.within x (subst (λ (l : List CellId). Contains l x) (sym e) (Contains-push left_then x))))))
-
-pub taken_word : (g : Cells) (sig w : ℕ) (asked met left left_then : List CellId) (x : CellId) → left ≡ left_then ++ x ∷ [] → AreCountsSoFar g sig w asked met left → HasWord g x w
-taken_word g sig w asked met left left_then x e so = so.words x (so.within x (subst (λ (l : List CellId). Contains l x) (sym e) (Contains-push left_then x)))
+  pub all_count : (true ≡ true) ↔ ((x : CellId) → Contains asked x → Counts g sig w x)
+  all_count = (λ t x h. below (suc x.0) x (so.kept x h) (omega arith), λ all. refl)
 
 -- equal ids are one
 pub same_id : (a b : CellId) → equality.ghosts.eq a b ≡ true → a ≡ b

@@ -100,142 +100,142 @@ module _ (g : Cells) (b c w : ℕ) (start : Pair) where
       within x (inl h) = absurd (nothing_in x h)
       within x (inr h) = h
 
-  module _ (counts waiting : List CellId) (met left left_then : List Pair) (x : Pair) (e : left ≡ left_then ++ x ∷ []) (so : AreJointSoFar g b c w start counts waiting met left) where
-    pub taken_met : Contains met x
-    taken_met = so.within x (subst (λ (l : List Pair). Contains l x) (sym e) (Contains-push left_then x))
+-- one pair is taken
+module _ {g : Cells} {b c w : ℕ} {start : Pair} {counts waiting : List CellId} {met left : List Pair} (left_then : List Pair) (x : Pair) (e : left ≡ left_then ++ x ∷ [])
+    (so : AreJointSoFar g b c w start counts waiting met left) where
+  pub taken_met : Contains met x
+  taken_met = so.within x (subst (λ (l : List Pair). Contains l x) (sym e) (Contains-push left_then x))
 
-    pub taken_words : HaveWords g x w
-    taken_words = so.words x taken_met
+  pub taken_words : HaveWords g x w
+  taken_words = so.words x taken_met
 
-    within_then : (y : Pair) → Contains left_then y → Contains met y
-    within_then y h = so.within y (subst (λ (l : List Pair). Contains l y) (sym e) (Contains-append_left left_then (x ∷ []) y h))
+  within_then : (y : Pair) → Contains left_then y → Contains met y
+  within_then y h = so.within y (subst (λ (l : List Pair). Contains l y) (sym e) (Contains-append_left left_then (x ∷ []) y h))
 
-    -- both keep their values
-    pub pair_stays : word_of g x.count w ≡ own_word b w → word_of g x.gray w ≡ own_word c w → AreJointSoFar g b c w start counts waiting met left_then
-    pair_stays f i = record {
-      words = so.words;
-      within = within_then;
-      there = so.there;
+  -- both keep their values
+  pub pair_stays : word_of g x.count w ≡ own_word b w → word_of g x.gray w ≡ own_word c w → AreJointSoFar g b c w start counts waiting met left_then
+  pair_stays f i = record {
+    words = so.words;
+    within = within_then;
+    there = so.there;
+    asked = so.asked;
+    done = λ y h. done y (so.done y h);
+    needed = so.needed;
+  }
+    where
+      taken : (y : Pair) → Contains left_then y ⊎ (x ≡ y) → Contains left_then y ⊎ AreJointAfter g b c w counts met y
+      taken y (inl h) = inl h
+      taken y (inr s) = inr (λ p q. subst (AreJoint g b c w) s (stay_joint b c w (word_of g x.count w) (word_of g x.gray w) f i))
+
+      done : (y : Pair) → Contains left y ⊎ AreJointAfter g b c w counts met y → Contains left_then y ⊎ AreJointAfter g b c w counts met y
+      done y (inl h) = taken y (Contains-push_cases left_then x y (subst (λ (l : List Pair). Contains l y) e h))
+      done y (inr f) = inr f
+
+  -- the one takes the code of the other
+  pub pair_coded : {eq : CellId → CellId → Bool} {counts_then waiting_then : List CellId} → ((p q : CellId) → eq p q ≡ true → p ≡ q) → Adds eq x.count counts waiting counts_then waiting_then
+      → IsGrayWord (word_of g x.gray w) (word_of g x.count w) → AreJointSoFar g b c w start counts_then waiting_then met left_then
+  pair_coded {eq} {counts_then} {waiting_then} tells a code = record {
+    words = so.words;
+    within = within_then;
+    there = so.there;
+    asked = word_asked g w eq x.count counts waiting counts_then waiting_then so.asked taken_words.0 a;
+    done = λ y h. done y (so.done y h);
+    needed = λ all. ((so.needed all).0, λ y h. needed all y (a.added y h));
+  }
+    where
+      count_there : Contains counts_then x.count
+      count_there = let (z, h, s) = a.there in subst (Contains counts_then) (sym (tells x.count z s)) h
+
+      taken : (y : Pair) → Contains left_then y ⊎ (x ≡ y) → Contains left_then y ⊎ AreJointAfter g b c w counts_then met y
+      taken y (inl h) = inl h
+      taken y (inr s) = inr (λ p q. subst (AreJoint g b c w) s (Coded (p x.count count_there) code))
+
+      done : (y : Pair) → Contains left y ⊎ AreJointAfter g b c w counts met y → Contains left_then y ⊎ AreJointAfter g b c w counts_then met y
+      done y (inl h) = taken y (Contains-push_cases left_then x y (subst (λ (l : List Pair). Contains l y) e h))
+      done y (inr f) = inr (λ p q. f (λ z h. p z (a.kept z h)) q)
+
+      needed : AreJoint g b c w start → (y : CellId) → Contains counts y ⊎ (Contains waiting_then y × (y ≡ x.count)) → Counts g b w y
+      needed all y (inl h) = (so.needed all).1 y h
+      needed all y (inr h) = subst (Counts g b w) (sym h.1) (joint_count b c w (word_of g x.count w) (word_of g x.gray w) ((so.needed all).0 x taken_met))
+
+  -- both are choices, whose branches are added
+  module _ {eq : Pair → Pair → Bool} {met_one left_one met_two left_two : List Pair} (tells : (p q : Pair) → eq p q ≡ true → p ≡ q) (l : 1 ≤ w)
+      (no_code : IsGrayWord (word_of g x.gray w) (word_of g x.count w) → ⊥) (no_stay : (word_of g x.count w ≡ own_word b w) × (word_of g x.gray w ≡ own_word c w) → ⊥)
+      (s : Branches) (is : AreBranches g x w (Some s)) (one : Adds eq s.yes met left_then met_one left_one) (two : Adds eq s.other met_one left_one met_two left_two) where
+    one_of : (y : Pair) → Contains met_two y → IsOneOf met left_two s.yes s.other y
+    one_of = two_added eq s.yes s.other met left_then met_one left_one met_two left_two one two
+
+    still : (y : Pair) → Contains met y → Contains met_two y
+    still = still_met eq s.yes s.other met left_then met_one left_one met_two left_two one two
+
+    chosen_now : AreJointAfter g b c w counts met_two x
+    chosen_now p q =
+        let first = is.0 in
+        both_joint b c w (word_of g x.count w) (word_of g x.gray w) (
+          first.0,
+          first.1,
+          tree_of g s.yes.count,
+          tree_of g s.other.count,
+          tree_of g s.yes.gray,
+          tree_of g s.other.gray,
+          first.2,
+          first.3,
+          first.4,
+          q s.yes (first_met eq s.yes s.other met left_then met_one left_one met_two left_two one two tells) is.3,
+          q s.other (second_met eq s.yes s.other met left_then met_one left_one met_two left_two one two tells) is.4,
+        )
+
+    waits_or_joint : (y : Pair) → Contains left y ⊎ AreJointAfter g b c w counts met y → Contains left_two y ⊎ AreJointAfter g b c w counts met_two y
+    waits_or_joint y (inl h) = go (Contains-push_cases left_then x y (subst (λ (l : List Pair). Contains l y) e h))
+      where
+        go : Contains left_then y ⊎ (x ≡ y) → Contains left_two y ⊎ AreJointAfter g b c w counts met_two y
+        go (inl k) = inl (still_waits eq s.yes s.other met left_then met_one left_one met_two left_two one two y k)
+        go (inr t) = inr (subst (AreJointAfter g b c w counts met_two) t chosen_now)
+    waits_or_joint y (inr f) = inr (λ p q. f p (λ z h k. q z (still z h) k))
+
+    done : (y : Pair) → IsOneOf met left_two s.yes s.other y → Contains left_two y ⊎ AreJointAfter g b c w counts met_two y
+    done y (inl h) = waits_or_joint y (so.done y h)
+    done y (inr h) = inl h.0
+
+    words : (y : Pair) → IsOneOf met left_two s.yes s.other y → HaveWords g y w
+    words y (inl h) = so.words y h
+    words y (inr (h, inl t)) = subst (λ z. HaveWords g z w) (sym t) is.1
+    words y (inr (h, inr t)) = subst (λ z. HaveWords g z w) (sym t) is.2
+
+    both_are : AreJoint g b c w start → AreJoint g b c w s.yes × AreJoint g b c w s.other
+    both_are all = branches_joint g b c w x no_code no_stay l s is ((so.needed all).0 x taken_met)
+
+    needed : AreJoint g b c w start → (y : Pair) → IsOneOf met left_two s.yes s.other y → AreJoint g b c w y
+    needed all y (inl h) = (so.needed all).0 y h
+    needed all y (inr (h, inl t)) = subst (AreJoint g b c w) (sym t) (both_are all).0
+    needed all y (inr (h, inr t)) = subst (AreJoint g b c w) (sym t) (both_are all).1
+
+    pub pair_branches : AreJointSoFar g b c w start counts waiting met_two left_two
+    pair_branches = record {
+      words = λ y h. words y (one_of y h);
+      within = still_within eq s.yes s.other met left_then met_one left_one met_two left_two one two within_then;
+      there = still start so.there;
       asked = so.asked;
-      done = λ y h. done y (so.done y h);
-      needed = so.needed;
+      done = λ y h. done y (one_of y h);
+      needed = λ all. (λ y h. needed all y (one_of y h), (so.needed all).1);
     }
-      where
-        taken : (y : Pair) → Contains left_then y ⊎ (x ≡ y) → Contains left_then y ⊎ AreJointAfter g b c w counts met y
-        taken y (inl h) = inl h
-        taken y (inr s) = inr (λ p q. subst (AreJoint g b c w) s (stay_joint b c w (word_of g x.count w) (word_of g x.gray w) f i))
 
-        done : (y : Pair) → Contains left y ⊎ AreJointAfter g b c w counts met y → Contains left_then y ⊎ AreJointAfter g b c w counts met y
-        done y (inl h) = taken y (Contains-push_cases left_then x y (subst (λ (l : List Pair). Contains l y) e h))
-        done y (inr f) = inr f
+  -- the pair that is taken is no joint pair
+  pub not_joint : (AreJoint g b c w x → ⊥) → (false ≡ true) ↔ AreJoint g b c w start
+  not_joint none = (λ t. cc, λ all. absurd (none ((so.needed all).0 x taken_met)))
 
-    -- the one takes the code of the other
-    pub pair_coded : (eq : CellId → CellId → Bool) → ((p q : CellId) → eq p q ≡ true → p ≡ q) → (counts_then waiting_then : List CellId) → Adds eq x.count counts waiting counts_then waiting_then
-        → IsGrayWord (word_of g x.gray w) (word_of g x.count w) → AreJointSoFar g b c w start counts_then waiting_then met left_then
-    pair_coded eq tells counts_then waiting_then a code = record {
-      words = so.words;
-      within = within_then;
-      there = so.there;
-      asked = word_asked g w eq x.count counts waiting counts_then waiting_then so.asked taken_words.0 a;
-      done = λ y h. done y (so.done y h);
-      needed = λ all. ((so.needed all).0, λ y h. needed all y (a.added y h));
-    }
-      where
-        count_there : Contains counts_then x.count
-        count_there = let (z, h, s) = a.there in subst (Contains counts_then) (sym (tells x.count z s)) h
-
-        taken : (y : Pair) → Contains left_then y ⊎ (x ≡ y) → Contains left_then y ⊎ AreJointAfter g b c w counts_then met y
-        taken y (inl h) = inl h
-        taken y (inr s) = inr (λ p q. subst (AreJoint g b c w) s (Coded (p x.count count_there) code))
-
-        done : (y : Pair) → Contains left y ⊎ AreJointAfter g b c w counts met y → Contains left_then y ⊎ AreJointAfter g b c w counts_then met y
-        done y (inl h) = taken y (Contains-push_cases left_then x y (subst (λ (l : List Pair). Contains l y) e h))
-        done y (inr f) = inr (λ p q. f (λ z h. p z (a.kept z h)) q)
-
-        needed : AreJoint g b c w start → (y : CellId) → Contains counts y ⊎ (Contains waiting_then y × (y ≡ x.count)) → Counts g b w y
-        needed all y (inl h) = (so.needed all).1 y h
-        needed all y (inr h) = subst (Counts g b w) (sym h.1) (joint_count b c w (word_of g x.count w) (word_of g x.gray w) ((so.needed all).0 x taken_met))
-
-    -- both are choices, whose branches are added
-    module _ (eq : Pair → Pair → Bool) (tells : (p q : Pair) → eq p q ≡ true → p ≡ q) (l : 1 ≤ w)
-        (no_code : IsGrayWord (word_of g x.gray w) (word_of g x.count w) → ⊥) (no_stay : (word_of g x.count w ≡ own_word b w) × (word_of g x.gray w ≡ own_word c w) → ⊥)
-        (s : Branches) (is : AreBranches g x w (Some s))
-        (met_one left_one met_two left_two : List Pair) (one : Adds eq s.yes met left_then met_one left_one) (two : Adds eq s.other met_one left_one met_two left_two) where
-      one_of : (y : Pair) → Contains met_two y → IsOneOf met left_two s.yes s.other y
-      one_of = two_added eq s.yes s.other met left_then met_one left_one met_two left_two one two
-
-      still : (y : Pair) → Contains met y → Contains met_two y
-      still = still_met eq s.yes s.other met left_then met_one left_one met_two left_two one two
-
-      chosen_now : AreJointAfter g b c w counts met_two x
-      chosen_now p q =
-          let first = is.0 in
-          both_joint b c w (word_of g x.count w) (word_of g x.gray w) (
-            first.0,
-            first.1,
-            tree_of g s.yes.count,
-            tree_of g s.other.count,
-            tree_of g s.yes.gray,
-            tree_of g s.other.gray,
-            first.2,
-            first.3,
-            first.4,
-            q s.yes (first_met eq s.yes s.other met left_then met_one left_one met_two left_two one two tells) is.3,
-            q s.other (second_met eq s.yes s.other met left_then met_one left_one met_two left_two one two tells) is.4,
-          )
-
-      waits_or_joint : (y : Pair) → Contains left y ⊎ AreJointAfter g b c w counts met y → Contains left_two y ⊎ AreJointAfter g b c w counts met_two y
-      waits_or_joint y (inl h) = go (Contains-push_cases left_then x y (subst (λ (l : List Pair). Contains l y) e h))
-        where
-          go : Contains left_then y ⊎ (x ≡ y) → Contains left_two y ⊎ AreJointAfter g b c w counts met_two y
-          go (inl k) = inl (still_waits eq s.yes s.other met left_then met_one left_one met_two left_two one two y k)
-          go (inr t) = inr (subst (AreJointAfter g b c w counts met_two) t chosen_now)
-      waits_or_joint y (inr f) = inr (λ p q. f p (λ z h k. q z (still z h) k))
-
-      done : (y : Pair) → IsOneOf met left_two s.yes s.other y → Contains left_two y ⊎ AreJointAfter g b c w counts met_two y
-      done y (inl h) = waits_or_joint y (so.done y h)
-      done y (inr h) = inl h.0
-
-      words : (y : Pair) → IsOneOf met left_two s.yes s.other y → HaveWords g y w
-      words y (inl h) = so.words y h
-      words y (inr (h, inl t)) = subst (λ z. HaveWords g z w) (sym t) is.1
-      words y (inr (h, inr t)) = subst (λ z. HaveWords g z w) (sym t) is.2
-
-      both_are : AreJoint g b c w start → AreJoint g b c w s.yes × AreJoint g b c w s.other
-      both_are all = branches_joint g b c w x no_code no_stay l s is ((so.needed all).0 x taken_met)
-
-      needed : AreJoint g b c w start → (y : Pair) → IsOneOf met left_two s.yes s.other y → AreJoint g b c w y
-      needed all y (inl h) = (so.needed all).0 y h
-      needed all y (inr (h, inl t)) = subst (AreJoint g b c w) (sym t) (both_are all).0
-      needed all y (inr (h, inr t)) = subst (AreJoint g b c w) (sym t) (both_are all).1
-
-      pub pair_branches : AreJointSoFar g b c w start counts waiting met_two left_two
-      pair_branches = record {
-        words = λ y h. words y (one_of y h);
-        within = still_within eq s.yes s.other met left_then met_one left_one met_two left_two one two within_then;
-        there = still start so.there;
-        asked = so.asked;
-        done = λ y h. done y (one_of y h);
-        needed = λ all. (λ y h. needed all y (one_of y h), (so.needed all).1);
-      }
-
-    -- the pair that is taken is no joint pair
-    pub not_joint : (AreJoint g b c w x → ⊥) → (false ≡ true) ↔ AreJoint g b c w start
-    not_joint none = (λ t. cc, λ all. absurd (none ((so.needed all).0 x taken_met)))
-
-  -- no pair is left: the pairs are joint where the count words are
-  below : (counts waiting : List CellId) (met : List Pair) → AreJointSoFar g b c w start counts waiting met [] → ((x : CellId) → Contains counts x → Counts g b w x)
-      → (n : ℕ) (x : Pair) → Contains met x → x.count.0 < n → AreJoint g b c w x
-  below counts waiting met so all zero x h l = absurd (omega arith)
-  below counts waiting met so all (suc n) x h l = go (so.done x h) (below counts waiting met so all n)
+-- no pair is left: the pairs are joint where the count words are
+module _ {g : Cells} {b c w : ℕ} {start : Pair} {counts waiting : List CellId} {met : List Pair} (so : AreJointSoFar g b c w start counts waiting met []) where
+  below : ((x : CellId) → Contains counts x → Counts g b w x) → (n : ℕ) (x : Pair) → Contains met x → x.count.0 < n → AreJoint g b c w x
+  below all zero x h l = absurd (omega arith)
+  below all (suc n) x h l = go (so.done x h) (below all n)
     where
       go : Contains [] x ⊎ AreJointAfter g b c w counts met x → ((y : Pair) → Contains met y → y.count.0 < n → AreJoint g b c w y) → AreJoint g b c w x
       go (inl k) ih = absurd (nothing_in x k)
       go (inr f) ih = f all (λ y k m. ih y k (omega arith))
 
-  pub all_joint : (counts waiting : List CellId) (met : List Pair) → AreJointSoFar g b c w start counts waiting met [] → (t : Bool)
-      → (t ≡ true) ↔ ((x : CellId) → Contains counts x → Counts g b w x) → (t ≡ true) ↔ AreJoint g b c w start
-  all_joint counts waiting met so t are = (λ e. below counts waiting met so (are.0 e) (suc start.count.0) start so.there (omega arith), λ all. are.1 (so.needed all).1)
+  pub all_joint : (t : Bool) → (t ≡ true) ↔ ((x : CellId) → Contains counts x → Counts g b w x) → (t ≡ true) ↔ AreJoint g b c w start
+  all_joint t are = (λ e. below (are.0 e) (suc start.count.0) start so.there (omega arith), λ all. are.1 (so.needed all).1)
 
 -- choices by two conditions
 pub no_branches : (g : Cells) → IsPlain g → (x : Pair) (w : ℕ) → 1 ≤ w → (a b : Choice) → IsChoice g x.count w (Some a) → IsChoice g x.gray w (Some b) → (a.cond ≡ b.cond → ⊥)
