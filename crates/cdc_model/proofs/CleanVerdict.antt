@@ -56,6 +56,18 @@ family_cases (OfBit a g) (OfBit b h) = elim (cases_bit a b) [
   | inr n ↦ inr (λ k. n (bit_parts a b g h k).0)
 ]
 
+-- whether some item leads from the one bit to the other
+one_or_none : {A : Type 0} (from to : A → Bit) (xs : List A) (b x : Bit) → ((a : A) × Contains xs a × (from a ≡ b) × (to a ≡ x)) ⊎ ((a : A) → Contains xs a → from a ≡ b → to a ≡ x → ⊥)
+one_or_none {A} from to xs b x = go (list_any (λ (a : A). bit_eq (from a) b && bit_eq (to a) x) xs) refl
+  where
+    go : (u : Bool) → list_any (λ (a : A). bit_eq (from a) b && bit_eq (to a) x) xs ≡ u → ((a : A) × Contains xs a × (from a ≡ b) × (to a ≡ x)) ⊎ ((a : A) → Contains xs a → from a ≡ b → to a ≡ x → ⊥)
+    go true h =
+        let (n, a, lt, at, p) = Any-from_list_any (λ (a : A). bit_eq (from a) b && bit_eq (to a) x) xs h in
+        let q = and_parts (bit_eq (from a) b) (bit_eq (to a) x) p in
+        inl (a, (n, lt, at), bit_eq-true (from a) b q.0, bit_eq-true (to a) x q.1)
+    go false h = inr (λ a i e f. both_ways (list_any (λ (a : A). bit_eq (from a) b && bit_eq (to a) x) xs) h
+        (list_any-from_Any (λ (a : A). bit_eq (from a) b && bit_eq (to a) x) xs (i.0, a, i.1, i.2, and_from (bit_eq (from a) b) (bit_eq (to a) x) (eq-bit_eq (from a) b e) (eq-bit_eq (to a) x f))))
+
 -- one family, one word and one group
 family_parts : (v w : Bool) (s r : Bit) (g h : Option ℕ) → cond v (OfWord s.sig g) (OfBit s g) ≡ cond w (OfWord r.sig h) (OfBit r h) → (s.sig ≡ r.sig) × (g ≡ h)
 family_parts true true s r g h e = word_parts s.sig r.sig g h e
@@ -71,35 +83,10 @@ module _ (d : Design) (t : Trees) (is_extra : Bit → Bit → Bool)
   pub covers_are : AreCovers v.grays syncs loads v.covers
   covers_are c = (k.all_covers.only c, k.all_covers.all c)
 
-  -- whether some synchronizer, or some load, is of the crossing
-  sync_cases : (b x : Bit) → ((s : Sync) × Contains syncs s × (s.from ≡ b) × (s.first ≡ x)) ⊎ ((s : Sync) → Contains syncs s → s.from ≡ b → s.first ≡ x → ⊥)
-  sync_cases b x = go (list_any (λ (s : Sync). bit_eq s.from b && bit_eq s.first x) syncs) refl
-    where
-      go : (u : Bool) → list_any (λ (s : Sync). bit_eq s.from b && bit_eq s.first x) syncs ≡ u
-          → ((s : Sync) × Contains syncs s × (s.from ≡ b) × (s.first ≡ x)) ⊎ ((s : Sync) → Contains syncs s → s.from ≡ b → s.first ≡ x → ⊥)
-      go true h =
-          let (n, s, lt, at, p) = Any-from_list_any (λ (s : Sync). bit_eq s.from b && bit_eq s.first x) syncs h in
-          let q = and_parts (bit_eq s.from b) (bit_eq s.first x) p in
-          inl (s, (n, lt, at), bit_eq-true s.from b q.0, bit_eq-true s.first x q.1)
-      go false h = inr (λ s i e f. both_ways (list_any (λ (s : Sync). bit_eq s.from b && bit_eq s.first x) syncs) h
-          (list_any-from_Any (λ (s : Sync). bit_eq s.from b && bit_eq s.first x) syncs (i.0, s, i.1, i.2, and_from (bit_eq s.from b) (bit_eq s.first x) (eq-bit_eq s.from b e) (eq-bit_eq s.first x f))))
-
-  load_cases : (b x : Bit) → ((l : Load) × Contains loads l × (l.from ≡ b) × (l.to ≡ x)) ⊎ ((l : Load) → Contains loads l → l.from ≡ b → l.to ≡ x → ⊥)
-  load_cases b x = go (list_any (λ (l : Load). bit_eq l.from b && bit_eq l.to x) loads) refl
-    where
-      go : (u : Bool) → list_any (λ (l : Load). bit_eq l.from b && bit_eq l.to x) loads ≡ u
-          → ((l : Load) × Contains loads l × (l.from ≡ b) × (l.to ≡ x)) ⊎ ((l : Load) → Contains loads l → l.from ≡ b → l.to ≡ x → ⊥)
-      go true h =
-          let (n, l, lt, at, p) = Any-from_list_any (λ (l : Load). bit_eq l.from b && bit_eq l.to x) loads h in
-          let q = and_parts (bit_eq l.from b) (bit_eq l.to x) p in
-          inl (l, (n, lt, at), bit_eq-true l.from b q.0, bit_eq-true l.to x q.1)
-      go false h = inr (λ l i e f. both_ways (list_any (λ (l : Load). bit_eq l.from b && bit_eq l.to x) loads) h
-          (list_any-from_Any (λ (l : Load). bit_eq l.from b && bit_eq l.to x) loads (i.0, l, i.1, i.2, and_from (bit_eq l.from b) (bit_eq l.to x) (eq-bit_eq l.from b e) (eq-bit_eq l.to x f))))
-
   each : (b x : Bit) → IsCrossing d t b x → IsServed syncs loads is_extra b x
-  each b x c = elim (sync_cases b x) [
+  each b x c = elim (one_or_none (λ (s : Sync). s.from) (λ (s : Sync). s.first) syncs b x) [
     | inl s ↦ inl s
-    | inr no_sync ↦ elim (load_cases b x) [
+    | inr no_sync ↦ elim (one_or_none (λ (l : Load). l.from) (λ (l : Load). l.to) loads b x) [
       | inl l ↦ inr (inl l)
       | inr no_load ↦ by_extra no_sync no_load (is_extra b x) refl
     ]

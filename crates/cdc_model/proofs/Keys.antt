@@ -1,15 +1,18 @@
 -- Orders that code sorts and searches by, as keys.
-use Rattle.std.proofs.Common.{◌≡◌, ◌∙◌, ◌↔◌, inl, inr, refl, sym, ap, subst, arith, rules, ℕ, suc, ◌+◌, ◌<◌, nat_lt, ◌==◌, ◌&&◌, ◌||◌, Bool, true, false, cond, Option, Some, None, option_map, List, map, [], ◌∷◌, length, get_or, slice_get, Contains, Result, Ok, Err, Ordering, Less, Equal, Greater}
+use Rattle.std.proofs.Common.{◌≡◌, ◌∙◌, ◌↔◌, inl, inr, refl, sym, ap, subst, arith, rules, ℕ, zero, suc, ◌+◌, ◌<◌, nat_lt, ◌==◌, ◌&&◌, ◌||◌, Bool, true, false, cond, Option, Some, None, option_map, List, map, [], ◌∷◌, length, get_or, slice_get, Contains, Result, Ok, Err, Ordering, Less, Equal, Greater}
 use Rattle.std.specs.Cmp.{IsTotalOrder}
 use Rattle.std.specs.Cmp.Lexicographic.{options_total}
 use Rattle.std.specs.Cmp.Rules.{comparing}
-use Rattle.std.specs.List.{IsDistinct}
-use Rattle.std.specs.List.Sorted.{IsSortedBy, IsBinarySearchResult, IsSearchInRange}
+use Rattle.std.specs.List.{AllByRecursion, IsDistinct, dedup}
+use Rattle.std.specs.List.Retain.{IsFiltered, DiffersFromLast}
+use Rattle.std.specs.List.Sorted.{IsSorted, IsSortedBy, IsStrictlySortedBy, IsBinarySearchResult, IsSearchInRange}
 use Rattle.std.specs.Option.{option_cmp}
-use Rattle.std.specs.Ordering.{is_lt, is_eq, ordering_then, ordering_reverse, nat_cmp}
+use Rattle.std.specs.Ordering.{eq_by_cmp, is_lt, is_eq, ordering_then, ordering_reverse, nat_cmp}
 use Rattle.std.specs.Result.{is_ok}
 use Rattle.std.proofs.lemmas.Bool.{cases_lt}
 use Rattle.std.proofs.lemmas.Cmp.{tied_itself, on_total, then_total}
+use Rattle.std.proofs.lemmas.List.Filters.{dedup_is}
+use Rattle.std.proofs.lemmas.List.Kept.{IsStrictlySortedBy-dedup}
 use Rattle.std.proofs.lemmas.List.Sorted.{ranks_by, searchable_from_sorted, sorted_far}
 use Rattle.std.proofs.lemmas.Map.Keys.{apart_from_distinct}
 use Rattle.std.proofs.lemmas.Option.{slice_get_cases, slice_get-get_or, slice_get-map, slice_get_within, get_or_from_slice_get}
@@ -165,6 +168,29 @@ module _ {A K : Type 0} (cmp : K → K → Ordering) (key : K → List ℕ) (is 
       is.before (of x) (of y) ∙ less (cmp (of x) (of y)) (cmp (of y) (of x)) (is.total.antisymm (of x) (of y))
       (subst (λ (z : A). is_lt (cmp (of z) (of x)) ≡ false) f (subst (λ (z : A). is_lt (cmp (of (get_or xs j x)) (of z)) ≡ false) e (sorted_far (λ u v. is_lt (cmp (of u) (of v))) (ranks_by is.total of) xs up i j x (omega arith) m)))
       (subst (λ (z : A). is_eq (cmp (of x) (of z)) ≡ false) f (subst (λ (z : A). is_eq (cmp (of z) (of (get_or xs j x))) ≡ false) e (apart_from_distinct (λ u v. is_eq (cmp (of u) (of v))) xs i j x apart l m)))
+
+all_get : {A : Type 0} (P : A → Type 0) (xs : List A) (j : ℕ) (d : A) → AllByRecursion P xs → slice_get xs j ≡ Some d → P d
+all_get P [] j d h e = absurd (cc)
+all_get P (x ∷ xs) zero d h e = let s : x ≡ d = cc in subst P s h.0
+all_get P (x ∷ xs) (suc j) d h e = all_get P xs j d h.1 e
+
+module _ {A : Type 0} {cmp : A → A → Ordering} {key : A → List ℕ} (is : Orders cmp key) where
+  -- a strictly sorted list ascends
+  pub strictly_ascending : (xs : List A) → IsStrictlySortedBy cmp xs → IsAscending key xs
+  unfolding IsStrictlySortedBy
+  strictly_ascending [] h i j c d lt at there = absurd (cc)
+  strictly_ascending (x ∷ xs) h zero zero c d lt at there = absurd (omega arith)
+  strictly_ascending (x ∷ xs) h zero (suc j) c d lt at there =
+      let s : x ≡ c = cc in
+      subst (λ (y : A). is_before (key y) (key d) ≡ true) s (is.before x d ∙ ap is_lt (all_get (λ y. cmp x y ≡ Less) xs j d h.0 there))
+  strictly_ascending (x ∷ xs) h (suc i) zero c d lt at there = absurd (omega arith)
+  strictly_ascending (x ∷ xs) h (suc i) (suc j) c d lt at there = strictly_ascending xs h.1 i j c d (omega arith) at there
+
+  -- and so does what a sort and a removal of repeated items leave
+  pub ordered_items : {eq : A → A → Bool} → ((a b : A) → eq a b ≡ eq_by_cmp cmp a b) → (sorted once : List A) → IsSorted cmp sorted → IsFiltered (DiffersFromLast eq) [] sorted once
+      → IsAscending key once
+  ordered_items {eq} ties sorted once up kept =
+      subst (IsAscending key) (sym (dedup_is eq sorted once kept)) (strictly_ascending (dedup eq sorted) (IsStrictlySortedBy-dedup is.total ties sorted up))
 
 -- what ascends by what it is mapped to, ascends when it is mapped
 pub mapped_ascending : {A B : Type 0} (f : A → B) (key : B → List ℕ) (xs : List A) → IsAscending (λ x. key (f x)) xs → IsAscending key (map f xs)

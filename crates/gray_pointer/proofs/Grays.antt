@@ -9,8 +9,8 @@ use Rattle.cdc_model.specs.declared.scheme.Shape.TheVariants.{G1, G2, G3}
 use Rattle.cdc_model.specs.GrayShape.{HasShape}
 use Rattle.cdc_model.specs.Ordered.{is_before, IsAscending}
 use Rattle.cdc_model.specs.Verdict.{gray_key}
-use Rattle.cdc_model.proofs.Ascending.{here, parts, nothing_in, Ascends, ascending, joined_ascend}
-use Rattle.cdc_model.proofs.Justify.{in_slice}
+use Rattle.cdc_model.proofs.Ascending.{here, parts, nothing_in, ascending, joined_ascend}
+use Rattle.cdc_model.proofs.Keys.{ascends}
 use Rattle.cell_graph.specs.Origin.{TreeBit}
 use Rattle.gray_pointer.specs.declared.register.Register.{Register}
 use Rattle.gray_pointer.specs.Grays.{Follows, gray_reg, found_grays, IsFollowed, AreGrays}
@@ -30,13 +30,9 @@ one_shape G3 G3 b c w n m h k = refl
 
 -- ---- order
 
-ascends : (xs : List GrayReg) → IsAscending gray_key xs → Ascends gray_key xs
-ascends [] h = tt
-ascends (x ∷ xs) h = (λ y i. h 0 (suc i.0) x y (omega arith) refl (in_slice xs y i), ascends xs (λ i j y z l e f. h (suc i) (suc j) y z (omega arith) e f))
-
 pub joined : (xs ys : List GrayReg) → IsAscending gray_key xs → IsAscending gray_key ys → ((x y : GrayReg) → Contains xs x → Contains ys y → is_before (gray_key x) (gray_key y) ≡ true)
     → IsAscending gray_key (xs ++ ys)
-joined xs ys h k before = ascending gray_key (xs ++ ys) (joined_ascend gray_key xs ys (ascends xs h) (ascends ys k) before)
+joined xs ys h k before = ascending gray_key (xs ++ ys) (joined_ascend gray_key xs ys (ascends gray_key xs h) (ascends gray_key ys k) before)
 
 before_by_gray : (x y : GrayReg) → x.gray < y.gray → is_before (gray_key x) (gray_key y) ≡ true
 before_by_gray x y l = ap (λ v. v || ((x.gray == y.gray) && is_before (x.count ∷ []) (y.count ∷ []))) (lt-ltb x.gray y.gray l)

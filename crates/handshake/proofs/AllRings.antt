@@ -1,5 +1,5 @@
 -- The rings among the pairs are all rings of the net, in order.
-use Rattle.std.proofs.Common.{◌≡◌, ◌≢◌, ◌∙◌, ◌⊎◌, ◌↔◌, inl, inr, refl, sym, ap, ap₂, subst, arith, ℕ, zero, suc, ◌+◌, ◌-◌, ◌<◌, ◌≤◌, ◌==◌, ◌&&◌, ◌||◌, nat_lt, ltb-true, lt-ltb, eqb-true, eq-eqb, Bool, true, false, not, cond, Option, Some, None, is_some, option_map, List, [], ◌∷◌, ◌++◌, map, length, slice_get, Contains}
+use Rattle.std.proofs.Common.{◌≡◌, ◌≢◌, ◌∙◌, ◌↔◌, inl, inr, refl, sym, ap, ap₂, subst, arith, ℕ, zero, suc, ◌-◌, ◌<◌, ◌≤◌, ◌==◌, ◌&&◌, nat_lt, ltb-true, lt-ltb, eqb-true, eq-eqb, Bool, true, false, not, cond, Option, Some, None, is_some, option_map, List, [], ◌∷◌, ◌++◌, length, slice_get, Contains}
 use Rattle.std.specs.List.{AllByRecursion}
 use Rattle.std.specs.Option.{option_map_or}
 use Rattle.std.proofs.lemmas.Bool.{and_parts, and_from, or_cases, both_ways, cases_lt}
@@ -8,7 +8,7 @@ use Rattle.cdc_base.specs.declared.bit.Bit.{Bit}
 use Rattle.cell_graph.specs.declared.cell.CellId.{CellId}
 use Rattle.cell_graph.specs.declared.net.Net.{Net}
 use Rattle.cell_graph.specs.Cofactor.{known, reads}
-use Rattle.cell_graph.specs.Reading.{Cube, bit_eq}
+use Rattle.cell_graph.specs.Reading.{bit_eq}
 use Rattle.cell_graph.proofs.Bits.{bit_eq-true, bit_eq-false}
 use Rattle.domains.specs.declared.Domains.{Domains}
 use Rattle.domains.specs.Assignment.{group_of}
@@ -19,13 +19,13 @@ use Rattle.cdc_model.specs.Design.{Design, group, are_equal, settle_of}
 use Rattle.cdc_model.specs.Found.{bits_read_by}
 use Rattle.cdc_model.specs.Nets.{next_cell, next_tree, bit_count, is_within, is_register_bit, start_of, design_of, net_trees, HasNextCells}
 use Rattle.cdc_model.specs.Ordered.{is_before, IsAll, IsAscending}
-use Rattle.cdc_model.specs.Schemes.{Trees, AreTrees, IsAt, Sync, IsSync, flops, last_of, last_flop, Ring, request, acknowledge, ring_bits, IsRing}
-use Rattle.cdc_model.specs.Syncs.{flops_behind, next_flop, sync_of, syncs_of}
+use Rattle.cdc_model.specs.Schemes.{Trees, AreTrees, IsAt, Sync, IsSync, flops, last_flop, Ring, request, acknowledge, ring_bits, IsRing}
+use Rattle.cdc_model.specs.Syncs.{flops_behind, next_flop, syncs_of}
 use Rattle.cdc_model.specs.Verdict.{bit_key, sync_key, ring_key}
 use Rattle.cdc_model.proofs.Ascending.{here, later, parts, nothing_in, Ascends, ascending, joined_ascend, less_before, same_before}
 use Rattle.cdc_model.proofs.Behind.{async_clock, source_clock, place_unique}
 use Rattle.cdc_model.proofs.Chain.{equal_eq, at_clock}
-use Rattle.cdc_model.proofs.Found.{by_bit, before_any, net_ascends}
+use Rattle.cdc_model.proofs.Found.{by_bit, before_any}
 use Rattle.cdc_model.proofs.Justify.{in_slice, slice_in}
 use Rattle.cdc_model.proofs.NetDesign.{plain_trees_are, group_is}
 use Rattle.cdc_model.proofs.Ordered.{never_before}
@@ -33,7 +33,7 @@ use Rattle.cdc_model.proofs.ReadBits.{listed}
 use Rattle.cdc_model.proofs.Rings.{last_at, last_settled}
 use Rattle.cdc_model.proofs.Synced.{one_is, syncs_are_all}
 use Rattle.handshake.specs.declared.candidates.Pair.{Pair}
-use Rattle.handshake.specs.Pairs.{HaveOwnEnds, AreSourcesWithin, AreShort, is_value, starts_at, all_start, start_alike, are_closed, may_turn, ring_at, pair_there, IsPairAt, IsPairFrom, pair_key, is_known, waits_at, waits, answers_at, answers, turns, ring_from, rings_among}
+use Rattle.handshake.specs.Pairs.{HaveOwnEnds, AreSourcesWithin, AreShort, is_value, starts_at, all_start, start_alike, are_closed, may_turn, ring_at, pair_there, IsPairFrom, pair_key, waits_at, waits, answers_at, answers, turns, ring_from, rings_among}
 use Rattle.handshake.proofs.Pairs.{ring_is, ring_parts}
 
 -- ---- values

@@ -1,5 +1,5 @@
 -- Known next values by a table under a cube, and the ring of a pair.
-use Rattle.std.proofs.Common.{◌≡◌, ◌∙◌, refl, sym, ap, ap₂, subst, arith, ◌<◌, ◌≤◌, ltb-true, ◌&&◌, Bool, true, false, cond, Option, Some, None, option_map, is_some, List, [], ◌∷◌, ◌++◌, map, slice_get, Contains}
+use Rattle.std.proofs.Common.{◌≡◌, ◌∙◌, refl, sym, ap, subst, arith, ◌<◌, ltb-true, Bool, true, false, cond, Option, Some, None, option_map, is_some, List, [], ◌∷◌, ◌++◌, map, slice_get}
 use Rattle.std.specs.Prelude.{option_and_then}
 use Rattle.std.specs.Option.{option_map_or}
 use Rattle.std.proofs.lemmas.Bool.{and_parts}
@@ -22,7 +22,7 @@ use Rattle.cdc_model.specs.Tables.{ShowsNext}
 use Rattle.cdc_model.proofs.Ascending.{here}
 use Rattle.cdc_model.proofs.ReadBits.{no-cell}
 use Rattle.handshake.specs.declared.candidates.Pair.{Pair}
-use Rattle.handshake.specs.Pairs.{ring_at, ring_from, turns}
+use Rattle.handshake.specs.Pairs.{ring_from, turns}
 use Rattle.handshake.proofs.Pairs.{ring_is}
 
 -- ---- known next values

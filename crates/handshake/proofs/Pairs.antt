@@ -1,7 +1,6 @@
 -- Pairs of synchronizers by their places, and what is added to a list of them.
-use Rattle.std.proofs.Common.{◌≡◌, ◌∙◌, ◌⊎◌, ◌↔◌, inl, inr, refl, sym, ap, ap₂, subst, arith, rules, ℕ, zero, suc, ◌+◌, ◌-◌, ◌<◌, ◌≤◌, Bool, true, false, not, cond, ◌&&◌, Option, Some, None, option_map, is_some, Result, Ok, Err, List, [], ◌∷◌, ◌++◌, map, length, drop, get_or, slice_get, append_assoc, Contains}
+use Rattle.std.proofs.Common.{◌≡◌, ◌∙◌, ◌⊎◌, ◌↔◌, inl, inr, refl, sym, ap, ap₂, subst, arith, rules, ℕ, suc, ◌+◌, ◌-◌, ◌<◌, ◌≤◌, Bool, true, false, cond, Option, Some, None, option_map, is_some, Result, Ok, Err, List, [], ◌∷◌, ◌++◌, map, length, drop, get_or, slice_get, append_assoc, Contains}
 use Rattle.std.specs.Cmp.Rules.{comparing}
-use Rattle.std.specs.Option.{option_map_or}
 use Rattle.std.specs.Prelude.{option_and_then}
 use Rattle.std.specs.Result.{is_ok, OnOk}
 use Rattle.std.proofs.lemmas.Bool.{cases_lt}
@@ -13,14 +12,12 @@ use Rattle.cdc_base.specs.contracts.bit.BitPartialEq.TheImpl as equality
 use Rattle.cell_graph.specs.declared.cell.CellId.{CellId}
 use Rattle.cell_graph.specs.declared.cell.Node.{Node}
 use Rattle.cell_graph.specs.declared.net.Net.{Net}
-use Rattle.cell_graph.specs.Reading.{bit_eq}
-use Rattle.cell_graph.proofs.Bits.{bit_eq-true}
 use Rattle.domains.specs.declared.Domains.{Domains}
 use Rattle.cdc_model.specs.declared.scheme.Ring.{Ring as RingEntry}
 use Rattle.cdc_model.specs.declared.scheme.Sync.{Sync as SyncEntry}
 use Rattle.cdc_model.specs.Listed.{sync_entry, ring_entry}
 use Rattle.cdc_model.specs.Nets.{is_register_bit, next_cell, next_node_of}
-use Rattle.cdc_model.specs.Schemes.{Sync, flops, last_of, last_flop, Ring, request, acknowledge}
+use Rattle.cdc_model.specs.Schemes.{Sync, last_of, last_flop, Ring, request, acknowledge}
 use Rattle.cdc_model.specs.Found.{bits_read_by}
 use Rattle.cdc_model.proofs.Ascending.{here, parts, nothing_in}
 use Rattle.cdc_model.proofs.Justify.{in_slice, slice_in}

@@ -1,5 +1,4 @@
 -- The ring is added where the two turn.
-use Rattle.std.proofs.Common.{◌∙◌, sym, ap, length, ◌≤◌}
 use Rattle.handshake.proofs.Pairs.{entry_within, no_entry_past, ring_is}
 use Rattle.handshake.proofs.Known.{no_ring, none_there, none_back, not_added, added}
 use Rattle.handshake.proofs.add_ring.Goals as goal

@@ -1,12 +1,11 @@
 -- The ring of one pair more, and in the end all rings.
-use Rattle.std.proofs.Common.{◌≡◌, ◌∙◌, ◌↔◌, sym, ap, subst, [], List, map, get_or, Contains}
+use Rattle.std.proofs.Common.{◌↔◌, sym, subst, List, map, get_or, Contains}
 use Rattle.std.proofs.lemmas.List.Elements.{Contains-get_or}
 use Rattle.cdc_model.specs.Listed.{ring_entry}
 use Rattle.cdc_model.specs.Ordered.{IsAscending}
-use Rattle.cdc_model.specs.Schemes.{Sync, Ring}
 use Rattle.cdc_model.specs.Syncs.{syncs_of}
 use Rattle.handshake.specs.declared.candidates.Pair.{Pair}
-use Rattle.handshake.specs.Pairs.{AreShort, IsPairFrom, pair_key, rings_among}
+use Rattle.handshake.specs.Pairs.{IsPairFrom, pair_key, rings_among}
 use Rattle.handshake.proofs.AllRings.{own_ends, sources_within, few_flops, pair_registers, rings_are_all}
 use Rattle.handshake.proofs.Pairs.{AreOfRegisters, rings_more, rings_end}
 use Rattle.handshake.proofs.rings_with.Goals as goal

@@ -1,23 +1,11 @@
 -- By what a sort and a removal of repeated items keep.
-use Rattle.std.proofs.Common.{sym, subst}
-use Rattle.std.specs.List.{Contains, dedup}
-use Rattle.std.proofs.lemmas.List.Filters.{dedup_is}
-use Rattle.std.proofs.lemmas.List.Kept.{IsStrictlySortedBy-dedup}
 use Rattle.cell_graph.proofs.Once.{same_items}
-use Rattle.cdc_model.specs.Ordered.{IsAscending}
-use Rattle.fifo_parts.specs.contracts.flags.FlagOrd.TheImpl as order
-use Rattle.fifo_parts.specs.contracts.flags.FlagPartialEq.TheImpl as equality
-use Rattle.fifo_parts.specs.Tellers.{flag_entry_key}
+use Rattle.cdc_model.proofs.Keys.{ordered_items}
 use Rattle.fifo_parts.proofs.FlagOrder.{equal_flags, same_flag, ties, flags_order}
-use Rattle.fifo_parts.proofs.Keyed.{ascending}
 use Rattle.fifo_parts.proofs.flags.into_order.Goals as goal
 
 pub returns-clause-same : goal.returns-clause-same
 returns-clause-same c = same_items equal_flags same_flag c.args.flags.items c.sort_unstable.new.self.items c.dedup.new.self.items c.sort_unstable.ensures.permutation c.dedup.ensures.filtered
 
 pub returns-clause-ordered : goal.returns-clause-ordered
-returns-clause-ordered c =
-    let is = dedup_is equality.ghosts.eq c.sort_unstable.new.self.items c.dedup.new.self.items c.dedup.ensures.filtered in
-    subst (IsAscending flag_entry_key) (sym is)
-    (ascending order.ghosts.cmp flag_entry_key flags_order (dedup equality.ghosts.eq c.sort_unstable.new.self.items)
-    (IsStrictlySortedBy-dedup flags_order.total ties c.sort_unstable.new.self.items c.sort_unstable.ensures.sorted))
+returns-clause-ordered c = ordered_items flags_order ties c.sort_unstable.new.self.items c.dedup.new.self.items c.sort_unstable.ensures.sorted c.dedup.ensures.filtered

@@ -1,5 +1,5 @@
 -- The last flop is the last of the list.
-use Rattle.std.proofs.Common.{◌≡◌, ◌∙◌, ap, ◌-◌, length, slice_get}
+use Rattle.std.proofs.Common.{◌∙◌, ap, ◌-◌, length, slice_get}
 use Rattle.cdc_model.specs.declared.scheme.Sync.{Sync as SyncEntry}
 use Rattle.handshake.proofs.Pairs.{some_is, last_there}
 use Rattle.handshake.proofs.candidates.last_flop.Goals as goal

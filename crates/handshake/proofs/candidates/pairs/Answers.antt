@@ -1,5 +1,5 @@
 -- The pairs of one synchronizer more, and in the end all pairs, in order.
-use Rattle.std.proofs.Common.{◌∙◌, ◌↔◌, sym, subst, arith, [], length, Contains, ◌≤◌}
+use Rattle.std.proofs.Common.{◌∙◌, sym, subst, []}
 use Rattle.cdc_model.specs.Tables.{ShowsNet}
 use Rattle.handshake.specs.Pairs.{IsPairFrom}
 use Rattle.handshake.proofs.Pairs.{one_below_more, pairs_all, both_iff, few_entries, in_none}
