@@ -1,8 +1,6 @@
 -- The choices on the way to what a register bit takes.
 use Rattle.std.proofs.Common.{◌≡◌, ◌≢◌, ◌∙◌, sym, ap, ap₂, refl, subst, inl, inr, arith, ℕ, ◌+◌, ◌<◌, ◌≤◌, Bool, true, false}
 use Rattle.std.proofs.Common.{length, Option, Some, None, option_map, List, ◌++◌, [], ◌∷◌, get_or, take}
-use Rattle.std.specs.Cmp.Lexicographic.{pointwise}
-use Rattle.std.proofs.lemmas.Bool.{and_parts}
 use Rattle.std.proofs.lemmas.List.{append_assoc, append-nil, take_more}
 use Rattle.std.proofs.lemmas.List.Elements.{Contains-push_cases}
 use Rattle.cdc_model.proofs.Ascending.{nothing_in}
@@ -24,7 +22,6 @@ use Rattle.fifo_terms.specs.Takes.{always, and_under, by_own, is_own, taken}
 use Rattle.fifo_terms.specs.Terms.{Term, terms, moved_up, moved_down}
 use Rattle.gray_pointer.proofs.Trees.{tree_there, is_cell}
 use Rattle.gray_pointer.specs.Words.{IsIn}
-use Rattle.fifo_nodes.specs.contracts.search.AskedPartialEq.TheImpl as equality
 use Rattle.fifo_nodes.specs.declared.search.Asked.{Asked}
 use Rattle.fifo_nodes.specs.declared.takes.Way.{Way}
 use Rattle.fifo_nodes.specs.declared.term.Term.{Term as Found}
@@ -33,7 +30,6 @@ use Rattle.fifo_nodes.specs.Searches.{Searched, asked_terms, Covers}
 use Rattle.fifo_nodes.specs.Takes.{AreAskedIn, condition_terms, IsTaken, IsWay, IsFollowed, taken_bit, way_by}
 use Rattle.fifo_nodes.specs.Terms.{terms_at, AreTerms}
 use Rattle.fifo_nodes.proofs.Origins.{none_of, origin_stops, taken_origin}
-use Rattle.fifo_nodes.proofs.Asking.{same_asked}
 use Rattle.fifo_nodes.proofs.Searches.{covers_then}
 
 -- an origin is its own, or the zero bit
@@ -123,15 +119,6 @@ pub condition_asked : (g : Cells) (n : ℕ) (qs : List Asked) (i : ℕ) (d : Ask
 condition_asked g n qs i d l old mid new so more =
     subst (λ ts. Covers g n ts old new) (sym (ap (condition_terms g) (take_more qs i d l) ∙ one_more g (take i qs) (get_or qs i d)))
     (covers_then g n (condition_terms g (take i qs)) (asked_terms g (get_or qs i d)) old mid new so more)
-
--- equal lists of conditions are one
-pub same_conditions : (xs ys : List Asked) → pointwise equality.ghosts.eq xs ys ≡ true → xs ≡ ys
-same_conditions [] [] h = refl
-same_conditions [] (y ∷ ys) h = cc
-same_conditions (x ∷ xs) [] h = cc
-same_conditions (x ∷ xs) (y ∷ ys) h =
-    let both = and_parts (equality.ghosts.eq x y) (pointwise equality.ghosts.eq xs ys) h in
-    ap₂ (λ (z : Asked) (zs : List Asked). z ∷ zs) (same_asked x y both.0) (same_conditions xs ys both.1)
 
 -- ---- the walk over choices
 

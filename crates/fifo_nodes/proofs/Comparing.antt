@@ -35,20 +35,20 @@ module _ (k : Code) (over : List TreeBit) (apart : ℕ → ℕ → Bool) where
     abbrev pub IsNoTest : Term → Type 0
     IsNoTest t = IsTest k over apart (term_of g t) → ⊥
 
-    module _ (ts : List rules.Term) (found : List Term) (are : AreTerms g ts found) where
-      pub each_said : All Says found → (t : rules.Term) → Contains ts t → IsSaid k over apart t
-      each_said all t h = let (u, i, e) = from_map (term_of g) found t (are.all t h) in
-          subst (IsSaid k over apart) e (All-contains Says found u all i)
+  module _ {g : Cells} {ts : List rules.Term} {found : List Term} (are : AreTerms g ts found) where
+    pub each_said : All (Says g) found → (t : rules.Term) → Contains ts t → IsSaid k over apart t
+    each_said all t h = let (u, i, e) = from_map (term_of g) found t (are.all t h) in
+        subst (IsSaid k over apart) e (All-contains (Says g) found u all i)
 
-      pub said_each : ((t : rules.Term) → Contains ts t → IsSaid k over apart t) → (t : Term) → Contains found t → Says t
-      said_each h t i = h (term_of g t) (are.only (term_of g t) (in_map (term_of g) found t i))
+    pub said_each : ((t : rules.Term) → Contains ts t → IsSaid k over apart t) → (t : Term) → Contains found t → Says g t
+    said_each h t i = h (term_of g t) (are.only (term_of g t) (in_map (term_of g) found t i))
 
-      pub some_test : (t : Term) → Contains found t → IsTest k over apart (term_of g t) → (u : rules.Term) × Contains ts u × IsTest k over apart u
-      some_test t i h = (term_of g t, are.only (term_of g t) (in_map (term_of g) found t i), h)
+    pub some_test : (t : Term) → Contains found t → IsTest k over apart (term_of g t) → (u : rules.Term) × Contains ts u × IsTest k over apart u
+    some_test t i h = (term_of g t, are.only (term_of g t) (in_map (term_of g) found t i), h)
 
-      pub no_test : All IsNoTest found → (u : rules.Term) × Contains ts u × IsTest k over apart u → ⊥
-      no_test none (u, i, h) = let (t, l, e) = from_map (term_of g) found u (are.all u i) in
-          All-contains IsNoTest found t none l (subst (IsTest k over apart) (sym e) h)
+    pub no_test : All (IsNoTest g) found → (u : rules.Term) × Contains ts u × IsTest k over apart u → ⊥
+    no_test none (u, i, h) = let (t, l, e) = from_map (term_of g) found u (are.all u i) in
+        All-contains (IsNoTest g) found t none l (subst (IsTest k over apart) (sym e) h)
 
   -- ---- tests
 

@@ -1,5 +1,5 @@
-//! Copies of lists.
-ghost use Rattle.std.specs.Prelude.{◌≡◌, IfOk};
+//! Lists that are copied or compared.
+ghost use Rattle.std.specs.Prelude.{◌≡◌, true, IfOk};
 
 use cdc_base::{List, NoMemory};
 use std::alloc::Global;
@@ -12,4 +12,12 @@ pub fn copied<T: Copy + Drop>(alloc: Global, items: &[T]) -> Result<List<T>, NoM
         Ok(copies) => Ok(List::from_vec(copies)),
         Err(_) => Err(NoMemory),
     }
+}
+
+/// Whether both lists have the same items.
+pub fn are_equal<T: PartialEq>(one: &[T], another: &[T]) -> bool
+    requires { (a b : T) → T.eq a b ≡ true → a ≡ b }
+    ensures { result ≡ true → one.now ≡ another.now }
+{
+    one == another
 }

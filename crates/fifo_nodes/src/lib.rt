@@ -14,7 +14,7 @@ pub mod term;
 pub mod walk;
 
 pub use codes::{Code, Moment, is_code_bit};
-pub use copies::copied;
+pub use copies::{are_equal, copied};
 pub use counts::counted;
 pub use inversions::{Bare, bare_node};
 pub use shows::{Apart, is_flag_test, is_test};

@@ -10,7 +10,7 @@ ghost use Rattle.fifo_nodes.specs.Takes.{AreAskedIn, HaveTerms, condition_terms,
 ghost use Rattle.fifo_nodes.specs.Terms.{AreTerms};
 
 use crate::bits::is_bit;
-use crate::copies::copied;
+use crate::copies::{are_equal, copied};
 use crate::search::{Asked, Search};
 use crate::term::Term;
 use crate::walk::found_terms;
@@ -56,19 +56,13 @@ impl Conditions {
         ensures { IfOk result (λ _. IsPlain net.now.graph → ShowsNet net.now [] table.now → AreAskedIn net.now.graph conditions → HaveTerms net.now.graph self.old →
             HaveTerms net.now.graph self.new × (self.new.conditions ≡ conditions)) }
     {
-        if are_same(self.conditions.as_slice(), conditions.as_slice()) {
+        if are_equal(self.conditions.as_slice(), conditions.as_slice()) {
             return Ok(());
         }
         self.terms = terms_of(alloc, net, table, conditions.as_slice())?;
         self.conditions = conditions;
         Ok(())
     }
-}
-
-fn are_same(one: &[Asked], another: &[Asked]) -> bool
-    ensures { result ≡ true → one.now ≡ another.now }
-{
-    one == another
 }
 
 /// The terms under which all of these nodes have their values.

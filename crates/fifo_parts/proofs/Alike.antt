@@ -1,8 +1,6 @@
 -- Register bits of one signal that take their nodes under the same terms are word bits for the same words.
-use Rattle.std.proofs.Common.{rules, ◌≡◌, ◌∙◌, sym, ap, ap₂, subst, refl, ℕ, true, Option, Some, None, option_map, List, [], ◌∷◌, Contains}
-use Rattle.std.specs.Cmp.Lexicographic.{pointwise}
+use Rattle.std.proofs.Common.{rules, ◌≡◌, ◌∙◌, sym, ap, subst, ℕ, true, Option, Some, None, option_map, List, Contains}
 use Rattle.std.specs.Cmp.Rules.{comparing}
-use Rattle.std.proofs.lemmas.Bool.{and_parts}
 use Rattle.cdc_base.specs.declared.bit.Bit.{Bit}
 use Rattle.cell_graph.specs.declared.net.Net.{Net}
 use Rattle.cell_graph.specs.Origin.{TreeBit}
@@ -59,14 +57,5 @@ alike_word net table shown domains write read s t is_s is_t sig under (Some n) h
     (h.0, same_word net table shown domains s t is_s is_t sig under write read n (option_map (bit_of net.graph) s.taken.node) h.1)
 
 -- equal terms are one
-same_term : (s t : Term) → equality.ghosts.eq s t ≡ true → s ≡ t
+pub same_term : (s t : Term) → equality.ghosts.eq s t ≡ true → s ≡ t
 same_term s t h = search (comparing, rules)
-
--- equal lists of terms are one
-pub same_terms : (xs ys : List Term) → pointwise equality.ghosts.eq xs ys ≡ true → xs ≡ ys
-same_terms [] [] h = refl
-same_terms [] (y ∷ ys) h = cc
-same_terms (x ∷ xs) [] h = cc
-same_terms (x ∷ xs) (y ∷ ys) h =
-    let both = and_parts (equality.ghosts.eq x y) (pointwise equality.ghosts.eq xs ys) h in
-    ap₂ (λ (z : Term) (zs : List Term). z ∷ zs) (same_term x y both.0) (same_terms xs ys both.1)

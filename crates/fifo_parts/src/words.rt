@@ -18,7 +18,7 @@ use cdc_base::{Bit, List, NoMemory};
 use cdc_model::view::{has_bit, next_node, register_bits};
 use cell_graph::{Net, Node};
 use cofactor::Table;
-use fifo_nodes::{Conditions, Taken, Term, has_term, taken_by};
+use fifo_nodes::{Conditions, Taken, Term, are_equal, has_term, taken_by};
 use std::alloc::Global;
 
 /// A register bit, and the node that it takes under terms.
@@ -211,13 +211,7 @@ pub fn are_alike(one: &Taking, another: &Taking) -> bool
     ensures { result ≡ true → (one.now.bit.sig ≡ another.now.bit.sig) × (one.now.taken.under ≡ another.now.taken.under) }
 {
     one.bit.sig == another.bit.sig
-        && are_same(one.taken.under.as_slice(), another.taken.under.as_slice())
-}
-
-fn are_same(one: &[Term], another: &[Term]) -> bool
-    ensures { result ≡ true → one.now ≡ another.now }
-{
-    one == another
+        && are_equal(one.taken.under.as_slice(), another.taken.under.as_slice())
 }
 
 /// The counts of which the terms say that bit 0 has a value.

@@ -47,6 +47,7 @@ use fifo_parts::pair::{Pair, Shown, Teller, is_register_on};
 use fifo_parts::side::Side;
 use fifo_parts::words::{Taking, are_alike, is_word_bit, word_of};
 use fifo_ways::{Guard, Sought, guards, leads, passes};
+use gray_pointer::word::are_same;
 use std::alloc::Global;
 use std::collections::{BTreeMap, HashMap, HashSet};
 
@@ -408,12 +409,6 @@ fn is_number(numbers: &HashMap<Bit, u64>, bit: Bit, word: u64) -> bool
         Some(number) => *number == word,
         None => false,
     }
-}
-
-fn are_same(one: Option<Node>, another: Option<Node>) -> bool
-    ensures { (result ≡ true) ↔ (one ≡ another) }
-{
-    one == another
 }
 
 /// The places of the register bits that may be readers: those on the clock of the side that reads which are no plain

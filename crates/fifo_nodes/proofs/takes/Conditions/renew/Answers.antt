@@ -2,10 +2,14 @@
 use Rattle.std.proofs.Common.{◌∙◌, sym, refl, subst}
 use Rattle.fifo_nodes.specs.Takes.{AreAskedIn, condition_terms}
 use Rattle.fifo_nodes.specs.Terms.{AreTerms}
+use Rattle.fifo_nodes.proofs.Asking.{same_asked}
 use Rattle.fifo_nodes.proofs.takes.Conditions.renew.Goals as goal
 
-pub returns-then-are_same : goal.returns-then-are_same
-returns-then-are_same c = λ plain shown within are. (are, sym c.as_slice.ensures ∙ c.are_same.ensures c.if-are_same.true ∙ c.as_slice-2.ensures)
+pub are_equal-requires : goal.are_equal-requires
+are_equal-requires c = same_asked
+
+pub returns-then-are_equal : goal.returns-then-are_equal
+returns-then-are_equal c = λ plain shown within are. (are, sym c.as_slice.ensures ∙ c.are_equal.ensures c.if-are_equal.true ∙ c.as_slice-2.ensures)
 
 pub returns : goal.returns
 returns c = λ plain shown within are.
