@@ -31,8 +31,8 @@ number_of_some : (b : Bool) (n k : ℕ) → cond b (Some n) None ≡ Some k → 
 number_of_some true n k e = cc
 number_of_some false n k e = cc
 
-module _ (net : Net) (domains : Domains) (table : Rows) (shown : IsShown net table) (p : Pair) (write read : Side)
-    (is : IsPair net domains p write read) (t : Taking) (is_taking : IsTaking net t) where
+module _ {net : Net} {domains : Domains} {table : Rows} {p : Pair} {write read : Side} (shown : IsShown net table) (is : IsPair net domains p write read)
+    (t : Taking) (is_taking : IsTaking net t) where
   abbrev count : ℕ
   count = p.write.side.now.reg.count
 

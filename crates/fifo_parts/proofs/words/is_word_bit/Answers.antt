@@ -20,8 +20,7 @@ returns-then-not-says_all c = λ write read shown is takes l.
     let side = c.args.pair.now.write.side.now in (
       λ e. cc,
       λ h.
-          let said = all_said net c.args.shown.domains.now c.args.shown.table.now shown c.args.pair.now write read is c.args.taking.now takes
-          c.args.word _ h in
+          let said = all_said shown is c.args.taking.now takes c.args.word _ h in
           let t : true ≡ false = sym said ∙ ap (λ ts. says_all net.graph side.reg.count side.width ts c.args.word) (sym c.as_slice-terms.ensures)
           ∙ sym c.says_all.ensures ∙ c.if-not-says_all.true in
           cc,
@@ -30,15 +29,14 @@ returns-then-not-says_all c = λ write read shown is takes l.
 pub returns-then-not-are_allowed : goal.returns-then-not-are_allowed
 returns-then-not-are_allowed c = λ write read shown is takes l.
     let net = c.args.shown.net.now in
-    let domains = c.args.shown.domains.now in
     let side = c.args.pair.now.write.side.now in
     let t = c.args.taking.now in
-    let within = found_within net domains c.args.shown.table.now shown c.args.pair.now write read is t takes in
-    let pushed = pushed_within net domains c.args.shown.table.now shown c.args.pair.now write read is t takes in
-    let p = plain net domains c.args.shown.table.now shown c.args.pair.now write read is t takes in (
+    let within = found_within shown is t takes in
+    let pushed = pushed_within shown is t takes in
+    let p = plain shown is t takes in (
       λ e. cc,
       λ h.
-          let allowed = all_allowed net domains c.args.shown.table.now shown c.args.pair.now write read is t takes c.args.word _ h in
+          let allowed = all_allowed shown is t takes c.args.word _ h in
           let k : true ≡ false = sym ((c.are_allowed.ensures p (subst (AreTermsIn net.graph) (sym c.as_slice-terms.ensures) within) pushed).1
           (subst (AreAllowed net.graph side.reg.count side.width c.args.word side.under) (sym c.as_slice-terms.ensures) allowed))
           ∙ c.if-not-are_allowed.true in
@@ -48,18 +46,15 @@ returns-then-not-are_allowed c = λ write read shown is takes l.
 pub returns : goal.returns
 returns c = λ write read shown is takes l.
     let net = c.args.shown.net.now in
-    let domains = c.args.shown.domains.now in
-    let table = c.args.shown.table.now in
-    let pair = c.args.pair.now in
-    let side = pair.write.side.now in
+    let side = c.args.pair.now.write.side.now in
     let t = c.args.taking.now in
-    let within = found_within net domains table shown pair write read is t takes in
-    let pushed = pushed_within net domains table shown pair write read is t takes in
-    let full = full_in net domains table shown pair write read is t takes in
-    let p = plain net domains table shown pair write read is t takes in
+    let within = found_within shown is t takes in
+    let pushed = pushed_within shown is t takes in
+    let full = full_in shown is t takes in
+    let p = plain shown is t takes in
     let terms = subst (AreTermsIn net.graph) (sym c.as_slice-terms.ensures) within in
     let common = c.has_one_of.ensures net.graph p terms (subst (AreTermsIn net.graph) (sym c.as_slice.ensures) full) in (
-      λ e. word_bit_is net domains table shown pair write read is t takes c.args.word (sym c.clock_of.ensures
+      λ e. word_bit_is shown is t takes c.args.word (sym c.clock_of.ensures
           ∙ one_number c.clock_of.result side.clock (sym c.ne.ensures ∙ c.if-ne.false))
           (ap (λ xs. says_all net.graph side.reg.count side.width xs c.args.word) (sym c.as_slice-terms.ensures) ∙ sym c.says_all.ensures
           ∙ c.if-not-says_all.false)
@@ -69,5 +64,5 @@ returns c = λ write read shown is takes l.
           c.as_slice-terms.ensures (common.0 e))),
       λ h. common.1 (subst (λ xs. HaveCommon net.graph xs c.as_slice.result.now) (sym c.as_slice-terms.ensures)
           (subst (HaveCommon net.graph t.taken.under) (sym c.as_slice.ensures)
-          (have_common net domains table shown pair write read is t takes c.args.word _ h))),
+          (have_common shown is t takes c.args.word _ h))),
     )
