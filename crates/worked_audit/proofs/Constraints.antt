@@ -2,8 +2,8 @@
 use Rattle.std.proofs.Common.{refl}
 use Rattle.sdc_subset.specs.Commands.{is_passed_over}
 use Rattle.sdc_subset.specs.Forms.{kind_of}
-use Rattle.worked_audit.specs.Laws.{SdcSays}
+use Rattle.worked_audit.specs.Laws.{ConstraintsAreSaid}
 
-pub sdc_says : SdcSays
+pub constraints_are_said : ConstraintsAreSaid
 unfolding is_passed_over kind_of
-sdc_says = refl
+constraints_are_said = refl
