@@ -15,7 +15,7 @@ use Rattle.described_design.specs.Described.{ReadsAs}
 use Rattle.described_design.specs.Designs.{IsDesignOf}
 use Rattle.described_design.specs.SameConstraints.{HaveSameConstraints}
 use Rattle.described_design.proofs.SameConstraints.{same_design, same_refusal}
-use Rattle.audit_command.specs.Audits.{IsAuditOf}
+use Rattle.audit_command.specs.Audits.{AreTextsJudged, IsAuditOf}
 use Rattle.audit_command.specs.Refused.{IsAuditRefused, texts, verdict}
 use Rattle.campaign_command.specs.Campaigns.{IsCampaignOf}
 use Rattle.campaign_command.specs.Refused.{IsCampaignRefused}
@@ -49,18 +49,24 @@ module _ (net word con other_word other_con : List ℕ) (also : HaveSameConstrai
     design = d.design;
   }
 
+  -- and so is the verdict on it
+  abbrev same_judged : AreTextsJudged word net con → AreTextsJudged other_word net other_con
+  same_judged j = record {
+    constraints = j.constraints;
+    net = j.net;
+    domains = j.domains;
+    design = same j.constraints j.net j.domains j.design;
+    meaning = j.meaning;
+    listed = j.listed;
+    fifos = j.fifos;
+    are_fifos = j.are_fifos;
+    is_verdict = j.is_verdict;
+    exact = j.exact;
+  }
+
   pub same_audit : (json : Bool) (status : Status) (text : List ℕ) → IsAuditOf json word net con status text → IsAuditOf json other_word net other_con status text
   same_audit json status text a = record {
-    constraints = a.constraints;
-    net = a.net;
-    domains = a.domains;
-    design = same a.constraints a.net a.domains a.design;
-    meaning = a.meaning;
-    listed = a.listed;
-    fifos = a.fifos;
-    are_fifos = a.are_fifos;
-    is_verdict = a.is_verdict;
-    exact = a.exact;
+    judged = same_judged a.judged;
     told = a.told;
     in_order = a.in_order;
     aside = a.aside;
@@ -79,22 +85,7 @@ module _ (net word con other_word other_con : List ℕ) (also : HaveSameConstrai
   }
 
   pub same_certify : (status : Status) (text : List ℕ) → IsCertifyOf word net con status text → IsCertifyOf other_word net other_con status text
-  same_certify status text a = record {
-    constraints = a.constraints;
-    net = a.net;
-    domains = a.domains;
-    design = same a.constraints a.net a.domains a.design;
-    meaning = a.meaning;
-    listed = a.listed;
-    fifos = a.fifos;
-    are_fifos = a.are_fifos;
-    is_verdict = a.is_verdict;
-    exact = a.exact;
-    clean = a.clean;
-    certifies = a.certifies;
-    status_is = a.status_is;
-    answer_is = a.answer_is;
-  }
+  same_certify status text a = record { judged = same_judged a.judged; clean = a.clean; certifies = a.certifies; status_is = a.status_is; answer_is = a.answer_is }
 
   pub same_check : (cert : List ℕ) (status : Status) (text : List ℕ) → IsCheckOf word net con cert status text
       → IsCheckOf other_word net other_con cert status text

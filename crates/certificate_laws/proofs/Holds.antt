@@ -1,6 +1,5 @@
 -- What was written as a certificate is read, and certifies each net of the design.
-use Rattle.std.proofs.Common.{◌≡◌, ◌∙◌, refl, sym, ap, subst, ℕ, ◌==◌, Bool, true, false, List, [], ◌∷◌, map, length, Ok, Err, eqb-true}
-use Rattle.std.specs.Prelude.{if◌then◌else◌}
+use Rattle.std.proofs.Common.{◌≡◌, ◌∙◌, refl, sym, ap, subst, ℕ, List, [], ◌∷◌, map, Ok, Err}
 use Rattle.std.proofs.Math.Path.{fun_ext}
 use Rattle.cdc_base.specs.declared.fault.Fault.{Fault}
 use Rattle.cdc_base.specs.declared.signal.Signal.{Signal}
@@ -12,7 +11,6 @@ use Rattle.obligations.specs.Judged.{CanAudit}
 use Rattle.flat_meaning.specs.Trees.{Selects}
 use Rattle.flat_model.specs.Laws.{IsNetOf}
 use Rattle.flat_model.proofs.Fields.{next_trees}
-use Rattle.fifo_scheme.proofs.Items.{empty_of}
 use Rattle.cert_text.specs.declared.certificate.Certificate.{Certificate}
 use Rattle.cert_text.specs.Read.{certificate_in}
 use Rattle.cert_text.specs.Texts.{certificate_text}
@@ -22,24 +20,17 @@ use Rattle.cert_text.proofs.Written.{written_is_read}
 use Rattle.cert_check.specs.OnNets.{IsCertifiedOn}
 use Rattle.cert_check.specs.Promised.{plain_load}
 use Rattle.command_files.specs.declared.status.Status.{Status}
-use Rattle.command_files.specs.declared.status.Status.TheVariants.{Done, Violations}
+use Rattle.command_files.specs.declared.status.Status.TheVariants.{Done}
 use Rattle.described_design.specs.Designs.{IsDesignOf}
 use Rattle.described_design.proofs.Once.{both_nets, one_design, one_shape}
-use Rattle.certify_command.specs.Certifies.{IsCertifyOf, ListsAllOf, certified_status}
+use Rattle.certify_command.specs.Certifies.{IsCertifyOf, ListsAllOf}
+use Rattle.certify_command.proofs.Certifies.{done_clean}
 use Rattle.check_command.specs.Checks.{IsCheckOf}
 use Rattle.check_command.specs.Refused.{IsBrokenCertificate}
 use Rattle.certificate_laws.specs.Laws.{CertifiedHolds, IsCertificateOf}
 use Rattle.certificate_laws.proofs.Found.{all-found, registers-small}
 use Rattle.certificate_laws.proofs.Listed.{can-write}
 use Rattle.certificate_laws.proofs.Others.{AreOfOneDesign, HasEntries, certified-there}
-
--- a status of 0 tells that there is no finding
-none-by-status : (n : ℕ) → certified_status n ≡ Done → n ≡ 0
-none-by-status n e = go (n == 0) refl e
-  where
-    go : (v : Bool) → (n == 0) ≡ v → (if v then Done else Violations) ≡ Done → n ≡ 0
-    go true h f = eqb-true n 0 h
-    go false h f = cc
 
 plain-twice : (ls : List Load) → map plain_load (map written.plain_load ls) ≡ map plain_load ls
 plain-twice [] = refl
@@ -49,24 +40,24 @@ audited : (net : Net) (domains : Domains) → CanAudit net domains → HasEntrie
 audited net domains can = record { plain = record { well = can.is_net.graph; shared = can.is_shared }; has_next = can.has_next }
 
 module _ (word text con : List ℕ) (status : Status) (answer : List ℕ) (is : IsCertifyOf word text con status answer) (done : status ≡ Done) where
-  none : is.listed.findings ≡ []
-  none = empty_of is.listed.findings (none-by-status (length is.listed.findings) (sym is.status_is ∙ done))
+  none : is.judged.listed.findings ≡ []
+  none = done_clean is.judged.listed.findings (sym is.status_is ∙ done)
 
   abbrev certificate : Certificate
   certificate = (is.answer_is.written none).0
 
-  lists : ListsAllOf is.net is.domains is.fifos is.listed is.is_verdict certificate
+  lists : ListsAllOf is.judged.net is.judged.domains is.judged.fifos is.judged.listed is.judged.is_verdict certificate
   lists = (is.answer_is.written none).1
 
-  text-is : answer ≡ certificate_text is.net.graph.signals certificate
+  text-is : answer ≡ certificate_text is.judged.net.graph.signals certificate
   text-is = (is.answer_is.written none).2
 
-  can : CanWrite is.net.graph.signals certificate
-  can = can-write is.net is.domains is.design.design.can.fit (all-found word text con is.constraints is.net is.domains is.design)
-      (registers-small word text con is.constraints is.net is.domains is.design) is.fifos is.listed is.is_verdict is.are_fifos none certificate lists
+  can : CanWrite is.judged.net.graph.signals certificate
+  can = can-write is.judged.net is.judged.domains is.judged.design.design.can.fit (all-found word text con is.judged.constraints is.judged.net is.judged.domains is.judged.design)
+      (registers-small word text con is.judged.constraints is.judged.net is.judged.domains is.judged.design) is.judged.fifos is.judged.listed is.judged.is_verdict is.judged.are_fifos none certificate lists
 
   -- what the text tells lists all as well
-  plainly : ListsAllOf is.net is.domains is.fifos is.listed is.is_verdict (plain certificate)
+  plainly : ListsAllOf is.judged.net is.judged.domains is.judged.fifos is.judged.listed is.judged.is_verdict (plain certificate)
   plainly = record {
     syncs_listed = lists.syncs_listed;
     grays_listed = lists.grays_listed;
@@ -76,26 +67,26 @@ module _ (word text con : List ℕ) (status : Status) (answer : List ℕ) (is : 
   }
 
   module _ (c : Constraints) (net : Net) (domains : Domains) (design : IsDesignOf word text con c net domains) where
-    both : (sel : Selects) × IsNetOf is.design.of_modules.flat sel is.constraints is.net is.domains × IsNetOf is.design.of_modules.flat sel is.constraints net domains
-    both = both_nets word text con is.constraints c is.net net is.domains domains is.design design
+    both : (sel : Selects) × IsNetOf is.judged.design.of_modules.flat sel is.judged.constraints is.judged.net is.judged.domains × IsNetOf is.judged.design.of_modules.flat sel is.judged.constraints net domains
+    both = both_nets word text con is.judged.constraints c is.judged.net net is.judged.domains domains is.judged.design design
 
-    same-signals : is.net.graph.signals ≡ net.graph.signals
+    same-signals : is.judged.net.graph.signals ≡ net.graph.signals
     same-signals = both.1.signals ∙ sym both.2.signals
 
     reads : certificate_in net.graph.signals answer ≡ Ok (plain certificate)
-    reads = ap (λ (ss : List Signal). certificate_in ss answer) (sym same-signals) ∙ ap (certificate_in is.net.graph.signals) text-is
-        ∙ written_is_read is.net.graph.signals certificate can
+    reads = ap (λ (ss : List Signal). certificate_in ss answer) (sym same-signals) ∙ ap (certificate_in is.judged.net.graph.signals) text-is
+        ∙ written_is_read is.judged.net.graph.signals certificate can
 
-    of-one-design : AreOfOneDesign is.net net is.domains domains
+    of-one-design : AreOfOneDesign is.judged.net net is.judged.domains domains
     of-one-design = record {
-      design = one_design is.design.of_modules.flat both.0 is.constraints is.net net is.domains domains both.1 both.2;
-      trees = fun_ext (λ (sig : ℕ). next_trees is.design.of_modules.flat both.0 is.constraints is.net is.domains both.1 sig
-          ∙ sym (next_trees is.design.of_modules.flat both.0 is.constraints net domains both.2 sig));
-      shape = one_shape is.design.of_modules.flat both.0 is.constraints is.net net is.domains domains both.1 both.2;
+      design = one_design is.judged.design.of_modules.flat both.0 is.judged.constraints is.judged.net net is.judged.domains domains both.1 both.2;
+      trees = fun_ext (λ (sig : ℕ). next_trees is.judged.design.of_modules.flat both.0 is.judged.constraints is.judged.net is.judged.domains both.1 sig
+          ∙ sym (next_trees is.judged.design.of_modules.flat both.0 is.judged.constraints net domains both.2 sig));
+      shape = one_shape is.judged.design.of_modules.flat both.0 is.judged.constraints is.judged.net net is.judged.domains domains both.1 both.2;
     }
 
     certified : IsCertifiedOn net domains (plain certificate)
-    certified = certified-there is.net net is.domains domains of-one-design (audited is.net is.domains is.design.design.can_audit) (audited net domains design.design.can_audit)
+    certified = certified-there is.judged.net net is.judged.domains domains of-one-design (audited is.judged.net is.judged.domains is.judged.design.design.can_audit) (audited net domains design.design.can_audit)
         (plain certificate) (is.certifies done (plain certificate) plainly)
 
     no-fault : (fault : Fault) (refusal : Status) → IsBrokenCertificate net answer fault refusal → ⊥

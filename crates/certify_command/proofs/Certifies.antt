@@ -1,5 +1,5 @@
 -- The certificate of a verdict without findings, and what is answered where there are some.
-use Rattle.std.proofs.Common.{◌≡◌, ◌∙◌, ℕ, ◌==◌, Bool, true, false, List, [], ◌∷◌, length, map, Result, Ok, Err, refl, sym, ap, subst, arith}
+use Rattle.std.proofs.Common.{◌≡◌, ◌∙◌, ℕ, ◌==◌, Bool, false, List, [], ◌∷◌, length, map, Result, refl, sym, ap, subst, arith}
 use Rattle.std.specs.Prelude.{IfErr, if◌then◌else◌}
 use Rattle.cell_graph.specs.declared.net.Net.{Net}
 use Rattle.clock_constraints.specs.declared.Constraints.{Constraints}
@@ -9,7 +9,6 @@ use Rattle.cdc_model.specs.declared.scheme.GrayReg.{GrayReg}
 use Rattle.cdc_model.specs.declared.scheme.Load.{Load}
 use Rattle.cdc_model.specs.declared.scheme.Ring.{Ring}
 use Rattle.cdc_model.specs.declared.verdict.Finding.{Finding}
-use Rattle.cdc_model.specs.declared.verdict.Verdict.{Verdict as VerdictEntry}
 use Rattle.cdc_model.specs.Found.{crossings_of}
 use Rattle.cdc_model.specs.Listed.{IsVerdictOf, sync_entry}
 use Rattle.cdc_model.specs.Nets.{design_of, net_trees}
@@ -20,10 +19,8 @@ use Rattle.cdc_model.specs.Verdict.{IsFirstLoad, crossing_key, load_key, ring_ke
 use Rattle.cdc_model.proofs.Found.{crossings_are_all, net_ascends}
 use Rattle.cdc_model.proofs.Ordered.{one_list}
 use Rattle.cdc_model.proofs.Synced.{syncs_are_all}
-use Rattle.fifo_scheme.specs.declared.found.Fifo.{Fifo as FifoEntry}
 use Rattle.fifo_scheme.specs.Entries.{IsListedFifo, fifo_key}
-use Rattle.flat_model.proofs.Meanings.{verdict_meaning}
-use Rattle.flat_model.proofs.NetDesign.{has_meaning}
+use Rattle.fifo_scheme.proofs.Items.{empty_of}
 use Rattle.mux_recirc.specs.Given.{AreGiven}
 use Rattle.net_verdict.specs.declared.Judged.{Judged}
 use Rattle.net_verdict.specs.Fifos.{is_of_fifo}
@@ -33,12 +30,12 @@ use Rattle.cert_text.specs.declared.certificate.Certificate.{Certificate}
 use Rattle.cert_text.specs.Texts.{certificate_text}
 use Rattle.cert_check.specs.Promised.{CleanIsCertified, plain_load}
 use Rattle.command_files.specs.declared.answer.Ending.{Ending}
-use Rattle.command_files.specs.declared.answer.Ending.TheVariants.{Refused, Memory}
 use Rattle.command_files.specs.declared.status.Status.{Status}
 use Rattle.command_files.specs.declared.status.Status.TheVariants.{Done, Violations}
 use Rattle.command_files.specs.Endings.{HasCause}
+use Rattle.command_files.proofs.Ended.{also}
 use Rattle.audit_command.specs.Refused.{AreTooMany}
-use Rattle.audit_command.proofs.Audits.{told_by}
+use Rattle.audit_command.proofs.Audits.{judged_texts, told_by}
 use Rattle.described_design.specs.Designs.{IsDesignOf}
 use Rattle.described_design.specs.Refused.{AreTextsRefused}
 use Rattle.described_design.proofs.Described.{net_of_design}
@@ -47,13 +44,8 @@ use Rattle.certify_command.specs.Refused.{IsCertifyRefused, crossings, texts}
 
 -- ---- findings
 
--- a list with no item is empty
-pub no_items : {A : Type 0} (xs : List A) → length xs ≡ 0 → xs ≡ []
-no_items [] e = refl
-no_items (x ∷ xs) e = absurd (omega (arith, e))
-
 -- only where nothing was found a certificate is written
-done_clean : (es : List Finding) → certified_status (length es) ≡ Done → es ≡ []
+pub done_clean : (es : List Finding) → certified_status (length es) ≡ Done → es ≡ []
 done_clean [] h = refl
 done_clean (e ∷ es) h = absurd (found (subst (λ (none : Bool). (if none then Done else Violations) ≡ Done) some h))
   where
@@ -108,7 +100,7 @@ module _ (net : Net) (domains : Domains) (can : CanAudit net domains) (j : Judge
       → IsTextOf net domains j is text
   text_written c text none lists told = record {
     written = λ _. (c, lists, told);
-    none = λ some. absurd (some (no_items j.verdict.findings none));
+    none = λ some. absurd (some (empty_of j.verdict.findings none));
   }
 
 -- ---- the texts
@@ -122,22 +114,11 @@ module _ (word text con : List ℕ) where
       let (sel, is_net) = net_of_design design.modules c net domains design.design design.of_modules in
       let can = design.design.can_audit in
       let is = judged can in
-      let extra = is_of_fifo is.fifos in
-      let w = is.on.exact in
       record {
-        constraints = c;
-        net = net;
-        domains = domains;
-        design = design;
-        meaning = has_meaning flat sel c net domains is_net;
-        listed = j.verdict;
-        fifos = is.fifos;
-        are_fifos = is.are_fifos;
-        is_verdict = w;
-        exact = verdict_meaning flat sel c net domains is_net extra j.verdict w;
-        clean = λ done. told_by flat sel c net domains is_net extra j.verdict is.on [] [] (done_clean j.verdict.findings (sym status ∙ done));
+        judged = judged_texts c net domains j design is;
+        clean = λ done. told_by flat sel c net domains is_net (is_of_fifo is.fifos) j.verdict is.on [] [] (done_clean j.verdict.findings (sym status ∙ done));
         certifies = λ done certificate lists.
-            law net domains is.fifos j.verdict w
+            law net domains is.fifos j.verdict is.on.exact
             (subst (λ (ss : List Sync). IsAll (IsListedFifo net domains ss j.verdict.grays) fifo_key is.fifos) (same_syncs net domains can j is) is.are_fifos)
             (done_clean j.verdict.findings (sym status ∙ done)) certificate lists;
         status_is = status;
@@ -146,12 +127,9 @@ module _ (word text con : List ℕ) where
 
   pub texts_refused : {T : Type 0} (r : Result T Ending) → IfErr r (HasCause (λ s f. AreTextsRefused word text con f s))
       → IfErr r (HasCause (λ s f. IsCertifyRefused word text con f s))
-  texts_refused (Ok v) h = tt
-  texts_refused (Err (Refused s f)) h = texts h
-  texts_refused (Err Memory) h = tt
+  texts_refused r h = also (λ s f. AreTextsRefused word text con f s) (λ s f. IsCertifyRefused word text con f s) r (λ s f x. texts x) h
 
   pub crossings_refused : {T : Type 0} (c : Constraints) (net : Net) (domains : Domains) → IsDesignOf word text con c net domains → (r : Result T Ending)
       → IfErr r (HasCause (λ s f. AreTooMany net domains f s)) → IfErr r (HasCause (λ s f. IsCertifyRefused word text con f s))
-  crossings_refused c net domains design (Ok v) h = tt
-  crossings_refused c net domains design (Err (Refused s f)) h = crossings c net domains design h
-  crossings_refused c net domains design (Err Memory) h = tt
+  crossings_refused c net domains design r h =
+      also (λ s f. AreTooMany net domains f s) (λ s f. IsCertifyRefused word text con f s) r (λ s f x. crossings c net domains design x) h

@@ -1,26 +1,21 @@
 -- What the writing of a certificate answers, by the verdict on the design that a netlist's text describes under constraints.
 use Rattle.std.specs.Prelude.{◌≡◌, ◌≢◌, ◌==◌, ℕ, List, [], ◌∷◌, ◌++◌, length, codes, if◌then◌else◌}
 use Rattle.std.specs.Fmt.{decimal}
-use Rattle.clock_constraints.specs.declared.Constraints.{Constraints}
 use Rattle.cell_graph.specs.declared.net.Net.{Net}
 use Rattle.domains.specs.declared.Domains.{Domains}
 use Rattle.cdc_model.specs.declared.verdict.Verdict.{Verdict as VerdictEntry}
-use Rattle.cdc_model.specs.Design.{Design}
 use Rattle.cdc_model.specs.Listed.{IsVerdictOf}
 use Rattle.fifo_scheme.specs.declared.found.Fifo.{Fifo as FifoEntry}
-use Rattle.flat_model.specs.Designs.{HasVerdict, IsMeaning}
 use Rattle.net_verdict.specs.declared.Judged.{Judged}
-use Rattle.net_verdict.specs.Fifos.{AreFifosOf, is_of_fifo}
+use Rattle.net_verdict.specs.Fifos.{is_of_fifo}
 use Rattle.net_verdict.specs.Judged.{IsJudged}
-use Rattle.report.specs.VerdictText.{ended}
 use Rattle.cert_text.specs.declared.certificate.Certificate.{Certificate}
 use Rattle.cert_text.specs.Texts.{certificate_text}
 use Rattle.cert_check.specs.OnNets.{IsCertifiedOn}
 use Rattle.cert_check.specs.Promised.{HasListed}
 use Rattle.command_files.specs.declared.status.Status.{Status}
 use Rattle.command_files.specs.declared.status.Status.TheVariants.{Done, Violations}
-use Rattle.audit_command.specs.Audits.{IsClean}
-use Rattle.described_design.specs.Designs.{IsDesignOf}
+use Rattle.audit_command.specs.Audits.{AreTextsJudged, IsClean}
 
 -- ---- texts
 
@@ -56,20 +51,10 @@ IsTextOf net domains judged is text = IsTextOfVerdict net domains is.fifos judge
 
 -- The certificate of the design which a netlist's bytes describe, under the constraints of a file with this word and these bytes, by the verdict of an audit.
 pub record IsCertifyOf (word text con : List ℕ) (status : Status) (answer : List ℕ) : Type 0 where
-  pub constraints : Constraints
-  pub net : Net
-  pub domains : Domains
-  pub design : IsDesignOf word text con constraints net domains
-  -- the flat design that the modules unfold to means something, and the verdict over all FIFOs is that of all that it means
-  pub meaning : (d : Design) × IsMeaning design.of_modules.flat constraints d
-  pub listed : VerdictEntry
-  pub fifos : List FifoEntry
-  pub are_fifos : AreFifosOf net domains listed.grays fifos
-  pub is_verdict : IsVerdictOf net domains (is_of_fifo fifos) listed
-  pub exact : (d : Design) (m : IsMeaning design.of_modules.flat constraints d) → HasVerdict design.of_modules.flat m.sel d (is_of_fifo fifos) is_verdict.verdict
+  pub judged : AreTextsJudged word text con
   -- only of a clean design a certificate is written, and what lists all of its schemes certifies it
-  pub clean : status ≡ Done → IsClean design.of_modules.flat constraints net domains (is_of_fifo fifos) listed is_verdict
-  pub certifies : status ≡ Done → (c : Certificate) → ListsAllOf net domains fifos listed is_verdict c → IsCertifiedOn net domains c
+  pub clean : status ≡ Done → IsClean judged.design.of_modules.flat judged.constraints judged.net judged.domains (is_of_fifo judged.fifos) judged.listed judged.is_verdict
+  pub certifies : status ≡ Done → (c : Certificate) → ListsAllOf judged.net judged.domains judged.fifos judged.listed judged.is_verdict c → IsCertifiedOn judged.net judged.domains c
   -- by the findings the status and the text are fixed
-  pub status_is : status ≡ certified_status (length listed.findings)
-  pub answer_is : IsTextOfVerdict net domains fifos listed is_verdict answer
+  pub status_is : status ≡ certified_status (length judged.listed.findings)
+  pub answer_is : IsTextOfVerdict judged.net judged.domains judged.fifos judged.listed judged.is_verdict answer

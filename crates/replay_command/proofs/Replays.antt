@@ -16,6 +16,7 @@ use Rattle.command_files.specs.declared.answer.Ending.TheVariants.{Refused, Memo
 use Rattle.command_files.specs.declared.status.Status.{Status}
 use Rattle.command_files.specs.declared.status.Status.TheVariants.{Record}
 use Rattle.command_files.specs.Endings.{HasCause, ended_with, ending_of}
+use Rattle.command_files.proofs.Ended.{also}
 use Rattle.described_design.specs.Designs.{CanReplay, IsDesignOf}
 use Rattle.described_design.specs.Refused.{AreTextsRefused}
 use Rattle.described_design.proofs.Opened.{can_open}
@@ -61,9 +62,7 @@ module _ (net : Net) (domains : Domains) (bytes : List ℕ) where
 module _ (word net con run : List ℕ) where
   pub texts_refused : {T : Type 0} (r : Result T Ending) → IfErr r (HasCause (λ s f. AreTextsRefused word net con f s))
       → IfErr r (HasCause (λ s f. IsReplayRefused word net con run f s))
-  texts_refused (Ok v) h = tt
-  texts_refused (Err (Refused s f)) h = texts h
-  texts_refused (Err Memory) h = tt
+  texts_refused r h = also (λ s f. AreTextsRefused word net con f s) (λ s f. IsReplayRefused word net con run f s) r (λ s f x. texts x) h
 
   -- a replay over the design of both files
   pub replayed_under : (c : Constraints) (made : Net) (domains : Domains) (answer : Result (List ℕ) Ending) → IsDesignOf word net con c made domains

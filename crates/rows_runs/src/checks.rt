@@ -6,7 +6,7 @@ use std::process::Abort;
 use std::test::Fail;
 
 /// The certificate of `FIFO`.
-const OF_FIFO: &str = "cdc certificate 1
+pub const OF_FIFO: &str = "cdc certificate 1
 sync rg[0] : r1[0] r2[0]
 sync rg[1] : r1[1] r2[1]
 sync rg[2] : r1[2] r2[2]
@@ -20,7 +20,7 @@ end
 ";
 
 /// The certificate of `HANDSHAKE`.
-const OF_HANDSHAKE: &str = "cdc certificate 1
+pub const OF_HANDSHAKE: &str = "cdc certificate 1
 sync s3 : k1 k2
 sync req : s1 s2
 ring req s1 s2 s3 k1 k2 end 2 ack 3

@@ -1,4 +1,5 @@
 //! Certificates as they are written.
+use crate::checks::{OF_FIFO, OF_HANDSHAKE};
 use crate::runs::{certified, checked};
 use row_designs::{
     FIFO, FIFO_CONSTRAINTS, FIFO_IN_MODULES, GRAY_COUNTER, HANDSHAKE, TWO_FLOPS, constraints,
@@ -30,33 +31,11 @@ fn schemes_in_their_orders(rt: HostRuntime) -> Result<(), Fail> {
     );
     let con = constraints(alloc, "send d")?;
     let answer = certified(alloc, HANDSHAKE, con.as_str())?;
-    assert_eq!(&rt;
-        answer.as_str(),
-        "cdc certificate 1
-sync s3 : k1 k2
-sync req : s1 s2
-ring req s1 s2 s3 k1 k2 end 2 ack 3
-load data[0] -> x[0] ring 1 gate 2
-load data[1] -> x[1] ring 1 gate 2
-end
-0"
-    );
+    let wanted = format!(in alloc; "{OF_HANDSHAKE}0")?;
+    assert_eq!(&rt; answer.as_str(), wanted.as_str());
     let answer = certified(alloc, FIFO, FIFO_CONSTRAINTS)?;
-    assert_eq!(&rt;
-        answer.as_str(),
-        "cdc certificate 1
-sync rg[0] : r1[0] r2[0]
-sync rg[1] : r1[1] r2[1]
-sync rg[2] : r1[2] r2[2]
-sync wg[0] : w1[0] w2[0]
-sync wg[1] : w1[1] w2[1]
-sync wg[2] : w1[2] w2[2]
-gray wg of wb G2
-gray rg of rb G2
-fifo wb rb
-end
-0"
-    );
+    let wanted = format!(in alloc; "{OF_FIFO}0")?;
+    assert_eq!(&rt; answer.as_str(), wanted.as_str());
     Ok(())
 }
 

@@ -1,6 +1,6 @@
 -- The audit of the generated design.
-use Rattle.std.proofs.Common.{◌≡◌, ◌∙◌, ℕ, ◌==◌, Bool, true, false, List, [], ◌∷◌, length, map, Option, None, Result, Ok, Err, refl, sym, ap, subst}
-use Rattle.std.specs.Prelude.{IfOk, IfErr, if◌then◌else◌}
+use Rattle.std.proofs.Common.{◌≡◌, ℕ, true, List, [], ◌∷◌, length, map, None, Result, Ok, Err, refl, sym, subst}
+use Rattle.std.specs.Prelude.{IfOk, IfErr}
 use Rattle.cdc_base.specs.declared.bit.Bit.{Bit}
 use Rattle.cdc_base.specs.declared.fault.Stop.{Stop}
 use Rattle.cell_graph.specs.declared.net.Net.{Net}
@@ -20,9 +20,9 @@ use Rattle.obligations.specs.Judged.{CanAudit}
 use Rattle.flat_unfolding.specs.Formed.{IsSourceFormed}
 use Rattle.verilog_reading.specs.SourceTree.{ModuleTree}
 use Rattle.command_files.specs.declared.answer.Ending.{Ending}
-use Rattle.command_files.specs.declared.answer.Ending.TheVariants.{Refused, Memory}
 use Rattle.command_files.specs.declared.status.Status.{Status}
 use Rattle.command_files.specs.Endings.{HasCause}
+use Rattle.command_files.proofs.Ended.{also}
 use Rattle.described_design.specs.Described.{IsNetOfModules, ReadsAs}
 use Rattle.described_design.specs.Designs.{IsDesign}
 use Rattle.described_design.specs.Refused.{IsDesignRefused, IsNetlistRefused}
@@ -50,9 +50,8 @@ on_design net domains can (Err s) exact sound together = tt
 module _ (channels : ℕ) where
   pub text_refused : {T : Type 0} (text : List ℕ) → text ≡ generated_text channels → (r : Result T Ending) → IfErr r (HasCause (λ s f. IsNetlistRefused text f s))
       → IfErr r (HasCause (λ s f. IsGeneratedRefused channels f s))
-  text_refused text is (Ok v) h = tt
-  text_refused text is (Err (Refused s f)) h = of_text (subst (λ (t : List ℕ). IsNetlistRefused t f s) is h)
-  text_refused text is (Err Memory) h = tt
+  text_refused text is r h =
+      also (λ s f. IsNetlistRefused text f s) (λ s f. IsGeneratedRefused channels f s) r (λ s f x. of_text (subst (λ (t : List ℕ). IsNetlistRefused t f s) is x)) h
 
   module _ (text : List ℕ) (is : text ≡ generated_text channels) (modules : List ModuleTree) (reads : ReadsAs text modules) (c : Constraints) (c_is : c ≡ generated_constraints) where
     reads_here : ReadsAs (generated_text channels) modules
@@ -63,9 +62,8 @@ module _ (channels : ℕ) where
 
     pub design_refused : {T : Type 0} (r : Result T Ending) → (IsSourceFormed modules → IfErr r (HasCause (λ s f. IsDesignRefused modules c f s)))
         → IfErr r (HasCause (λ s f. IsGeneratedRefused channels f s))
-    design_refused (Ok v) h = tt
-    design_refused (Err (Refused s f)) h = of_design modules reads_here (subst (λ (x : Constraints). IsDesignRefused modules x f s) c_is (h formed))
-    design_refused (Err Memory) h = tt
+    design_refused r h = also (λ s f. IsDesignRefused modules c f s) (λ s f. IsGeneratedRefused channels f s) r
+        (λ s f x. of_design modules reads_here (subst (λ (y : Constraints). IsDesignRefused modules y f s) c_is x)) (h formed)
 
     fits : AreFit c
     fits = subst (λ (x : Constraints). AreFit x) (sym c_is) generated_fit
@@ -81,15 +79,12 @@ module _ (channels : ℕ) where
     }
 
   pub generated_refused : {T : Type 0} (r : Result T Ending) → IfErr r (HasCause (λ s f. IsGeneratedRefused channels f s)) → IfErr r (HasCause (λ s f. IsSelftestRefused channels f s))
-  generated_refused (Ok v) h = tt
-  generated_refused (Err (Refused s f)) h = generation h
-  generated_refused (Err Memory) h = tt
+  generated_refused r h = also (λ s f. IsGeneratedRefused channels f s) (λ s f. IsSelftestRefused channels f s) r (λ s f x. generation x) h
 
   pub crossings_refused : {T : Type 0} (net : Net) (domains : Domains) → IsGenerated channels net domains → (r : Result T Ending)
       → IfErr r (HasCause (λ s f. AreTooMany net domains f s)) → IfErr r (HasCause (λ s f. IsSelftestRefused channels f s))
-  crossings_refused net domains made (Ok v) h = tt
-  crossings_refused net domains made (Err (Refused s f)) h = verdict net domains made h
-  crossings_refused net domains made (Err Memory) h = tt
+  crossings_refused net domains made r h =
+      also (λ s f. AreTooMany net domains f s) (λ s f. IsSelftestRefused channels f s) r (λ s f x. verdict net domains made x) h
 
   -- the counts of the verdict
   pub counted : (net : Net) (domains : Domains) (e : VerdictEntry) (s : Status) (answer : List ℕ) → IsGenerated channels net domains

@@ -1,4 +1,4 @@
-use Rattle.std.proofs.Common.{◌∙◌, ap, refl, rules}
+use Rattle.std.proofs.Common.{◌∙◌, ap, rules}
 use Rattle.std.specs.Prelude.{IfErr}
 use Rattle.command_files.specs.Endings.{HasCause}
 use Rattle.certify_command.specs.Certifies.{certified_status}

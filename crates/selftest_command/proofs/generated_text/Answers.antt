@@ -1,4 +1,4 @@
-use Rattle.std.proofs.Common.{◌≡◌, ◌∙◌, ap, List}
+use Rattle.std.proofs.Common.{◌∙◌, ap, List}
 use Rattle.verilog_parse.specs.Pieces.{source_pieces}
 use Rattle.verilog_parse.specs.Printed.{bytes_of}
 use Rattle.verilog_reading.specs.SourceTree.{ModuleTree}

@@ -1,4 +1,4 @@
-use Rattle.std.proofs.Common.{◌≡◌, ◌∙◌, ap, ℕ, rules}
+use Rattle.std.proofs.Common.{◌∙◌, ap, ℕ, rules}
 use Rattle.std.specs.Prelude.{IfErr}
 use Rattle.command_files.specs.Endings.{HasCause}
 use Rattle.selftest_command.specs.Counts.{counts_line}
