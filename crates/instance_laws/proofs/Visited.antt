@@ -17,8 +17,8 @@ use Rattle.flat_unfolding.specs.Instances.{override_rules, overrides_of, Link, c
 use Rattle.flat_unfolding.specs.Design.{Design, Stage, look_of}
 use Rattle.flat_unfolding.specs.Unfolding.{module_named, declared_value, instance_of, instance_item, item_of, item, header_values, with_resets, visit}
 use Rattle.flat_unfolding.specs.Laws.{Kept, kept, StandsBehind}
-use Rattle.flat_unfolding.proofs.Entries.{length_of_both}
 use Rattle.flat_unfolding.proofs.Visits.{numbers_law}
+use Rattle.reset_reads.proofs.Visited.{kept_count, behind_longer}
 use Rattle.instance_laws.specs.Moved.{moved_expr, moved_name}
 use Rattle.instance_laws.specs.Laws.{behind as design_behind}
 use Rattle.instance_laws.proofs.Looks.{declared_moved}
@@ -49,18 +49,9 @@ also_none names x y = go names
     go (p ∷ names) = one (bytes_eq p.0 y) p.1 (found_in (names ++ ((x, no_value) ∷ [])) y) (found_in names y) (go names)
 
 module _ (es fs : List Entry) (h : StandsBehind es fs) where
-  count_kept : (gs : List Entry) → length (map kept gs) ≡ length gs
-  count_kept [] = refl
-  count_kept (g ∷ gs) = ap suc (count_kept gs)
-
-  longer_behind : length es ≤ length fs
-  longer_behind =
-      let e : length (map kept fs) ≡ length (map kept es ++ h.0) = ap length h.1 in
-      let a = count_kept es in let c = count_kept fs in let d = length_of_both (map kept es) h.0 in omega (arith, a, c, d, e)
-
   width_behind : (i : ℕ) → i < length es → width_at fs i ≡ width_at es i
   width_behind i l =
-      sym (told fs i) ∙ ap (λ ks. width_in ks i) h.1 ∙ before (map kept es) i (let a = count_kept es in let m : i < length (map kept es) = omega (arith, a, l) in m) ∙ told es i
+      sym (told fs i) ∙ ap (λ ks. width_in ks i) h.1 ∙ before (map kept es) i (let a = kept_count es in let m : i < length (map kept es) = omega (arith, a, l) in m) ∙ told es i
     where
       width_in : List Kept → ℕ → ℕ
       width_in ks i = option_map_or (λ (q : Kept). width_of q.range) (slice_get ks i) 0
@@ -148,7 +139,7 @@ module _ (prefix : Text) (b : Design) (modules : List ModuleTree) where
         finished_later : (u : Stage) → its_visit inner s ≡ good u → IsPlain u → IsLater start (finished s u)
         finished_later u c q =
             let stand = numbers_law modules n (inside inner) (m.name ∷ visiting) m (overrides_of (look_of s) m params) links s.design u c in
-            let es = s.design.entries in let fs = u.design.entries in let more = longer_behind es fs stand in let first = h.longer in
+            let es = s.design.entries in let fs = u.design.entries in let more = behind_longer es fs stand in let first = h.longer in
             record {
               plain = record { pins = q.pins; unreset = q.unreset };
               names = λ y. also_none s.names x y ∙ h.names y;

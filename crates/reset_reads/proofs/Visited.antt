@@ -24,15 +24,15 @@ use Rattle.reset_reads.proofs.Stages.{IsSpareDesign, IsSpareStage, assign_next, 
 use Rattle.reset_reads.proofs.Declared.{are_held_on, IsBegun, parameter_begins, declarations_begin, resets_ready}
 use Rattle.reset_reads.proofs.Ports.{OpensSparely, links_spare, connected_opens}
 
+pub kept_count : (gs : List Entry) → length (map kept gs) ≡ length gs
+kept_count [] = refl
+kept_count (g ∷ gs) = ap suc (kept_count gs)
+
 -- signals that stand behind others are as many at least
-behind_longer : (es fs : List Entry) → StandsBehind es fs → length es ≤ length fs
+pub behind_longer : (es fs : List Entry) → StandsBehind es fs → length es ≤ length fs
 behind_longer es fs h =
     let e : length (map kept fs) ≡ length (map kept es ++ h.0) = ap length h.1 in
     let a = kept_count es in let b = kept_count fs in let c = length_of_both (map kept es) h.0 in omega (arith, a, b, c, e)
-  where
-    kept_count : (gs : List Entry) → length (map kept gs) ≡ length gs
-    kept_count [] = refl
-    kept_count (g ∷ gs) = ap suc (kept_count gs)
 
 module _ (resets : List ResetPin) (may : ℕ → Bool) (modules : List ModuleTree) where
   -- a visit keeps designs that spare resets, whatever keeps them is done to its ports

@@ -4,3 +4,4 @@ pub mod Signals
 pub mod Unfolded
 pub mod Net
 pub mod Crossing
+pub mod Audited

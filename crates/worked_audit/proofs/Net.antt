@@ -120,9 +120,6 @@ is_shared m n c e f = sym (place_is m c e) ∙ place_is n c f
 
 -- ---- start values: none is known
 
-low : (n w : ℕ) → n ≡ 0 → n < 2 ^ 1
-low n w e = omega arith
-
 narrow : AreStartsNarrow net
 narrow = record { known = start; start = start_value }
   where
@@ -203,9 +200,10 @@ pub are_domains : AreDomains plain.ghosts.reads net constraints domains
 are_domains = record {
   roles = roles;
   ports = refl;
-  registers = All-from_recursion (λ r. (k : ℕ) × HasClock plain.ghosts.reads graph roles r k) net.regs
-      ((0, (refl, reads_no_pin (cell 2) (λ i. refl) (λ i. refl))),
-      ((1, (refl, reads_no_pin (cell 3) (λ i. refl) (λ i. refl))), ((1, (refl, reads_no_pin (cell 4) (λ i. refl) (λ i. refl))), tt)));
+  registers = All-from_recursion (λ r. (k : ℕ) × HasClock plain.ghosts.reads graph roles r k) net.regs (
+    (0, (refl, reads_no_pin (cell 2) (λ i. refl) (λ i. refl))),
+    ((1, (refl, reads_no_pin (cell 3) (λ i. refl) (λ i. refl))), ((1, (refl, reads_no_pin (cell 4) (λ i. refl) (λ i. refl))), tt)),
+  );
   clocks = refl;
   groups = refl;
   group_by_clock = (refl, (refl, tt));
