@@ -9,5 +9,6 @@ pub mod Faults
 pub mod Counts
 pub mod Settles
 pub mod Steps
+pub mod Checked
 pub mod Kept
 pub mod Opened
