@@ -43,7 +43,14 @@ module _ (d : Design) (m : Moment) (u : Trial) (k : RecordStep) (held : Kept d m
   abbrev after : List ℕ
   after = tried_words net domains ticking m.words.items k.inputs k.races
 
-  -- the faults of racing bits that take bits which aren't loose
+  -- the first fault of an input, and of a race, whose clock isn't marked
+  abbrev input_fault : List Bool → Option model.StepFault
+  input_fault marked = first_fault (input_unmarked domains marked) k.inputs
+
+  abbrev clock_fault : List Bool → Option model.StepFault
+  clock_fault marked = first_fault (race_unmarked domains marked) k.races
+
+  -- and of a race that takes a bit which isn't loose
   abbrev loose_fault : List ℕ → Option model.StepFault
   loose_fault words = first_fault (race_fault_by (is_loose_in domains (copied_in d.cells.items d.copies) m.words.items m.cycles.items words)) k.races
 
@@ -54,22 +61,24 @@ module _ (d : Design) (m : Moment) (u : Trial) (k : RecordStep) (held : Kept d m
   refused : {r : Result ⊤ StepFault} {f : StepFault} → r ≡ Err f → step_fault (design_of net domains) (state_at (at_moment d m)) k ≡ Some (meant f) → Stays r
   refused is fault = subst Stays (sym is) fault
 
-  inputs-at : {ts : List Bool} {o : Option model.StepFault} → ts ≡ u.ticking.items → first_fault (input_unmarked domains ts) k.inputs ≡ o → first_fault (input_unmarked domains ticking) k.inputs ≡ o
-  inputs-at {o = o} is found = subst (λ (xs : List Bool). first_fault (input_unmarked domains xs) k.inputs ≡ o) (is ∙ marks) found
+  inputs-at : {ts : List Bool} {o : Option model.StepFault} → ts ≡ u.ticking.items → input_fault ts ≡ o → input_fault ticking ≡ o
+  inputs-at {o = o} is found = subst (λ (xs : List Bool). input_fault xs ≡ o) (is ∙ marks) found
 
-  races-at : {ts : List Bool} {o : Option model.StepFault} → ts ≡ u.ticking.items → first_fault (race_unmarked domains ts) k.races ≡ o → first_fault (race_unmarked domains ticking) k.races ≡ o
-  races-at {o = o} is found = subst (λ (xs : List Bool). first_fault (race_unmarked domains xs) k.races ≡ o) (is ∙ marks) found
+  races-at : {ts : List Bool} {o : Option model.StepFault} → ts ≡ u.ticking.items → clock_fault ts ≡ o → clock_fault ticking ≡ o
+  races-at {o = o} is found = subst (λ (xs : List Bool). clock_fault xs ≡ o) (is ∙ marks) found
 
-  pub input-refuses : {ts : List Bool} {r : Result ⊤ StepFault} {f : StepFault} → r ≡ Err f → ts ≡ u.ticking.items → first_fault (input_unmarked domains ts) k.inputs ≡ Some (meant f) → Stays r
-  input-refuses {f = f} is same found = refused is (by-input net domains d.copies d.cells.items m.words.items m.cycles.items k can.cells can.fit held.are_next (held.shows can.cells.graph) can.words fits edge
+  pub input-refuses : {ts : List Bool} {r : Result ⊤ StepFault} {f : StepFault} → r ≡ Err f → ts ≡ u.ticking.items → input_fault ts ≡ Some (meant f) → Stays r
+  input-refuses {f = f} is same found =
+      refused is (by-input net domains d.copies d.cells.items m.words.items m.cycles.items k can.cells can.fit held.are_next (held.shows can.cells.graph) can.words fits edge
       (meant f) (inputs-at same found))
 
-  module _ {ts : List Bool} (same : ts ≡ u.ticking.items) (ticks : first_fault (input_unmarked domains ts) k.inputs ≡ None) where
-    pub race-refuses : {xs : List Bool} {r : Result ⊤ StepFault} {f : StepFault} → r ≡ Err f → xs ≡ u.ticking.items → first_fault (race_unmarked domains xs) k.races ≡ Some (meant f) → Stays r
-    race-refuses {f = f} is too found = refused is (by-race net domains d.copies d.cells.items m.words.items m.cycles.items k can.cells can.fit held.are_next (held.shows can.cells.graph) can.words fits edge
+  module _ {ts : List Bool} (same : ts ≡ u.ticking.items) (ticks : input_fault ts ≡ None) where
+    pub race-refuses : {xs : List Bool} {r : Result ⊤ StepFault} {f : StepFault} → r ≡ Err f → xs ≡ u.ticking.items → clock_fault xs ≡ Some (meant f) → Stays r
+    race-refuses {f = f} is too found =
+        refused is (by-race net domains d.copies d.cells.items m.words.items m.cycles.items k can.cells can.fit held.are_next (held.shows can.cells.graph) can.words fits edge
         (inputs-at same ticks) (meant f) (races-at too found))
 
-    module _ {xs : List Bool} (too : xs ≡ u.ticking.items) (clocked : first_fault (race_unmarked domains xs) k.races ≡ None) (new : Trial) {before : List ℕ} (old : before ≡ m.words.items)
+    module _ {xs : List Bool} (too : xs ≡ u.ticking.items) (clocked : clock_fault xs ≡ None) (new : Trial) {before : List ℕ} (old : before ≡ m.words.items)
         (tried : HasCells net → AreWordsOf net.graph.signals before → HasRoom net u.reader → length u.words.items ≡ length before → All (IsRace net) k.races
         → new.words.items ≡ tried_words net domains u.ticking.items before k.inputs k.races) where
       fit : {ws : List ℕ} → ws ≡ m.words.items → AreWordsOf net.graph.signals ws
@@ -83,11 +92,12 @@ module _ (d : Design) (m : Moment) (u : Trial) (k : RecordStep) (held : Kept d m
       loose-at {o = o} is found = subst (λ (ws : List ℕ). loose_fault ws ≡ o) (is ∙ words) found
 
       pub loose-refuses : {ws : List ℕ} {r : Result ⊤ StepFault} {f : StepFault} → r ≡ Err f → ws ≡ new.words.items → loose_fault ws ≡ Some (meant f) → Stays r
-      loose-refuses {f = f} is now found = refused is (by-loose net domains d.copies d.cells.items m.words.items m.cycles.items k can.cells can.fit held.are_next (held.shows can.cells.graph) can.words fits edge
+      loose-refuses {f = f} is now found =
+          refused is (by-loose net domains d.copies d.cells.items m.words.items m.cycles.items k can.cells can.fit held.are_next (held.shows can.cells.graph) can.words fits edge
           (inputs-at same ticks) (races-at too clocked) (meant f) (loose-at now found))
 
-      module _ {ws : List ℕ} (now : ws ≡ new.words.items) (loose : loose_fault ws ≡ None) {again next : List ℕ} (once_more : again ≡ m.words.items) (behind : next ≡ new.words.items)
-          (room : HasRoom net u.reader → HasRoom net new.reader)
+      module _ {ws : List ℕ} (now : ws ≡ new.words.items) (loose : loose_fault ws ≡ None)
+          {again next : List ℕ} (once_more : again ≡ m.words.items) (behind : next ≡ new.words.items) (room : HasRoom net u.reader → HasRoom net new.reader)
           (plain : HasCells net → AreWordsOf net.graph.signals before → HasRoom net u.reader → new.reader.plain ≡ values_of net.graph before) where
         -- what is found where racing bits take no other value than the one that their race gives them
         abbrev Finds : Option model.StepFault → Type 0
@@ -100,7 +110,8 @@ module _ (d : Design) (m : Moment) (u : Trial) (k : RecordStep) (held : Kept d m
             ∙ finds can.cells (room held.room.reader) (fit once_more) (plain can.cells (fit old) held.room.reader ∙ ap (values_of net.graph) (old ∙ sym once_more)) fits.races
 
         pub other-refuses : {r : Result ⊤ StepFault} {f : StepFault} → r ≡ Err f → Finds (Some (meant f)) → Stays r
-        other-refuses {f = f} is finds = refused is (by-other net domains d.copies d.cells.items m.words.items m.cycles.items k can.cells can.fit held.are_next (held.shows can.cells.graph) can.words fits edge
+        other-refuses {f = f} is finds =
+            refused is (by-other net domains d.copies d.cells.items m.words.items m.cycles.items k can.cells can.fit held.are_next (held.shows can.cells.graph) can.words fits edge
             (inputs-at same ticks) (races-at too clocked) (loose-at now loose) (meant f) (others-at finds))
 
         pub goes-on : Finds None → (new_words : List ℕ) (new_cycles : List Cycles) → new_words ≡ new.words.items

@@ -37,8 +37,7 @@ returns-in_err-check_inputs-clause-exact c = λ kept can fits.
 pub returns-in_err-check_inputs-clause-kept : goal.returns-in_err-check_inputs-clause-kept
 returns-in_err-check_inputs-clause-kept c = λ kept.
     let d = c.args.design.now in let m = c.args.moment.now in let t = c.args.trial.now in let u = c.mark.new.self in
-    let h = marked d m t kept u c.args.edges.now c.mark.ensures.ticking c.mark.ensures.words c.mark.ensures.cycles c.mark.ensures.reader in
-    h.0
+    (marked d m t kept u c.args.edges.now c.mark.ensures.ticking c.mark.ensures.words c.mark.ensures.cycles c.mark.ensures.reader).0
 
 pub returns-in_err-check_clocks-clause-exact : goal.returns-in_err-check_clocks-clause-exact
 returns-in_err-check_clocks-clause-exact c = λ kept can fits.
@@ -51,8 +50,7 @@ returns-in_err-check_clocks-clause-exact c = λ kept can fits.
 pub returns-in_err-check_clocks-clause-kept : goal.returns-in_err-check_clocks-clause-kept
 returns-in_err-check_clocks-clause-kept c = λ kept.
     let d = c.args.design.now in let m = c.args.moment.now in let t = c.args.trial.now in let u = c.mark.new.self in
-    let h = marked d m t kept u c.args.edges.now c.mark.ensures.ticking c.mark.ensures.words c.mark.ensures.cycles c.mark.ensures.reader in
-    h.0
+    (marked d m t kept u c.args.edges.now c.mark.ensures.ticking c.mark.ensures.words c.mark.ensures.cycles c.mark.ensures.reader).0
 
 pub returns-in_err-check_loose-clause-exact : goal.returns-in_err-check_loose-clause-exact
 returns-in_err-check_loose-clause-exact c = λ kept can fits.
@@ -60,7 +58,9 @@ returns-in_err-check_loose-clause-exact c = λ kept can fits.
     let k : RecordStep = record { edges = c.args.edges.now; inputs = c.args.inputs.now; races = c.args.races.now } in
     let edge = some-edge k.edges (sym c.is_empty.ensures ∙ c.if-is_empty.false) in
     let h = marked d m t kept u c.args.edges.now c.mark.ensures.ticking c.mark.ensures.words c.mark.ensures.cycles c.mark.ensures.reader in
-    loose-refuses d m u k h.0 can fits edge h.1 c.deref.ensures.value c.in_ok-check_inputs.ensures c.deref-2.ensures.value c.in_ok-check_clocks.ensures c.try_words.new.trial c.as_slice.ensures.value c.try_words.ensures.words
+    loose-refuses d m u k h.0 can fits edge h.1
+    c.deref.ensures.value c.in_ok-check_inputs.ensures c.deref-2.ensures.value c.in_ok-check_clocks.ensures
+    c.try_words.new.trial c.as_slice.ensures.value c.try_words.ensures.words
     (search rules) c.as_slice-2.ensures.value c.in_err-check_loose.ensures
 
 pub returns-in_err-check_loose-clause-kept : goal.returns-in_err-check_loose-clause-kept
@@ -75,9 +75,10 @@ returns-in_err-check_differing-clause-exact c = λ kept can fits.
     let k : RecordStep = record { edges = c.args.edges.now; inputs = c.args.inputs.now; races = c.args.races.now } in
     let edge = some-edge k.edges (sym c.is_empty.ensures ∙ c.if-is_empty.false) in
     let h = marked d m t kept u c.args.edges.now c.mark.ensures.ticking c.mark.ensures.words c.mark.ensures.cycles c.mark.ensures.reader in
-    other-refuses d m u k h.0 can fits edge h.1 c.deref.ensures.value c.in_ok-check_inputs.ensures c.deref-2.ensures.value c.in_ok-check_clocks.ensures c.try_words.new.trial c.as_slice.ensures.value c.try_words.ensures.words
-    c.as_slice-2.ensures.value c.in_ok-check_loose.ensures c.as_slice-3.ensures.value c.as_slice-4.ensures.value c.try_words.ensures.room c.try_words.ensures.plain
-    (search rules) c.in_err-check_differing.ensures.refused
+    other-refuses d m u k h.0 can fits edge h.1
+    c.deref.ensures.value c.in_ok-check_inputs.ensures c.deref-2.ensures.value c.in_ok-check_clocks.ensures
+    c.try_words.new.trial c.as_slice.ensures.value c.try_words.ensures.words c.as_slice-2.ensures.value c.in_ok-check_loose.ensures
+    c.as_slice-3.ensures.value c.as_slice-4.ensures.value c.try_words.ensures.room c.try_words.ensures.plain (search rules) c.in_err-check_differing.ensures.refused
 
 pub returns-in_err-check_differing-clause-kept : goal.returns-in_err-check_differing-clause-kept
 returns-in_err-check_differing-clause-kept c = λ kept.
@@ -93,9 +94,11 @@ returns-clause-exact c = λ kept can fits.
     let edge = some-edge k.edges (sym c.is_empty.ensures ∙ c.if-is_empty.false) in
     let h = marked d m t kept u c.args.edges.now c.mark.ensures.ticking c.mark.ensures.words c.mark.ensures.cycles c.mark.ensures.reader in
     let cycles = ap (λ v. length v.items) c.try_words.ensures.cycles ∙ h.0.room.cycles ∙ sym kept.cycles in
-    goes-on d m u k h.0 can fits edge h.1 c.deref.ensures.value c.in_ok-check_inputs.ensures c.deref-2.ensures.value c.in_ok-check_clocks.ensures c.try_words.new.trial c.as_slice.ensures.value c.try_words.ensures.words
-    c.as_slice-2.ensures.value c.in_ok-check_loose.ensures c.as_slice-3.ensures.value c.as_slice-4.ensures.value c.try_words.ensures.room c.try_words.ensures.plain
-    c.in_ok-check_differing.ensures.refused c.swap.new.x.items c.swap-2.new.x.items (ap (λ v. v.items) (c.swap.ensures.x_after ∙ c.try_cycles.ensures.words))
+    goes-on d m u k h.0 can fits edge h.1
+    c.deref.ensures.value c.in_ok-check_inputs.ensures c.deref-2.ensures.value c.in_ok-check_clocks.ensures
+    c.try_words.new.trial c.as_slice.ensures.value c.try_words.ensures.words c.as_slice-2.ensures.value c.in_ok-check_loose.ensures
+    c.as_slice-3.ensures.value c.as_slice-4.ensures.value c.try_words.ensures.room c.try_words.ensures.plain c.in_ok-check_differing.ensures.refused
+    c.swap.new.x.items c.swap-2.new.x.items (ap (λ v. v.items) (c.swap.ensures.x_after ∙ c.try_cycles.ensures.words))
     (ap (λ v. v.items) c.swap-2.ensures.x_after ∙ c.try_cycles.ensures.cycles cycles
     ∙ ap (λ (ts : List Bool). tried_cycles d.domains.now (copied_in d.cells.items d.copies) ts d.net.now.regs k.races m.cycles.items) (ap (λ v. v.items) c.try_words.ensures.ticking))
 
@@ -106,8 +109,8 @@ returns-clause-kept c = λ kept.
     let w = tried d m u h.0 c.try_words.new.trial c.try_words.ensures.ticking c.try_words.ensures.length c.try_words.ensures.cycles c.try_words.ensures.room in
     let looked = record c.try_words.new.trial { reader = c.check_differing.new.reader } in
     let l = tried d m c.try_words.new.trial w looked refl refl refl c.check_differing.ensures.room in
-    let after = tried-kept d.net.now d.domains.now d.cells.items d.copies m looked l c.try_cycles.new.trial c.try_cycles.ensures.ticking (ap (λ v. length v.items) c.try_cycles.ensures.words) c.try_cycles.ensures.length
-    (λ room. subst (λ (r : Reader). HasRoom d.net.now r) (sym c.try_cycles.ensures.reader) room) in
+    let after = tried-kept d.net.now d.domains.now d.cells.items d.copies m looked l c.try_cycles.new.trial c.try_cycles.ensures.ticking
+    (ap (λ v. length v.items) c.try_cycles.ensures.words) c.try_cycles.ensures.length (λ room. subst (λ (r : Reader). HasRoom d.net.now r) (sym c.try_cycles.ensures.reader) room) in
     record {
       are_next = kept.are_next;
       shows = kept.shows;
