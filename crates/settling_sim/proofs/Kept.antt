@@ -32,11 +32,6 @@ module _ (net : Net) (domains : Domains) (cells : List (Option CellId)) (copies 
     };
   }
 
-  -- the marks are of the clocks
-  pub marked-clocks : (u : Trial) (es : List ℕ) → u.ticking.items ≡ mark_in (replicate (length t.ticking.items) false) es
-      → u.ticking.items ≡ mark_in (replicate (length domains.clocks) false) es
-  marked-clocks u es marks = marks ∙ ap (λ n. mark_in (replicate n false) es) kept.room.ticking
-
   pub tried-kept : (u : Trial) → u.ticking ≡ t.ticking → length u.words.items ≡ length t.words.items → length u.cycles.items ≡ length t.cycles.items → (HasRoom net t.reader → HasRoom net u.reader)
       → IsKept net domains cells copies m u
   tried-kept u ticking words cycles reader = record {

@@ -9,6 +9,5 @@ pub mod Faults
 pub mod Counts
 pub mod Settles
 pub mod Steps
-pub mod Checked
 pub mod Kept
 pub mod Opened
