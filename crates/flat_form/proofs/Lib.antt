@@ -12,4 +12,5 @@ pub mod MaskSets
 pub mod Depths
 pub mod ExprUses
 pub mod StmtUses
+pub mod Lefts
 pub mod Listed

@@ -2,6 +2,7 @@ pub mod Options
 pub mod Notes
 pub mod Wholes
 pub mod Terms
+pub mod Breaks
 pub mod Fit
 pub mod Counted
 pub mod Made

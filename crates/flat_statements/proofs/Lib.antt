@@ -1,4 +1,3 @@
-pub mod Lefts
 pub mod Sizes
 pub mod Alike
 pub mod Done
