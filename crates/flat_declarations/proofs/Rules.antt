@@ -20,8 +20,7 @@ use Rattle.flat_names.specs.Pieces.{EachIs}
 use Rattle.flat_names.specs.Looks.{IsFit}
 use Rattle.flat_names.specs.Selects.{bound_notes}
 use Rattle.flat_names.proofs.Notes.{noted-both, then-noted, noted-late}
-use Rattle.flat_names.proofs.Breaks.{OfBreaks, each-both, each-constant, each-bound, each-read}
-use Rattle.flat_names.proofs.Fit.{are-one, all-range, fit}
+use Rattle.flat_names.proofs.Fit.{all-range, one-constant, fit}
 
 -- ---- both bounds of a range: the left one's own rule is noted behind the right one's constant
 
@@ -48,7 +47,7 @@ bounds-noted l b f0 f1 f2 f3 is formed e1 e2 e3 = last ∙ then-noted f0 lower (
     lower = all_noted f1 low
 
     moved : all_noted f2 low ≡ all_noted lower right
-    moved = ap (λ g. all_noted g low) e2 ∙ noted-late f1 low right (all-range _) (each-constant are-one (read l b.right) (fit l is b.right formed).one)
+    moved = ap (λ g. all_noted g low) e2 ∙ noted-late f1 low right (all-range _) (one-constant (read l b.right) (fit l is b.right formed).one)
 
     last : f3 ≡ all_noted (all_noted f2 low) high
     last = e3 ∙ noted-both f2 low high
@@ -58,12 +57,120 @@ bounds-noted l b f0 f1 f2 f3 is formed e1 e2 e3 = last ∙ then-noted f0 lower (
 abbrev pub IsOther : Broken → Type 0
 IsOther b = b.number ≢ 304
 
-are-other : OfBreaks IsOther
-are-other = record { range = λ e. omega arith; other = λ n x h i. h }
+both-other : (bs cs : List Broken) → EachIs IsOther bs → EachIs IsOther cs → EachIs IsOther (bs ++ cs)
+both-other [] cs h k = k
+both-other (b ∷ bs) cs h k = (h.0, both-other bs cs h.1 k)
+
+if-other : (t : Bool) (k : ℕ) (x : Text) → k ≢ 304 → EachIs IsOther (breaks_if t k x)
+if-other true k x h = (h, tt)
+if-other false k x h = tt
+
+break-other : (k : ℕ) (x : Text) → k ≢ 304 → EachIs IsOther (breaks k x)
+break-other k x h = (h, tt)
+
+unknown-other : (l : Look) (x : Text) → EachIs IsOther (unknown l x)
+unknown-other l x = if-other (is_none (meaning l x)) 305 x (λ e. omega arith)
+
+constant-other : (t : Term) → EachIs IsOther t.broken → EachIs IsOther (as_constant t).broken
+constant-other t h = both-other t.broken _ h (if-other (not t.is_constant) 307 [] (λ e. omega arith))
+
+bound-other : (t : Term) → EachIs IsOther t.broken → EachIs IsOther (as_bound t).broken
+bound-other t h = both-other (as_constant t).broken _ (constant-other t h) (if-other _ 307 [] (λ e. omega arith))
+
+count-other : (t : Term) → EachIs IsOther t.broken → EachIs IsOther (as_count t).broken
+count-other t h = both-other (as_bound t).broken _ (bound-other t h) (if-other _ 307 [] (λ e. omega arith))
+
+abbrev AllOther : List Term → Type 0
+AllOther [] = Unit {0}
+AllOther (t ∷ ts) = EachIs IsOther t.broken × AllOther ts
+
+all-other : (ts : List Term) → AllOther ts → EachIs IsOther (all_broken ts)
+all-other [] h = tt
+all-other (t ∷ ts) h = both-other t.broken (all_broken ts) h.0 (all-other ts h.1)
+
+cond-other : (c : Bool) (t u : Term) → EachIs IsOther t.broken → EachIs IsOther u.broken → EachIs IsOther (cond c t u).broken
+cond-other true t u h i = h
+cond-other false t u h i = i
+
+param-other : (l : Look) (x : Text) (p : Param) (s : Option Select) → EachIs IsOther (param_bits l x p s).broken
+param-other l x p None = break-other 314 x (λ e. omega arith)
+param-other l x p (Some s) = tt
+
+signal-other : (l : Look) (x : Text) (s : ℕ) (o : Option Select) → EachIs IsOther (signal_bits l x s o).broken
+signal-other l x s None = break-other 314 x (λ e. omega arith)
+signal-other l x s (Some o) = tt
+
+word-other : (l : Look) (x : Text) (o : Option ℕ) → EachIs IsOther (word_bits l x o).broken
+word-other l x None = break-other 314 x (λ e. omega arith)
+word-other l x (Some s) = tt
+
+name-other : (l : Look) (x : Text) (m : Option Meaning) → EachIs IsOther (meant_term l x m).broken
+name-other l x (Some (a_param p)) = tt
+name-other l x (Some (a_signal s)) = tt
+name-other l x (Some (a_memory a)) = break-other 319 x (λ e. omega arith)
+name-other l x (Some no_value) = unknown-other l x
+name-other l x None = unknown-other l x
+
+index-other : (l : Look) (x : Text) (t : Term) (m : Option Meaning) → EachIs IsOther (meant_index l x t m).broken
+index-other l x t (Some (a_param p)) = cond-other t.is_constant _ _ (param-other l x p _) (break-other 315 x (λ e. omega arith))
+index-other l x t (Some (a_signal s)) = cond-other t.is_constant _ _ (signal-other l x s _) (if-other _ 315 x (λ e. omega arith))
+index-other l x t (Some (a_memory a)) = cond-other t.is_constant _ _ (word-other l x _) (cond-other (nat_le (2 ^ size t.expr) a.words) _ _ tt (break-other 315 x (λ e. omega arith)))
+index-other l x t (Some no_value) = tt
+index-other l x t None = tt
+
+part-other : (l : Look) (x : Text) (kind : PartKind) (o : Option Range) (m : Option Meaning) → EachIs IsOther (meant_part l x kind o m).broken
+part-other l x kind (Some p) (Some (a_param a)) = param-other l x a _
+part-other l x kind None (Some (a_param a)) = tt
+part-other l x kind (Some p) (Some (a_signal s)) = signal-other l x s _
+part-other l x kind None (Some (a_signal s)) = tt
+part-other l x kind (Some p) (Some (a_memory m)) = break-other 319 x (λ e. omega arith)
+part-other l x kind None (Some (a_memory m)) = break-other 319 x (λ e. omega arith)
+part-other l x kind (Some p) (Some no_value) = tt
+part-other l x kind None (Some no_value) = tt
+part-other l x kind (Some p) None = tt
+part-other l x kind None None = tt
+
+second-other : (kind : PartKind) (t : Term) → EachIs IsOther t.broken → EachIs IsOther (as_second kind t).broken
+second-other k.Range t h = bound-other t h
+second-other k.Up t h = count-other t h
+second-other k.Down t h = count-other t h
+
+whole-other : (l : Look) (k n : Option ℕ) (t : Term) → EachIs IsOther t.broken → EachIs IsOther (judged_whole l k n t).broken
+whole-other l None n t h = h
+whole-other l (Some k) None t h = cond-other (k == 32) _ t (break-other 307 [] (λ e. omega arith)) h
+whole-other l (Some k) (Some n) t h = cond-other (k == 32) _ t tt h
+
+mutual
+  read-other : (l : Look) (e : ExprTree) → EachIs IsOther (read l e).broken
+  read-other l (number v w spelt) = tt
+  read-other l (name x) = name-other l x (meaning l x)
+  read-other l (index x i) =
+      both-other (unknown l x ++ (read l i).broken) _ (both-other (unknown l x) (read l i).broken (unknown-other l x) (read-other l i))
+      (cond-other (is_sound (read l i)) _ _ (index-other l x (read l i) (meaning l x)) tt)
+  read-other l (part x kind a b) =
+      both-other (unknown l x ++ (as_bound (read l a)).broken ++ (as_second kind (read l b)).broken) _
+      (both-other (unknown l x ++ (as_bound (read l a)).broken) _ (both-other (unknown l x) _ (unknown-other l x) (bound-other (read l a) (read-other l a)))
+      (second-other kind (read l b) (read-other l b)))
+      (part-other l x kind (range_of (as_bound (read l a)) (as_second kind (read l b))) (meaning l x))
+  read-other l (unary op a) = whole-other l (counted_size l.names (unary op a)) (whole l.names (unary op a)) _ (read-other l a)
+  read-other l (binary op a b) = whole-other l (counted_size l.names (binary op a b)) (whole l.names (binary op a b)) _
+      (both-other (binary_term op (read l a) (read l b)).broken _
+      (both-other ((read l a).broken ++ (read l b).broken) _ (both-other (read l a).broken (read l b).broken (read-other l a) (read-other l b)) (if-other (is_whole_only op) 307 [] (λ e. omega arith)))
+      (if-other (compares_signed l.names op a b) 307 [] (λ e. omega arith)))
+  read-other l (choice c a b) = whole-other l (counted_size l.names (choice c a b)) (whole l.names (choice c a b)) _
+      (both-other ((read l c).broken ++ (read l a).broken) (read l b).broken (both-other (read l c).broken (read l a).broken (read-other l c) (read-other l a)) (read-other l b))
+  read-other l (join parts) = both-other (all_broken (read_parts l parts)) _ (all-other (read_parts l parts) (reads-other l parts)) (if-other _ 308 [] (λ e. omega arith))
+  read-other l (repeat count parts) =
+      both-other ((as_count (read l count)).broken ++ all_broken (read_parts l parts)) _
+      (both-other (as_count (read l count)).broken _ (count-other (read l count) (read-other l count)) (all-other (read_parts l parts) (reads-other l parts))) (if-other _ 308 [] (λ e. omega arith))
+  read-other l (paren a) = read-other l a
+
+  reads-other : (l : Look) (es : ExprTrees) → AllOther (read_parts l es)
+  reads-other l no_trees = tt
+  reads-other l (and_trees a rest) = (both-other (read l a).broken _ (read-other l a) (if-other (is_unsized l.names a) 308 [] (λ e. omega arith)), reads-other l rest)
 
 bounds-other : (l : Look) (b : Bounds) → EachIs IsOther (bounds_read l b).broken
-bounds-other l b = each-both IsOther (as_bound (read l b.left)).broken (as_bound (read l b.right)).broken
-    (each-bound are-other (read l b.left) (each-read are-other l b.left)) (each-bound are-other (read l b.right) (each-read are-other l b.right))
+bounds-other l b = both-other (as_bound (read l b.left)).broken (as_bound (read l b.right)).broken (bound-other (read l b.left) (read-other l b.left)) (bound-other (read l b.right) (read-other l b.right))
 
 -- ---- of the rules of an array's bounds an unknown name alone is told
 

@@ -1,5 +1,5 @@
 -- Modules by name, as far as they were read.
-use Rattle.std.proofs.Common.{◌≡◌, ◌==◌, ℕ, suc, ◌<◌, Bool, true, false, cond, List, [], ◌∷◌, map, drop, Option, Some, None, refl, sym, ap, subst, ◌∙◌, arith, rules, bytes_eq, nat_lt, ltb-true, ltb-false}
+use Rattle.std.proofs.Common.{◌≡◌, ◌==◌, ℕ, suc, ◌<◌, Bool, true, false, cond, List, [], ◌∷◌, map, drop, Option, Some, None, refl, sym, ap, ◌∙◌, arith, rules, bytes_eq, nat_lt, ltb-true, ltb-false}
 use Rattle.std.specs.Prelude.{Result, Ok, Err, slice_get, is_some, is_ok, OnOk}
 use Rattle.std.specs.Cmp.Lexicographic.{pointwise}
 use Rattle.std.proofs.lemmas.Slice.Eq.{bytes_eq-Decides}
@@ -11,7 +11,6 @@ use Rattle.cdc_base.specs.declared.fault.Fault.{Fault}
 use Rattle.cdc_base.specs.declared.fault.Stop.{Stop}
 use Rattle.cdc_base.specs.declared.fault.Stop.TheVariants.{Refused, Memory}
 use Rattle.flat_unfolding.specs.Outcome.{Text, good, bad, refused}
-use Rattle.flat_unfolding.specs.Formed.{IsSourceFormed}
 use Rattle.flat_names.specs.Noting.{Refuses}
 use Rattle.flat_design.specs.declared.visit.Library.{Library}
 use Rattle.flat_unfolding.specs.Unfolding.{module_named, module_twice, modules_differ}
@@ -137,19 +136,3 @@ refuses-lists modules f (Err Memory) h e = tt
 pub ok-holds : {A B P : Type 0} (r : Result A B) → is_ok r ≡ true → OnOk r P → P
 ok-holds (Ok a) e h = h
 ok-holds (Err b) e h = absurd (search (rules, e))
-
--- ---- a library of a source's modules, which it keeps
-
-pub record IsListed (modules : List Module) (library : Library) : Type 0 where
-  pub same : library.modules.now ≡ modules
-  pub lib : IsLibrary library.modules.now library.by_name
-  pub differ : modules_differ (map module_of library.modules.now) ≡ good tt
-  pub well : IsSourceFormed (map module_of library.modules.now)
-
-pub listed : (modules : List Module) (library : Library) → Lists modules (Ok library) → IsSourceFormed (map module_of modules) → IsListed modules library
-listed modules library h formed = record {
-  same = h.1;
-  lib = subst (λ (ms : List Module). IsLibrary ms library.by_name) (sym h.1) h.2;
-  differ = subst (λ (ms : List Module). modules_differ (map module_of ms) ≡ good tt) (sym h.1) h.0;
-  well = subst (λ (ms : List Module). IsSourceFormed (map module_of ms)) (sym h.1) formed;
-}

@@ -2,7 +2,7 @@
 use Rattle.std.proofs.Common.{◌≡◌, ◌≢◌, ℕ, zero, suc, ◌+◌, ◌^◌, ◌<◌, ◌≤◌, Bool, true, false, not, ◌&&◌, ◌||◌, ◌==◌, nat_le, nat_lt, nat_eq, List, [], ◌∷◌, map, drop, length, get_or, refl, sym, ap, ap₂, subst, ◌∙◌, arith, eqb-true, lt-ltb, le-ltb, le-leb, leb-true, leb-false, ne_eqb}
 use Rattle.std.specs.List.{IsDistinct, AllByRecursion, list_any}
 use Rattle.std.proofs.lemmas.Bool.{lt-leb}
-use Rattle.std.proofs.lemmas.List.{drop_all}
+use Rattle.std.proofs.lemmas.List.{drop_more, drop_all}
 use Rattle.std.proofs.lemmas.Map.Keys.{IsDistinct-head, IsDistinct-tail}
 use Rattle.std.proofs.Math.Bool.{or-false, or_assoc}
 use Rattle.cell_graph.specs.Tree.{bit_at}
@@ -14,7 +14,6 @@ use Rattle.flat_meaning.specs.Flat.{Stmt, assigns}
 use Rattle.flat_meaning.specs.Deps.{Bits}
 use Rattle.flat_meaning.specs.Design.{Flat, size_in, once, times_assigned, times_processed}
 use Rattle.flat_meaning.proofs.Drivers.{not_assigned}
-use Rattle.flat_form.proofs.Lefts.{left-is}
 use Rattle.flat_unfolding.specs.Drivers.{assigned_by, is_clocked, all_drivers}
 use Rattle.flat_drivers.specs.declared.drivers.Drivers.{Drivers}
 use Rattle.flat_drivers.specs.Driving.{Counts, CountsMore, is_among}
@@ -96,7 +95,7 @@ pub list-step : {X : Type 0} (wid : ℕ → ℕ) (old now new : Drivers) (F : Li
     → Reached wid old now (F (drop i all)) (F all) (G (drop i all)) (G all) → CountsMore wid now new t p
     → Reached wid old new (F (drop (i + 1) all)) (F all) (G (drop (i + 1) all)) (G all)
 list-step {X} wid old now new F G t p all i x l is e g h k =
-    let next : drop i all ≡ x ∷ drop (i + 1) all = left-is all i x l is in
+    let next : drop i all ≡ x ∷ drop (i + 1) all = drop_more all i x l ∙ ap (λ (y : X). y ∷ drop (i + 1) all) (sym is) in
     reached-step wid old now new (F all) (F (drop (i + 1) all)) (F (x ∷ drop (i + 1) all)) t (G all) (G (drop (i + 1) all)) (G (x ∷ drop (i + 1) all)) p e g
     (subst (λ (xs : List X). Reached wid old now (F xs) (F all) (G xs) (G all)) next h) k
 

@@ -2,7 +2,7 @@
 use Rattle.std.proofs.Common.{◌≡◌, ℕ, ◌+◌, ◌<◌, ◌≤◌, Bool, true, false, ◌&&◌, ◌||◌, ◌==◌, List, [], ◌∷◌, ◌++◌, drop, length, get_or, refl, sym, ap, ap₂, subst, ◌∙◌, eq-eqb, ne_eqb}
 use Rattle.std.specs.List.{list_any}
 use Rattle.std.proofs.lemmas.Bool.{eqb-false}
-use Rattle.std.proofs.lemmas.List.{drop_all}
+use Rattle.std.proofs.lemmas.List.{drop_more, drop_all}
 use Rattle.std.proofs.Math.Bool.{or-false, or_assoc}
 use Rattle.cell_graph.specs.Tree.{bit_at}
 use Rattle.flat_meaning.specs.Deps.{Bits, none, union}
@@ -12,7 +12,6 @@ use Rattle.flat_form.specs.declared.masks.Masks.{Masks}
 use Rattle.flat_form.specs.View.{stmt_of}
 use Rattle.flat_form.specs.Masks.{bits_in, Adds}
 use Rattle.flat_form.specs.Uses.{stmt_reads}
-use Rattle.flat_form.proofs.Lefts.{left-is}
 use Rattle.flat_form.proofs.MaskSets.{Left, left-step, left-same, adds-same, adds-two}
 use Rattle.flat_unfolding.specs.Drivers.{bodies, is_read}
 use Rattle.flat_drivers.specs.Driving.{bodies_in, clocked_in, assigns_read, bodies_read, clocks_read}
@@ -47,7 +46,7 @@ pub clocked-step : (wid : ℕ → ℕ) (old : Bits) (now next : Masks) (all : Li
 clocked-step wid old now next all k x l is h a =
     let rest = drop (k + 1) all in
     let whole = clocked_read wid all in
-    let e : drop k all ≡ x ∷ rest = left-is all k x l is in
+    let e : drop k all ≡ x ∷ rest = drop_more all k x l ∙ ap (λ (y : FlatClocked). y ∷ rest) (sym is) in
     left-step old now next (process_reads wid x) (clocked_read wid rest) whole
     (left-same old now (clocked_read wid (x ∷ rest)) (union (process_reads wid x) (clocked_read wid rest)) whole
     (λ s i m. four (stmt_reads wid (stmt_of x.body) s i) (bodies_read wid (bodies_in rest) s i) ((x.clock == s) && (i == 0)) (clocks_read (clocked_in rest) s i))

@@ -5,7 +5,7 @@ use Rattle.std.specs.Option.{option_copied}
 use Rattle.std.specs.List.{IsDistinct}
 use Rattle.std.proofs.lemmas.Bool.{or_parts}
 use Rattle.std.proofs.lemmas.Option.{slice_get_past, slice_get_read}
-use Rattle.std.proofs.lemmas.List.{drop_all}
+use Rattle.std.proofs.lemmas.List.{drop_more, drop_all}
 use Rattle.std.proofs.lemmas.Map.Keys.{IsDistinct-head, IsDistinct-tail}
 use Rattle.std.proofs.Math.Bool.{or-false, or_assoc}
 use Rattle.cell_graph.specs.Tree.{bit_at}
@@ -16,7 +16,6 @@ use Rattle.flat_meaning.specs.Deps.{Bits}
 use Rattle.flat_meaning.specs.Flat.{Null, assigns}
 use Rattle.flat_meaning.specs.Design.{once}
 use Rattle.flat_meaning.proofs.Drivers.{not_assigned}
-use Rattle.flat_form.proofs.Lefts.{left-is}
 use Rattle.flat_unfolding.specs.Drivers.{Process, drives, may_drive, times_driven, have_same_edges, is_driven_apart, have_other_edges}
 use Rattle.flat_drivers.specs.declared.clocked.Edges.{Edges}
 use Rattle.flat_drivers.specs.declared.clocked.ClockedBits.{ClockedBits}
@@ -233,7 +232,7 @@ pub next-process : (cs : List FlatClocked) (rs : List FlatReset) (k : ℕ) (x : 
     → processes_in (drop k cs) (drop k rs) ≡ process_of x (slice_get rs k) ∷ processes_in (drop (k + 1) cs) (drop (k + 1) rs)
 next-process cs rs k x l is =
     let more = drop (k + 1) cs in
-    ap (λ (ps : List FlatClocked). processes_in ps (drop k rs)) (left-is cs k x l is)
+    ap (λ (ps : List FlatClocked). processes_in ps (drop k rs)) (drop_more cs k x l ∙ ap (λ (y : FlatClocked). y ∷ more) (sym is))
     ∙ first-process x more rs k ∙ ap (λ n. process_of x (slice_get rs k) ∷ processes_in more (drop n rs)) (let e : suc k ≡ k + 1 = omega arith in e)
 
 pub no-process : (cs : List FlatClocked) (rs : List FlatReset) (k : ℕ) → length cs ≤ k → processes_in (drop k cs) (drop k rs) ≡ []

@@ -2,7 +2,7 @@
 use Rattle.std.proofs.Common.{◌≡◌, ℕ, zero, suc, ◌+◌, ◌<◌, ◌≤◌, Bool, true, false, cond, not, ◌&&◌, ◌||◌, ◌==◌, nat_le, nat_lt, List, [], ◌∷◌, ◌++◌, map, drop, length, get_or, Option, Some, None, Result, Ok, Err, bit_and, refl, sym, ap, ap₂, subst, ◌∙◌, arith, lt-ltb, ltb-true, true≢false}
 use Rattle.std.specs.Prelude.{All}
 use Rattle.std.proofs.Math.Path.{fun_ext}
-use Rattle.std.proofs.lemmas.List.{drop_all}
+use Rattle.std.proofs.lemmas.List.{drop_more, drop_all}
 use Rattle.std.proofs.lemmas.List.Elements.{All-head, All-tail}
 use Rattle.cdc_base.specs.declared.signal.Signal.{Signal}
 use Rattle.cdc_base.specs.declared.signal.SigKind.{SigKind}
@@ -14,7 +14,6 @@ use Rattle.cell_graph.proofs.Words.{bit_and-bit, bit-zero}
 use Rattle.flat_meaning.specs.Flat.{Expr, Target, Stmt}
 use Rattle.flat_meaning.specs.Assigned.{is_within}
 use Rattle.flat_meaning.specs.Design.{Flat, width_in, size_in, once, times_assigned, times_processed}
-use Rattle.flat_form.proofs.Lefts.{left-is}
 use Rattle.flat_unfolding.specs.Outcome.{Outcome, good, bad, then_}
 use Rattle.flat_unfolding.specs.Reads.{first_from}
 use Rattle.flat_unfolding.specs.Drivers.{assigned_by, bodies, is_clocked, processes, times_driven, have_other_edges, all_drivers, is_double, is_read, is_undriven, is_from_outside, refuse_bit, refuse_first, driven_once}
@@ -110,7 +109,7 @@ meets-then o k r e h = subst (λ x. Meets x r) (sym (ap (λ x. then_ x k) e)) h
 pub turn : (rule : ℕ) (p : ℕ → Signal → ℕ → Bool) (xs : List Signal) (n : ℕ) (x : Signal) → n < length xs → x ≡ get_or xs n x
     → refuse_first rule p n (drop n xs) ≡ refuse_bit rule x (first_from (p n x) 0 x.width) (refuse_first rule p (n + 1) (drop (n + 1) xs))
 turn rule p xs n x l is =
-    ap (refuse_first rule p n) (left-is xs n x l is)
+    ap (refuse_first rule p n) (drop_more xs n x l ∙ ap (λ (y : Signal). y ∷ drop (n + 1) xs) (sym is))
     ∙ ap (λ m. refuse_bit rule x (first_from (p n x) 0 x.width) (refuse_first rule p m (drop (n + 1) xs))) (let e : suc n ≡ n + 1 = omega arith in e)
 
 pub width_here : (xs : List Signal) (n : ℕ) (x : Signal) → n < length xs → x ≡ get_or xs n x → width_in xs n ≡ x.width

@@ -128,26 +128,47 @@ gate-first op W x e rest inputs v is r b some small =
     record { right = p.1; bits = q.1; so_far = value nothing (expr_of e) W; is = (v p.0 (omega arith) small).0; whole = ap (λ es. gated nothing op W (these es)) is }
 
 -- every operator takes two words of one size at that size
-both-whole : (op : f.BinaryOp) (W : ℕ) → (left_at op W W W ≡ W) × (right_at op W W W ≡ W)
-both-whole f.times W = (refl, refl)
-both-whole f.divided W = (refl, refl)
-both-whole f.remainder W = (refl, refl)
-both-whole f.plus W = (refl, refl)
-both-whole f.minus W = (refl, refl)
-both-whole f.shift_left W = (refl, refl)
-both-whole f.shift_right W = (refl, refl)
-both-whole f.is_less W = (omega arith, omega arith)
-both-whole f.is_at_most W = (omega arith, omega arith)
-both-whole f.is_greater W = (omega arith, omega arith)
-both-whole f.is_at_least W = (omega arith, omega arith)
-both-whole f.is_equal W = (omega arith, omega arith)
-both-whole f.is_unequal W = (omega arith, omega arith)
-both-whole f.bitwise_and W = (refl, refl)
-both-whole f.bitwise_or W = (refl, refl)
-both-whole f.bitwise_xor W = (refl, refl)
-both-whole f.bitwise_xnor W = (refl, refl)
-both-whole f.logical_and W = (refl, refl)
-both-whole f.logical_or W = (refl, refl)
+left-whole : (op : f.BinaryOp) (W : ℕ) → left_at op W W W ≡ W
+left-whole f.times W = refl
+left-whole f.divided W = refl
+left-whole f.remainder W = refl
+left-whole f.plus W = refl
+left-whole f.minus W = refl
+left-whole f.shift_left W = refl
+left-whole f.shift_right W = refl
+left-whole f.is_less W = omega arith
+left-whole f.is_at_most W = omega arith
+left-whole f.is_greater W = omega arith
+left-whole f.is_at_least W = omega arith
+left-whole f.is_equal W = omega arith
+left-whole f.is_unequal W = omega arith
+left-whole f.bitwise_and W = refl
+left-whole f.bitwise_or W = refl
+left-whole f.bitwise_xor W = refl
+left-whole f.bitwise_xnor W = refl
+left-whole f.logical_and W = refl
+left-whole f.logical_or W = refl
+
+right-whole : (op : f.BinaryOp) (W : ℕ) → right_at op W W W ≡ W
+right-whole f.times W = refl
+right-whole f.divided W = refl
+right-whole f.remainder W = refl
+right-whole f.plus W = refl
+right-whole f.minus W = refl
+right-whole f.shift_left W = refl
+right-whole f.shift_right W = refl
+right-whole f.is_less W = omega arith
+right-whole f.is_at_most W = omega arith
+right-whole f.is_greater W = omega arith
+right-whole f.is_at_least W = omega arith
+right-whole f.is_equal W = omega arith
+right-whole f.is_unequal W = omega arith
+right-whole f.bitwise_and W = refl
+right-whole f.bitwise_or W = refl
+right-whole f.bitwise_xor W = refl
+right-whole f.bitwise_xnor W = refl
+right-whole f.logical_and W = refl
+right-whole f.logical_or W = refl
 
 pub gate-step : (op : f.BinaryOp) (W word x r : ℕ) (e : FExpr) (rest inputs : List FExpr) → Folded op W word (e ∷ rest) inputs → InputGives e W x → 1 ≤ W → W ≤ 64
     → ((g h : Word) (m n : ℕ) → 1 ≤ W → W ≤ 64 → left_at op W m n ≡ m → right_at op W m n ≡ n → word ≡ number g m → x ≡ number h n → r ≡ number (binary op m n g h) W)
@@ -160,7 +181,7 @@ gate-step op W word x r e rest inputs f v some small u =
       right = p.1;
       bits = q.1;
       so_far = binary op W W f.so_far (value nothing (expr_of e) W);
-      is = u f.so_far (value nothing (expr_of e) W) W W some small (both-whole op W).0 (both-whole op W).1 f.is (v p.0 (omega arith) small).0;
+      is = u f.so_far (value nothing (expr_of e) W) W W some small (left-whole op W) (right-whole op W) f.is (v p.0 (omega arith) small).0;
       whole = f.whole;
     }
 

@@ -1,5 +1,6 @@
 -- What is read, form by form, while a set grows by it.
 use Rattle.std.proofs.Common.{◌≡◌, ℕ, ◌+◌, ◌<◌, Bool, true, false, ◌&&◌, ◌||◌, ◌==◌, nat_lt, List, ◌∷◌, map, length, drop, get_or, Box, Global, refl, sym, subst, ap, ◌∙◌, lt-ltb}
+use Rattle.std.proofs.lemmas.List.{drop_more}
 use Rattle.std.proofs.Math.Bool.{or-false}
 use Rattle.cell_graph.specs.Tree.{bit_at}
 use Rattle.flat_form.specs.declared.flat.FUnaryOp.{FUnaryOp}
@@ -14,7 +15,6 @@ use Rattle.flat_form.specs.View.{unary_of, binary_of, expr_of, exprs_of}
 use Rattle.flat_form.specs.Masks.{bits_in, Adds}
 use Rattle.flat_meaning.specs.Law.{expr_reads}
 use Rattle.flat_form.specs.Uses.{exprs_read}
-use Rattle.flat_form.proofs.Lefts.{left-is}
 use Rattle.flat_form.proofs.MaskSets.{Left, left-step, left-same, adds-same}
 use Rattle.flat_form.proofs.Folds.{expr_of-Number, expr_of-Read, expr_of-At, expr_of-Unary, expr_of-Binary, expr_of-Choose, expr_of-Gate, expr_of-Join, expr_of-Repeat}
 
@@ -46,7 +46,7 @@ module _ {X : Type 0} (rs : List X → Bits) (r : X → Bits) (old : Bits) (now 
       → Left old now (rs (drop k all)) whole → Adds now next (r x) → Left old next (rs (drop (k + 1) all)) whole
   list-step all k x l is step h a =
       left-step old now next (r x) (rs (drop (k + 1) all)) whole
-      (subst (λ b. Left old now b whole) (ap rs (left-is all k x l is) ∙ step) h) a
+      (subst (λ b. Left old now b whole) (ap rs (drop_more all k x l ∙ ap (λ z. z ∷ drop (k + 1) all) (sym is)) ∙ step) h) a
 
 module _ (wid : ℕ → ℕ) (old : Masks) (now : Masks) (whole : Bits) (x : FExpr) (h : Left (bits_in old) now (expr_reads wid (expr_of x)) whole) where
   seen : (e : f.Expr) → expr_of x ≡ e → Left (bits_in old) now (expr_reads wid e) whole

@@ -12,5 +12,4 @@ pub mod MaskSets
 pub mod Depths
 pub mod ExprUses
 pub mod StmtUses
-pub mod Lefts
 pub mod Listed

@@ -1,5 +1,6 @@
 -- The entries of a set, while it grows by the signals that a statement assigns.
-use Rattle.std.proofs.Common.{◌≡◌, ℕ, ◌+◌, ◌<◌, Bool, ◌||◌, List, [], ◌∷◌, map, length, drop, get_or, Some, Box, Global, refl, sym, subst, ap, ◌∙◌}
+use Rattle.std.proofs.Common.{◌≡◌, ℕ, ◌+◌, ◌<◌, ◌≤◌, Bool, false, ◌||◌, List, [], ◌∷◌, map, length, drop, get_or, Some, Box, Global, refl, sym, subst, ap, ◌∙◌}
+use Rattle.std.proofs.lemmas.List.{drop_more}
 use Rattle.std.proofs.Math.Bool.{or_assoc}
 use Rattle.flat_meaning.specs.Flat as f
 use Rattle.flat_form.specs.declared.flat.FExpr.{FExpr}
@@ -9,7 +10,6 @@ use Rattle.flat_form.specs.declared.flat.FCaseItem.{FCaseItem}
 use Rattle.flat_form.specs.declared.masks.Masks.{Masks}
 use Rattle.flat_form.specs.View.{expr_of, Arm, stmt_of, stmts_of, arm_of, items_of}
 use Rattle.flat_form.specs.Masks.{has_signal, Lists}
-use Rattle.flat_form.proofs.Lefts.{left-is}
 use Rattle.flat_form.proofs.StmtFolds.{stmt_of-Case, stmt_of-Block}
 use Rattle.flat_form.proofs.StmtUses.{arm-is}
 
@@ -21,7 +21,7 @@ module _ {X : Type 0} (rs : List X → ℕ → Bool) (r : X → ℕ → Bool) (o
   pub names-step : (all : List X) (k : ℕ) (x : X) → k < length all → x ≡ get_or all k x → rs (x ∷ drop (k + 1) all) ≡ (λ y. r x y || rs (drop (k + 1) all) y)
       → Unlisted old now (rs (drop k all)) whole → Lists now next (r x) → Unlisted old next (rs (drop (k + 1) all)) whole
   names-step all k x l is step h a y =
-      let e : rs (drop k all) ≡ (λ z. r x z || rs (drop (k + 1) all) z) = ap rs (left-is all k x l is) ∙ step in
+      let e : rs (drop k all) ≡ (λ z. r x z || rs (drop (k + 1) all) z) = ap rs (drop_more all k x l ∙ ap (λ (z : X). z ∷ drop (k + 1) all) (sym is)) ∙ step in
       ap (λ b. b || rs (drop (k + 1) all) y) (a y) ∙ or_assoc (has_signal now y) (r x y) (rs (drop (k + 1) all) y) ∙ ap (λ (g : ℕ → Bool). has_signal now y || g y) (sym e) ∙ h y
 
 names-two : (a b c : Masks) (p q : ℕ → Bool) → Lists a b p → Lists b c q → Lists a c (λ y. p y || q y)

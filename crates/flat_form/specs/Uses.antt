@@ -1,13 +1,8 @@
 -- The bits that expressions and statements read.
-use Rattle.std.specs.Prelude.{ℕ, false, not, ◌&&◌, List, slice_get}
-use Rattle.std.specs.Option.{option_map_or}
+use Rattle.std.specs.Prelude.{ℕ, false, not, ◌&&◌}
 use Rattle.flat_meaning.specs.Flat.{Exprs, Target, Whole, Part, Pick, Group, Targets, no_targets, target, Stmt, Null, Set, If, Case, Block, Items, no_items, default_item, item, Stmts, no_stmts, stmt}
 use Rattle.flat_meaning.specs.Deps.{Bits, none, union, span, all_reads}
 use Rattle.flat_meaning.specs.Law.{expr_reads}
-
--- the width of a signal by its entry in a table
-abbrev pub width_by : {S : Type 0} → (S → ℕ) → List S → ℕ → ℕ
-width_by bits signals s = option_map_or bits (slice_get signals s) 0
 
 abbrev pub without : Bits → Bits → Bits
 without d b s i = b s i && not (d s i)

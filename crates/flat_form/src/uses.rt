@@ -7,35 +7,19 @@ ghost use Rattle.flat_meaning.specs.Assigned.{is_within, reaches, reach, may_ass
 ghost use Rattle.flat_form.specs.View.{expr_of, exprs_of, target_of, targets_of, stmt_of, stmts_of, arm_of, items_of};
 ghost use Rattle.flat_form.specs.Masks.{Adds, Lists};
 ghost use Rattle.flat_meaning.specs.Law.{expr_reads};
-ghost use Rattle.flat_form.specs.Uses.{width_by, exprs_read, target_reads, targets_read, stmt_reads, items_read, stmts_read};
+ghost use Rattle.flat_form.specs.Uses.{exprs_read, target_reads, targets_read, stmt_reads, items_read, stmts_read};
 
 use crate::bits::{bits, low_bits};
 use crate::flat::{FCaseItem, FExpr, FStmt, FTarget};
 use crate::masks::Masks;
 use cdc_base::{NoMemory, Signal};
 
-/// What a table holds of each signal: a width in bits, and more.
-pub trait HasWidth {
-    ghost bits: { Self → ℕ };
-
-    fn width(&self) -> u8
-        ensures { result ≡ bits self.now };
-}
-
-impl HasWidth for Signal {
-    ghost bits = { λ s. s.width };
-
-    fn width(&self) -> u8 {
-        self.width
-    }
-}
-
 /// All bits of a signal.
-pub fn all_bits<S: HasWidth>(signals: &[S], sig: u32) -> u64
-    ensures { (i : ℕ) → i < 64 → bit_at result i ≡ is_within 0 (width_by S.bits signals.now sig) i }
+pub fn all_bits(signals: &[Signal], sig: u32) -> u64
+    ensures { (i : ℕ) → i < 64 → bit_at result i ≡ is_within 0 (width_in signals.now sig) i }
 {
     match signals.get(usize::try_from(sig).unwrap_or(usize::MAX)) {
-        Some(signal) => low_bits(signal.width()),
+        Some(signal) => low_bits(signal.width),
         None => 0,
     }
 }
@@ -43,12 +27,8 @@ pub fn all_bits<S: HasWidth>(signals: &[S], sig: u32) -> u64
 /// Adds the bits that an expression reads. A variable index reads its whole signal. A read of a large memory is a long
 /// chain of choices, which is walked without a recursion.
 #[cycle(add_reads)]
-pub fn add_reads<S: HasWidth>(
-    signals: &[S],
-    expr: &FExpr,
-    reads: &mut Masks,
-) -> Result<(), NoMemory>
-    ensures added { IfOk result (λ _. Adds reads.old reads.new (expr_reads (width_by S.bits signals.now) (expr_of expr.now))) }
+pub fn add_reads(signals: &[Signal], expr: &FExpr, reads: &mut Masks) -> Result<(), NoMemory>
+    ensures added { IfOk result (λ _. Adds reads.old reads.new (expr_reads (width_in signals.now) (expr_of expr.now))) }
 {
     let mut inner = expr;
     loop {
@@ -82,12 +62,8 @@ pub fn add_reads<S: HasWidth>(
 }
 
 #[cycle(add_reads)]
-pub fn add_reads_of<S: HasWidth>(
-    signals: &[S],
-    exprs: &[FExpr],
-    reads: &mut Masks,
-) -> Result<(), NoMemory>
-    ensures added { IfOk result (λ _. Adds reads.old reads.new (exprs_read (width_by S.bits signals.now) (exprs_of (map expr_of exprs.now)))) }
+pub fn add_reads_of(signals: &[Signal], exprs: &[FExpr], reads: &mut Masks) -> Result<(), NoMemory>
+    ensures added { IfOk result (λ _. Adds reads.old reads.new (exprs_read (width_in signals.now) (exprs_of (map expr_of exprs.now)))) }
 {
     for expr in exprs {
         add_reads(signals, expr, reads)?;

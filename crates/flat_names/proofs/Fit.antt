@@ -19,7 +19,6 @@ use Rattle.flat_names.specs.Pieces.{EachIs, Piece, piece, IsFitPiece, out_of_ran
 use Rattle.flat_unfolding.specs.Formed.{IsFormed, AreFormed}
 use Rattle.flat_names.specs.Selects.{name_at, name_piece, index_at, index_of, part_at, behind, is_param}
 use Rattle.flat_names.specs.Looks.{IsFitParam, IsFit}
-use Rattle.flat_names.proofs.Breaks.{OfAll, OfBreaks, each-choice, each-unknown, each-name, each-index, each-part, each-binary, each-unsized, each-join, each-repeat}
 use Rattle.flat_names.proofs.Notes.{IsOne}
 use Rattle.flat_names.proofs.Options.{none-some, some-same}
 use Rattle.flat_names.proofs.Wholes.{within-same}
@@ -27,13 +26,84 @@ use Rattle.flat_names.proofs.Terms.{with_size, counted-is, counted-own, counted-
 
 -- ---- E307 is told in one way
 
-pub are-one : OfBreaks IsOne
-are-one = record { range = λ e. refl; other = λ n x h i e. absurd (i e) }
+pub ones-both : (bs cs : List Broken) → EachIs IsOne bs → EachIs IsOne cs → EachIs IsOne (bs ++ cs)
+ones-both [] cs h i = i
+ones-both (b ∷ bs) cs h i = (h.0, ones-both bs cs h.1 i)
 
--- ---- indices
+pub one-range : (t : Bool) → EachIs IsOne (breaks_if t 307 [])
+one-range true = (λ e. refl, tt)
+one-range false = tt
+
+pub one-other : (t : Bool) (k : ℕ) (x : Text) → k ≢ 307 → EachIs IsOne (breaks_if t k x)
+one-other true k x h = (λ e. absurd (h e), tt)
+one-other false k x h = tt
+
+one-break : (k : ℕ) (x : Text) → k ≢ 307 → EachIs IsOne (breaks k x)
+one-break k x h = (λ e. absurd (h e), tt)
+
+pub one-unknown : (l : Look) (x : Text) → EachIs IsOne (unknown l x)
+one-unknown l x = one-other (is_none (meaning l x)) 305 x (λ e. omega arith)
+
+pub one-constant : (t : Term) → EachIs IsOne t.broken → EachIs IsOne (as_constant t).broken
+one-constant t h = ones-both t.broken _ h (one-range (not t.is_constant))
+
+one-bound : (t : Term) → EachIs IsOne t.broken → EachIs IsOne (as_bound t).broken
+one-bound t h = ones-both (as_constant t).broken _ (one-constant t h) (one-range _)
+
+one-count : (t : Term) → EachIs IsOne t.broken → EachIs IsOne (as_count t).broken
+one-count t h = ones-both (as_bound t).broken _ (one-bound t h) (one-range _)
+
+one-second : (kind : PartKind) (t : Term) → EachIs IsOne t.broken → EachIs IsOne (as_second kind t).broken
+one-second k.Range t h = one-bound t h
+one-second k.Up t h = one-count t h
+one-second k.Down t h = one-count t h
+
+-- ---- all breaks of some terms
+
+abbrev pub AllOne : List Term → Type 0
+AllOne [] = Unit {0}
+AllOne (t ∷ ts) = EachIs IsOne t.broken × AllOne ts
+
+pub one-all : (ts : List Term) → AllOne ts → EachIs IsOne (all_broken ts)
+one-all [] h = tt
+one-all (t ∷ ts) h = ones-both t.broken (all_broken ts) h.0 (one-all ts h.1)
+
+one-join : (ts : List Term) → AllOne ts → EachIs IsOne (join_term ts).broken
+one-join ts h = ones-both (all_broken ts) _ (one-all ts h) (one-other _ 308 [] (λ e. omega arith))
+
+one-repeat : (t : Term) (ts : List Term) → EachIs IsOne t.broken → AllOne ts → EachIs IsOne (repeat_term t ts).broken
+one-repeat t ts h i = ones-both ((as_count t).broken ++ all_broken ts) _ (ones-both (as_count t).broken (all_broken ts) (one-count t h) (one-all ts i)) (one-other _ 308 [] (λ e. omega arith))
+
+one-param_bits : (l : Look) (x : Text) (p : Param) (s : Option Select) → EachIs IsOne (param_bits l x p s).broken
+one-param_bits l x p None = one-break 314 x (λ e. omega arith)
+one-param_bits l x p (Some s) = tt
+
+one-signal_bits : (l : Look) (x : Text) (s : ℕ) (o : Option Select) → EachIs IsOne (signal_bits l x s o).broken
+one-signal_bits l x s None = one-break 314 x (λ e. omega arith)
+one-signal_bits l x s (Some o) = tt
+
+one-word_bits : (l : Look) (x : Text) (o : Option ℕ) → EachIs IsOne (word_bits l x o).broken
+one-word_bits l x None = one-break 314 x (λ e. omega arith)
+one-word_bits l x (Some s) = tt
+
+one-cond : (c : Bool) (t u : Term) → EachIs IsOne t.broken → EachIs IsOne u.broken → EachIs IsOne (cond c t u).broken
+one-cond true t u h i = h
+one-cond false t u h i = i
+
+one-index_at : (l : Look) (x : Text) (t : Term) (m : Option Meaning) → EachIs IsOne (index_at l x t m).broken
+one-index_at l x t (Some (a_param p)) = one-cond t.is_constant _ _ (one-param_bits l x p _) (one-break 315 x (λ e. omega arith))
+one-index_at l x t (Some (a_signal s)) = one-cond t.is_constant _ _ (one-signal_bits l x s _) (one-other _ 315 x (λ e. omega arith))
+one-index_at l x t (Some (a_memory a)) = one-cond t.is_constant _ _ (one-word_bits l x _) (one-cond (nat_le (2 ^ size t.expr) a.words) _ _ tt (one-break 315 x (λ e. omega arith)))
+one-index_at l x t (Some no_value) = tt
+one-index_at l x t None = tt
 
 pub index-is : (l : Look) (x : Text) (t : Term) → index_term l x t ≡ behind (unknown l x ++ t.broken) (index_of l x t (meaning l x))
 index-is l x t = refl
+
+one-index : (l : Look) (x : Text) (t : Term) → EachIs IsOne t.broken → EachIs IsOne (index_term l x t).broken
+one-index l x t h = subst (λ u. EachIs IsOne u.broken) (sym (index-is l x t))
+    (ones-both (unknown l x ++ t.broken) (index_of l x t (meaning l x)).broken (ones-both (unknown l x) t.broken (one-unknown l x) h)
+    (one-cond (is_sound t) (index_at l x t (meaning l x)) (spoilt t.expr (is_param (meaning l x) && t.is_constant) []) (one-index_at l x t (meaning l x)) tt))
 
 -- ---- names
 
@@ -72,15 +142,32 @@ fit-param l x p g h false e = open-fit _ refl tt
 fit-name : (l : Look) (x : Text) → IsFit l → (m : Option Meaning) → meaning l x ≡ m → IsFitPiece (name_piece l x m)
 fit-name l x h (Some (a_param p)) e = fit-param l x p _ (h.params x p e) p.is_counted refl
 fit-name l x h (Some (a_signal s)) e = open-fit _ refl tt
-fit-name l x h (Some (a_memory a)) e = open-fit _ refl (each-name are-one l x (Some (a_memory a)))
-fit-name l x h (Some no_value) e = open-fit _ refl (each-unknown are-one l x)
-fit-name l x h None e = open-fit _ refl (each-unknown are-one l x)
+fit-name l x h (Some (a_memory a)) e = open-fit _ refl (one-break 319 x (λ e. omega arith))
+fit-name l x h (Some no_value) e = open-fit _ refl (one-unknown l x)
+fit-name l x h None e = open-fit _ refl (one-unknown l x)
 
 -- ---- parts
 
 pub part-is : (l : Look) (x : Text) (kind : PartKind) (t u : Term) → part_term l x kind t u
     ≡ behind (unknown l x ++ (as_bound t).broken ++ (as_second kind u).broken) (part_at l x kind (range_of (as_bound t) (as_second kind u)) (meaning l x))
 part-is l x kind t u = refl
+
+one-part_at : (l : Look) (x : Text) (kind : PartKind) (r : Option Range) (m : Option Meaning) → EachIs IsOne (part_at l x kind r m).broken
+one-part_at l x kind (Some p) (Some (a_param a)) = one-param_bits l x a _
+one-part_at l x kind (Some p) (Some (a_signal s)) = one-signal_bits l x s _
+one-part_at l x kind (Some p) (Some (a_memory a)) = one-break 319 x (λ e. omega arith)
+one-part_at l x kind (Some p) (Some no_value) = tt
+one-part_at l x kind (Some p) None = tt
+one-part_at l x kind None (Some (a_param a)) = tt
+one-part_at l x kind None (Some (a_signal s)) = tt
+one-part_at l x kind None (Some (a_memory a)) = one-break 319 x (λ e. omega arith)
+one-part_at l x kind None (Some no_value) = tt
+one-part_at l x kind None None = tt
+
+one-part : (l : Look) (x : Text) (kind : PartKind) (t u : Term) → EachIs IsOne t.broken → EachIs IsOne u.broken → EachIs IsOne (part_term l x kind t u).broken
+one-part l x kind t u h i = subst (λ v. EachIs IsOne v.broken) (sym (part-is l x kind t u))
+    (ones-both (unknown l x ++ (as_bound t).broken ++ (as_second kind u).broken) _
+    (ones-both (unknown l x ++ (as_bound t).broken) _ (ones-both (unknown l x) _ (one-unknown l x) (one-bound t h)) (one-second kind u i)) (one-part_at l x kind _ (meaning l x)))
 
 -- ---- operators
 
@@ -143,6 +230,9 @@ fit-unary l op p h = go p.size h
     go (Some k) i = judged-fit l (own_unary op k) _ (unary_term op p.term) (unary_signs op p.signs) (counted-own op k (i.sizes k refl)) (then-within (own_unary op k) (whole_unary op k) p.whole)
         (i.bounds k refl) i.one (i.constant k refl)
 
+one-binary : (op : BinaryOp) (t u : Term) (w : Bool) → EachIs IsOne t.broken → EachIs IsOne u.broken → EachIs IsOne (also (binary_term op t u) (breaks_if w 307 [])).broken
+one-binary op t u w h i = ones-both (binary_term op t u).broken _ (ones-both (t.broken ++ u.broken) _ (ones-both t.broken u.broken h i) (one-range (is_whole_only op))) (one-range w)
+
 pub fit-binary : (l : Look) (op : BinaryOp) (p q : Piece) → IsFitPiece p → IsFitPiece q → IsFitPiece (binary_piece l op p q)
 fit-binary l op p q h i = go p.size q.size h i
   where
@@ -150,29 +240,32 @@ fit-binary l op p q h i = go p.size q.size h i
     orders = orders_signed op p.signs q.signs
 
     go : (s r : Option ℕ) → IsFitPiece (with_size p s) → IsFitPiece (with_size q r) → IsFitPiece (binary_piece l op (with_size p s) (with_size q r))
-    go None None a b = open-fit _ refl (each-binary are-one op p.term q.term (orders && true) a.one b.one)
-    go None (Some k) a b = open-fit _ refl (each-binary are-one op p.term q.term (orders && true) a.one b.one)
-    go (Some j) None a b = open-fit _ refl (each-binary are-one op p.term q.term (orders && true) a.one b.one)
+    go None None a b = open-fit _ refl (one-binary op p.term q.term (orders && true) a.one b.one)
+    go None (Some k) a b = open-fit _ refl (one-binary op p.term q.term (orders && true) a.one b.one)
+    go (Some j) None a b = open-fit _ refl (one-binary op p.term q.term (orders && true) a.one b.one)
     go (Some j) (Some k) a b = judged-fit l (binary_size (binary_of op) j k) _ (also (binary_term op p.term q.term) (breaks_if (orders && false) 307 [])) (binary_signs op p.signs q.signs) (counted-binary (binary_of op) j k (a.sizes j refl) (b.sizes k refl))
         (both-within (binary_size (binary_of op) j k) (whole_binary op) p.whole q.whole)
         (alls-both (binary_term op p.term q.term).broken _ (alls-both (p.term.broken ++ q.term.broken) _ (alls-both p.term.broken q.term.broken (a.bounds j refl) (b.bounds k refl)) (all-range (is_whole_only op))) (all-range (orders && false)))
-        (each-binary are-one op p.term q.term (orders && false) a.one b.one) (ap₂ (λ x y. x && y) (a.constant j refl) (b.constant k refl))
+        (one-binary op p.term q.term (orders && false) a.one b.one) (ap₂ (λ x y. x && y) (a.constant j refl) (b.constant k refl))
+
+one-choice : (t u v : Term) → EachIs IsOne t.broken → EachIs IsOne u.broken → EachIs IsOne v.broken → EachIs IsOne (choice_term t u v).broken
+one-choice t u v h i j = ones-both (t.broken ++ u.broken) v.broken (ones-both t.broken u.broken h i) j
 
 pub fit-choice : (l : Look) (p q o : Piece) → IsFitPiece p → IsFitPiece q → IsFitPiece o → IsFitPiece (choice_piece l p q o)
 fit-choice l p q o h i j = go p.size q.size o.size h i j
   where
     go : (s r u : Option ℕ) → IsFitPiece (with_size p s) → IsFitPiece (with_size q r) → IsFitPiece (with_size o u) → IsFitPiece (choice_piece l (with_size p s) (with_size q r) (with_size o u))
-    go None None None a b c = open-fit _ refl (each-choice IsOne p.term q.term o.term a.one b.one c.one)
-    go None None (Some k) a b c = open-fit _ refl (each-choice IsOne p.term q.term o.term a.one b.one c.one)
-    go None (Some k) None a b c = open-fit _ refl (each-choice IsOne p.term q.term o.term a.one b.one c.one)
-    go None (Some j) (Some k) a b c = open-fit _ refl (each-choice IsOne p.term q.term o.term a.one b.one c.one)
-    go (Some n) None None a b c = open-fit _ refl (each-choice IsOne p.term q.term o.term a.one b.one c.one)
-    go (Some n) None (Some k) a b c = open-fit _ refl (each-choice IsOne p.term q.term o.term a.one b.one c.one)
-    go (Some n) (Some k) None a b c = open-fit _ refl (each-choice IsOne p.term q.term o.term a.one b.one c.one)
+    go None None None a b c = open-fit _ refl (one-choice p.term q.term o.term a.one b.one c.one)
+    go None None (Some k) a b c = open-fit _ refl (one-choice p.term q.term o.term a.one b.one c.one)
+    go None (Some k) None a b c = open-fit _ refl (one-choice p.term q.term o.term a.one b.one c.one)
+    go None (Some j) (Some k) a b c = open-fit _ refl (one-choice p.term q.term o.term a.one b.one c.one)
+    go (Some n) None None a b c = open-fit _ refl (one-choice p.term q.term o.term a.one b.one c.one)
+    go (Some n) None (Some k) a b c = open-fit _ refl (one-choice p.term q.term o.term a.one b.one c.one)
+    go (Some n) (Some k) None a b c = open-fit _ refl (one-choice p.term q.term o.term a.one b.one c.one)
     go (Some n) (Some j) (Some k) a b c = judged-fit l (max j k) _ (choice_term p.term q.term o.term) (choice_signs q.signs o.signs) (counted-max j k (b.sizes j refl) (c.sizes k refl))
         (choice-within (max j k) p.whole q.whole o.whole)
         (alls-both (p.term.broken ++ q.term.broken) o.term.broken (alls-both p.term.broken q.term.broken (a.bounds n refl) (b.bounds j refl)) (c.bounds k refl))
-        (each-choice IsOne p.term q.term o.term a.one b.one c.one) (ap₂ (λ x y. x && (y && o.term.is_constant)) (a.constant n refl) (b.constant j refl) ∙ c.constant k refl)
+        (one-choice p.term q.term o.term a.one b.one c.one) (ap₂ (λ x y. x && (y && o.term.is_constant)) (a.constant n refl) (b.constant j refl) ∙ c.constant k refl)
 
 -- ---- expressions
 
@@ -188,15 +281,15 @@ mutual
   fit l h (number v w z.Unsized) k = open-fit _ refl tt
   fit l h (number v w z.Sized) k = open-fit _ refl tt
   fit l h (name x) k = fit-name l x h (meaning l x) refl
-  fit l h (index x i) k = open-fit _ refl (each-index are-one l x (read l i) (fit l h i k).one)
-  fit l h (part x kind a b) k = open-fit _ refl (each-part are-one l x kind (read l a) (read l b) (fit l h a k.0).one (fit l h b k.1).one)
+  fit l h (index x i) k = open-fit _ refl (one-index l x (read l i) (fit l h i k).one)
+  fit l h (part x kind a b) k = open-fit _ refl (one-part l x kind (read l a) (read l b) (fit l h a k.0).one (fit l h b k.1).one)
   fit l h (unary op a) k = fit-unary l op (piece l a) (fit l h a k)
   fit l h (binary op a b) k = fit-binary l op (piece l a) (piece l b) (fit l h a k.0) (fit l h b k.1)
   fit l h (choice c a b) k = fit-choice l (piece l c) (piece l a) (piece l b) (fit l h c k.0) (fit l h a k.1) (fit l h b k.2)
-  fit l h (join parts) k = open-fit _ refl (each-join are-one (read_parts l parts) (fits l h parts k.1))
-  fit l h (repeat count parts) k = open-fit _ refl (each-repeat are-one (read l count) (read_parts l parts) (fit l h count k.0).one (fits l h parts k.2))
+  fit l h (join parts) k = open-fit _ refl (one-join (read_parts l parts) (fits l h parts k.1))
+  fit l h (repeat count parts) k = open-fit _ refl (one-repeat (read l count) (read_parts l parts) (fit l h count k.0).one (fits l h parts k.2))
   fit l h (paren a) k = fit l h a k
 
-  pub fits : (l : Look) → IsFit l → (es : ExprTrees) → AreFormed es → OfAll IsOne (read_parts l es)
+  pub fits : (l : Look) → IsFit l → (es : ExprTrees) → AreFormed es → AllOne (read_parts l es)
   fits l h no_trees k = tt
-  fits l h (and_trees a rest) k = (each-unsized are-one (read l a) _ (fit l h a k.0).one, fits l h rest k.1)
+  fits l h (and_trees a rest) k = (ones-both (read l a).broken _ (fit l h a k.0).one (one-other _ 308 [] (λ e. omega arith)), fits l h rest k.1)

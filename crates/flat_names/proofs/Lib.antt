@@ -2,7 +2,6 @@ pub mod Options
 pub mod Notes
 pub mod Wholes
 pub mod Terms
-pub mod Breaks
 pub mod Fit
 pub mod Counted
 pub mod Made

@@ -24,8 +24,7 @@ use Rattle.flat_names.specs.Selects.{index_of, part_at, bound_notes, second_note
 use Rattle.flat_names.proofs.Selected.{second-broken}
 use Rattle.flat_names.proofs.Notes.{noted-both, noted-late, then-noted}
 use Rattle.flat_names.proofs.Options.{ok-map}
-use Rattle.flat_names.proofs.Breaks.{each-constant, each-all}
-use Rattle.flat_names.proofs.Fit.{are-one, fit, fits, all-range, alls-both}
+use Rattle.flat_names.proofs.Fit.{fit, fits, all-range, alls-both, one-constant, one-all}
 use Rattle.flat_names.proofs.Arms.{settled-notes, unary-notes, binary-notes-are, choice-notes-are}
 use Rattle.flat_names.proofs.Named.{Reads, open-read}
 
@@ -107,7 +106,7 @@ part-reads l x kind a b f0 f1 f2 f3 f4 f5 f6 r is formed e1 e2 e3 e4 e5 h = (
 
     -- the left bound's own note stands behind the right one's constant
     moved : all_noted f5 low ≡ all_noted lower right
-    moved = ap (λ g. all_noted g low) is_right ∙ noted-late f3 low right (all-range _) (each-constant are-one (read l b) (fit l is b formed).one)
+    moved = ap (λ g. all_noted g low) is_right ∙ noted-late f3 low right (all-range _) (one-constant (read l b) (fit l is b formed).one)
 
     both : upper ≡ all_noted f0 ((unknown l x ++ (left ++ low)) ++ (right ++ high))
     both = then-noted f0 lower upper (unknown l x ++ (left ++ low)) (right ++ high)
@@ -179,7 +178,7 @@ repeat-broken l n parts f0 f1 f2 f3 f4 is formed e1 e2 e3 e4 = then-noted f0 (al
 
     -- the count's own notes stand behind the parts'
     moved : all_noted f3 (low ++ zero_) ≡ all_noted (all_noted f2 (low ++ zero_)) (all_broken ts)
-    moved = ap (λ g. all_noted g (low ++ zero_)) e3 ∙ noted-late f2 (low ++ zero_) (all_broken ts) (alls-both low zero_ (all-range _) (all-range _)) (each-all IsOne ts (fits l is parts formed))
+    moved = ap (λ g. all_noted g (low ++ zero_)) e3 ∙ noted-late f2 (low ++ zero_) (all_broken ts) (alls-both low zero_ (all-range _) (all-range _)) (one-all ts (fits l is parts formed))
 
     counted : all_noted f2 (low ++ zero_) ≡ all_noted f0 (as_count t).broken
     counted = then-noted f0 (all_noted f2 low) (all_noted f2 (low ++ zero_)) (as_bound t).broken zero_ (then-noted f0 f2 (all_noted f2 low) (as_constant t).broken low is_count refl) (noted-both f2 low zero_)

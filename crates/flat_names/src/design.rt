@@ -12,7 +12,6 @@ use crate::fault::Faults;
 use crate::scope::{Bounds, Look, Names};
 use cdc_base::{Name, Place, Signal};
 use flat_form::flat::{FlatAssign, FlatClocked, FlatComb, FlatReset};
-use flat_form::uses::HasWidth;
 use std::alloc::Global;
 
 /// The direction of a signal in its module.
@@ -53,14 +52,6 @@ impl Entry {
         ensures { result ≡ takes_seen of_wires (seen self.now) }
     {
         !self.is_reg && self.role != Role::Input
-    }
-}
-
-impl HasWidth for Entry {
-    ghost bits = { λ e. e.width };
-
-    fn width(&self) -> u8 {
-        self.width
     }
 }
 

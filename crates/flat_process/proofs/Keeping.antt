@@ -1,9 +1,10 @@
 -- The design once a reset gave registers their values.
-use Rattle.std.proofs.Common.{◌≡◌, ℕ, zero, suc, ◌+◌, ◌-◌, ◌^◌, ◌<◌, ◌≤◌, Bool, true, false, cond, not, ◌&&◌, ◌||◌, ◌==◌, nat_lt, nat_le, List, [], ◌∷◌, ◌++◌, length, map, Option, Some, None, is_some, refl, sym, ap, ap₂, subst, ◌∙◌, arith, append_assoc, append-nil, le-leb, bit_and, bit_or, set, get_or, Vec, Global}
+use Rattle.std.proofs.Common.{◌≡◌, ℕ, zero, suc, ◌+◌, ◌-◌, ◌^◌, ◌<◌, ◌≤◌, Bool, true, false, cond, not, ◌&&◌, ◌||◌, ◌==◌, nat_lt, nat_le, List, [], ◌∷◌, ◌++◌, length, map, Option, Some, None, is_some, refl, sym, ap, ap₂, subst, ◌∙◌, arith, append_assoc, append-nil, eqb-true, eq-eqb, le-leb, bit_and, bit_or, set, get_or, Vec, Global}
+use Rattle.std.specs.Prelude.{◌≢◌}
 use Rattle.std.proofs.lemmas.List.{length-map}
-use Rattle.std.proofs.lemmas.Bool.{lt-leb}
-use Rattle.std.specs.Prelude.{unwrap_or, option_and_then, slice_get}
-use Rattle.std.specs.Option.{option_or, option_map_or}
+use Rattle.std.proofs.lemmas.Bool.{lt-leb, false≢true}
+use Rattle.std.specs.Prelude.{unwrap_or}
+use Rattle.std.specs.Option.{option_or}
 use Rattle.cdc_base.specs.declared.signal.ResetPin.{ResetPin}
 use Rattle.cell_graph.specs.Tree.{bit_at}
 use Rattle.cell_graph.proofs.Words.{bit_or-bit}
@@ -23,35 +24,64 @@ use Rattle.flat_process.specs.Resets.{IsGiven, AreGiven, more_given, with_given}
 
 -- ---- entries, one of which got values of a reset
 
--- what a reset's value leaves as it is
-told-same : {A : Type 0} (f : Entry → A) (g : Given) → ((x : Entry) → f (more_given g x) ≡ f x) → (s : ℕ) (xs : List Entry) → map f (with_given s g xs) ≡ map f xs
-told-same f g h s [] = refl
-told-same f g h zero (x ∷ xs) = ap (λ y. y ∷ map f xs) (h x)
-told-same f g h (suc s) (x ∷ xs) = ap (λ ys. f x ∷ ys) (told-same f g h s xs)
+seen-same : (s : ℕ) (g : Given) (xs : List Entry) → map seen (with_given s g xs) ≡ map seen xs
+seen-same s g [] = refl
+seen-same zero g (x ∷ xs) = refl
+seen-same (suc s) g (x ∷ xs) = ap (λ ys. seen x ∷ ys) (seen-same s g xs)
 
-found-same : {A : Type 0} (f : Entry → Option A) (g : Given) → ((x : Entry) → f (more_given g x) ≡ f x) → (s : ℕ) (xs : List Entry) (k : ℕ)
-    → option_and_then f (slice_get (with_given s g xs) k) ≡ option_and_then f (slice_get xs k)
-found-same f g h s [] k = refl
-found-same f g h zero (x ∷ xs) zero = h x
-found-same f g h zero (x ∷ xs) (suc k) = refl
-found-same f g h (suc s) (x ∷ xs) zero = refl
-found-same f g h (suc s) (x ∷ xs) (suc k) = found-same f g h s xs k
+open-same : (s : ℕ) (g : Given) (xs : List Entry) → map (λ (x : Entry). x.is_open) (with_given s g xs) ≡ map (λ (x : Entry). x.is_open) xs
+open-same s g [] = refl
+open-same zero g (x ∷ xs) = refl
+open-same (suc s) g (x ∷ xs) = ap (λ ys. x.is_open ∷ ys) (open-same s g xs)
 
--- what it changes at the signal's own entry
-word-more : (f : Entry → ℕ) (g : Given) (more : ℕ → ℕ) → ((x : Entry) → f (more_given g x) ≡ more (f x)) → (s : ℕ) (xs : List Entry) (k : ℕ) → s < length xs
-    → option_map_or f (slice_get (with_given s g xs) k) 0 ≡ cond (s == k) (more (option_map_or f (slice_get xs k) 0)) (option_map_or f (slice_get xs k) 0)
-word-more f g more h s [] k l = absurd (omega arith)
-word-more f g more h zero (x ∷ xs) zero l = h x
-word-more f g more h zero (x ∷ xs) (suc k) l = refl
-word-more f g more h (suc s) (x ∷ xs) zero l = refl
-word-more f g more h (suc s) (x ∷ xs) (suc k) l = word-more f g more h s xs k (omega arith)
+reset-same : (s : ℕ) (g : Given) (xs : List Entry) (k : ℕ) → reset_of (with_given s g xs) k ≡ reset_of xs k
+reset-same s g [] k = refl
+reset-same zero g (x ∷ xs) zero = refl
+reset-same zero g (x ∷ xs) (suc k) = refl
+reset-same (suc s) g (x ∷ xs) zero = refl
+reset-same (suc s) g (x ∷ xs) (suc k) = reset-same s g xs k
 
-known-more : (s : ℕ) (g : Given) (xs : List Entry) (k : ℕ) → s < length xs → known_at (with_given s g xs) k ≡ cond (s == k) (bit_or (known_at xs k) g.mask) (known_at xs k)
-known-more s g xs = word-more (λ (x : Entry). x.reset_known) g (λ w. bit_or w g.mask) (λ x. refl) s xs
+start-same : (s : ℕ) (g : Given) (xs : List Entry) (k : ℕ) → start_at (with_given s g xs) k ≡ start_at xs k
+start-same s g [] k = refl
+start-same zero g (x ∷ xs) zero = refl
+start-same zero g (x ∷ xs) (suc k) = refl
+start-same (suc s) g (x ∷ xs) zero = refl
+start-same (suc s) g (x ∷ xs) (suc k) = start-same s g xs k
 
-value-more : (s : ℕ) (g : Given) (xs : List Entry) (k : ℕ) → s < length xs
-    → value_at (with_given s g xs) k ≡ cond (s == k) (bit_or (bit_and (value_at xs k) (2 ^ 64 - 1 - g.mask)) g.value) (value_at xs k)
-value-more s g xs = word-more (λ (x : Entry). x.reset_start) g (λ w. bit_or (bit_and w (2 ^ 64 - 1 - g.mask)) g.value) (λ x. refl) s xs
+known-here : (s : ℕ) (g : Given) (xs : List Entry) → s < length xs → known_at (with_given s g xs) s ≡ bit_or (known_at xs s) g.mask
+known-here s g [] h = absurd (omega arith)
+known-here zero g (x ∷ xs) h = refl
+known-here (suc s) g (x ∷ xs) h = known-here s g xs (omega arith)
+
+known-other : (s : ℕ) (g : Given) (xs : List Entry) (k : ℕ) → s ≢ k → known_at (with_given s g xs) k ≡ known_at xs k
+known-other s g [] k h = refl
+known-other zero g (x ∷ xs) zero h = absurd (h refl)
+known-other zero g (x ∷ xs) (suc k) h = refl
+known-other (suc s) g (x ∷ xs) zero h = refl
+known-other (suc s) g (x ∷ xs) (suc k) h = known-other s g xs k (λ e. h (ap suc e))
+
+value-here : (s : ℕ) (g : Given) (xs : List Entry) → s < length xs → value_at (with_given s g xs) s ≡ bit_or (bit_and (value_at xs s) (2 ^ 64 - 1 - g.mask)) g.value
+value-here s g [] h = absurd (omega arith)
+value-here zero g (x ∷ xs) h = refl
+value-here (suc s) g (x ∷ xs) h = value-here s g xs (omega arith)
+
+value-other : (s : ℕ) (g : Given) (xs : List Entry) (k : ℕ) → s ≢ k → value_at (with_given s g xs) k ≡ value_at xs k
+value-other s g [] k h = refl
+value-other zero g (x ∷ xs) zero h = absurd (h refl)
+value-other zero g (x ∷ xs) (suc k) h = refl
+value-other (suc s) g (x ∷ xs) zero h = refl
+value-other (suc s) g (x ∷ xs) (suc k) h = value-other s g xs k (λ e. h (ap suc e))
+
+no-equal : (s k : ℕ) → (s == k) ≡ false → s ≢ k
+no-equal s k h e = false≢true (sym h ∙ eq-eqb s k e)
+
+known-more : (s : ℕ) (g : Given) (xs : List Entry) (k : ℕ) (t : Bool) → (s == k) ≡ t → s < length xs → known_at (with_given s g xs) k ≡ cond t (bit_or (known_at xs k) g.mask) (known_at xs k)
+known-more s g xs k true e h = subst (λ j. known_at (with_given s g xs) j ≡ bit_or (known_at xs j) g.mask) (eqb-true s k e) (known-here s g xs h)
+known-more s g xs k false e h = known-other s g xs k (no-equal s k e)
+
+value-more : (s : ℕ) (g : Given) (xs : List Entry) (k : ℕ) (t : Bool) → (s == k) ≡ t → s < length xs → value_at (with_given s g xs) k ≡ cond t (bit_or (bit_and (value_at xs k) (2 ^ 64 - 1 - g.mask)) g.value) (value_at xs k)
+value-more s g xs k true e h = subst (λ j. value_at (with_given s g xs) j ≡ bit_or (bit_and (value_at xs j) (2 ^ 64 - 1 - g.mask)) g.value) (eqb-true s k e) (value-here s g xs h)
+value-more s g xs k false e h = value-other s g xs k (no-equal s k e)
 
 pub set-given : (s : ℕ) (g : Given) (xs : List Entry) (x : Entry) → s < length xs → x ≡ get_or xs s x → set xs s (more_given g x) ≡ with_given s g xs
 set-given s g [] x l h = absurd (omega arith)
@@ -115,10 +145,8 @@ module _ (n : ℕ) (v : u.Given) (g : Given) (h : IsGiven n v g) where
 
   given-more : (gs : List u.Given) (xs : List Entry) (s : ℕ) → g.sig < length xs → d.AreGiven gs xs s → d.AreGiven (gs ++ v ∷ []) (with_given g.sig g xs) s
   given-more gs xs s small a = record {
-    known = λ i l. ap (λ k. bit_at k i) (known-more g.sig g xs s small ∙ ap (λ z. cond (z == s) (bit_or (known_at xs s) g.mask) (known_at xs s)) h.sig)
-        ∙ known-go i l (v.sig == s) refl ∙ ap is_some (sym (given-push gs v s i));
-    value = λ i l. ap (λ k. bit_at k i) (value-more g.sig g xs s small ∙ ap (λ z. cond (z == s) (bit_or (bit_and (value_at xs s) (2 ^ 64 - 1 - g.mask)) g.value) (value_at xs s)) h.sig)
-        ∙ value-go i l (v.sig == s) refl ∙ ap (λ o. unwrap_or o false) (sym (given-push gs v s i));
+    known = λ i l. ap (λ k. bit_at k i) (known-more g.sig g xs s (v.sig == s) (ap (λ z. z == s) h.sig) small) ∙ known-go i l (v.sig == s) refl ∙ ap is_some (sym (given-push gs v s i));
+    value = λ i l. ap (λ k. bit_at k i) (value-more g.sig g xs s (v.sig == s) (ap (λ z. z == s) h.sig) small) ∙ value-go i l (v.sig == s) refl ∙ ap (λ o. unwrap_or o false) (sym (given-push gs v s i));
   }
     where
       known-go : (i : ℕ) → i < 64 → (t : Bool) → (v.sig == s) ≡ t → bit_at (cond t (bit_or (known_at xs s) g.mask) (known_at xs s)) i ≡ is_some (option_or (bit_one v s i) (given_bit gs s i))
@@ -142,11 +170,10 @@ module _ (pins : List ResetPin) (c : Design) (e : u.Design) (h : ShowsDesign pin
   shows-given w v g i k =
       let small : g.sig < length c.entries.items = let a = i.declared in let b = i.sig in let m = as-many in omega arith in
       record {
-        entries = ap (map seen) k ∙ told-same seen g (λ x. refl) g.sig c.entries.items ∙ h.entries;
-        may_repeat = ap (map (λ (x : Entry). x.is_open)) k ∙ told-same (λ (x : Entry). x.is_open) g (λ x. refl) g.sig c.entries.items ∙ h.may_repeat;
+        entries = ap (map seen) k ∙ seen-same g.sig g c.entries.items ∙ h.entries;
+        may_repeat = ap (map (λ (x : Entry). x.is_open)) k ∙ open-same g.sig g c.entries.items ∙ h.may_repeat;
         signals = h.signals;
-        resets = λ s. subst (λ o. IsReset pins o (reset_at e.entries s))
-            (sym (ap (λ ys. reset_of ys s) k ∙ found-same (λ (x : Entry). x.reset) g (λ x. refl) g.sig c.entries.items s)) (h.resets s);
+        resets = λ s. subst (λ o. IsReset pins o (reset_at e.entries s)) (sym (ap (λ ys. reset_of ys s) k ∙ reset-same g.sig g c.entries.items s)) (h.resets s);
         assigns = h.assigns;
         combs = h.combs;
         clocked = h.clocked;
@@ -154,7 +181,7 @@ module _ (pins : List ResetPin) (c : Design) (e : u.Design) (h : ShowsDesign pin
         process_resets = h.process_resets;
         late = h.late;
         outputs = h.outputs;
-        starts = λ s. ap (λ ys. start_at ys s) k ∙ found-same (λ (x : Entry). x.start) g (λ x. refl) g.sig c.entries.items s ∙ h.starts s;
+        starts = λ s. ap (λ ys. start_at ys s) k ∙ start-same g.sig g c.entries.items s ∙ h.starts s;
         givens = λ s. subst (λ ys. d.AreGiven (e.givens ++ v ∷ []) ys s) (sym k) (given-more (length e.entries) v g i e.givens c.entries.items s small (h.givens s));
         sizes = h.sizes;
       }

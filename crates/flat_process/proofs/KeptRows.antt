@@ -1,9 +1,8 @@
 -- What the first branch of reset form keeps, row by row.
-use Rattle.std.proofs.Common.{◌≡◌, ℕ, ◌+◌, ◌<◌, ◌≤◌, Bool, true, false, cond, ◌&&◌, List, [], ◌∷◌, ◌++◌, length, map, drop, get_or, Option, Some, None, refl, sym, ap, subst, ◌∙◌, rules}
+use Rattle.std.proofs.Common.{◌≡◌, ℕ, Bool, true, false, cond, ◌&&◌, List, [], ◌∷◌, ◌++◌, map, Option, Some, None, refl, sym, ap, subst, ◌∙◌, rules}
 use Rattle.std.specs.Prelude.{slice_get, option_map}
 use Rattle.std.specs.Option.{option_map_or}
 use Rattle.std.proofs.lemmas.Bool.{and_parts}
-use Rattle.std.proofs.lemmas.List.{drop_all}
 use Rattle.flat_meaning.specs.Flat.{Target, Stmt, Block, Stmts, no_stmts, stmt}
 use Rattle.flat_form.specs.declared.flat.FExpr.{FExpr}
 use Rattle.flat_form.specs.declared.flat.FTarget.{FTarget}
@@ -15,7 +14,6 @@ use Rattle.flat_form.specs.declared.flat.FStmt.TheVariants as t
 use Rattle.flat_form.specs.declared.flat.FStmt.TheOpen.{FStmt-F}
 use Rattle.flat_form.specs.declared.flat.FStmt.TheFolds.{fold-roll-FStmt}
 use Rattle.flat_form.specs.View.{stmt_of, stmts_of, target_of}
-use Rattle.flat_form.proofs.Lefts.{left-is}
 use Rattle.flat_form.proofs.StmtFolds.{stmt_of-Set, stmt_of-Block}
 use Rattle.flat_unfolding.specs.Names as n
 use Rattle.flat_unfolding.specs.Names.{width_of, width_at}
@@ -33,18 +31,8 @@ use Rattle.flat_process.specs.Kept.{in_front, Grow, Grew}
 pub grew-none : (rows : List FStmt) → Grew (λ rest. rest) rows rows
 grew-none rows = record { rows = λ rest. refl; sizes = λ h. h }
 
-grow-on : (one left all : Stmts → Stmts) (old now new : List FStmt) → Grow (λ rest. one (left rest)) all old now → Grew one now new → Grow left all old new
+pub grow-on : (one left all : Stmts → Stmts) (old now new : List FStmt) → Grow (λ rest. one (left rest)) all old now → Grew one now new → Grow left all old new
 grow-on one left all old now new h a = record { rows = λ rest. a.rows (left rest) ∙ h.rows rest; sizes = λ s. a.sizes (h.sizes s) }
-
--- one more of a list whose items are kept in turn, and the end of the list
-module _ {X : Type 0} (left : List X → Stmts → Stmts) (xs : List X) (i : ℕ) (old now : List FStmt) where
-  pub grow-step : (one : X → Stmts → Stmts) (x : X) (new : List FStmt) → left (x ∷ drop (i + 1) xs) ≡ (λ rest. one x (left (drop (i + 1) xs) rest))
-      → i < length xs → x ≡ get_or xs i x
-      → Grow (left (drop i xs)) (left xs) old now → Grew (one x) now new → Grow (left (drop (i + 1) xs)) (left xs) old new
-  grow-step one x new e l is h a = grow-on (one x) (left (drop (i + 1) xs)) (left xs) old now new (subst (λ f. Grow f (left xs) old now) (ap left (left-is xs i x l is) ∙ e) h) a
-
-  pub grow-end : left [] ≡ (λ rest. rest) → length xs ≤ i → Grow (left (drop i xs)) (left xs) old now → Grew (left xs) old now
-  grow-end e l h = subst (λ f. Grow f (left xs) old now) (ap left (drop_all i xs l) ∙ e) h
 
 front-push : (ss : List FStmt) (x : FStmt) (rest : Stmts) → in_front (map stmt_of (ss ++ x ∷ [])) rest ≡ in_front (map stmt_of ss) (stmt (stmt_of x) rest)
 front-push [] x rest = refl

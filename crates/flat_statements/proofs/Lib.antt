@@ -1,3 +1,4 @@
+pub mod Lefts
 pub mod Sizes
 pub mod Alike
 pub mod Done

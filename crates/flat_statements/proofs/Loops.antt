@@ -1,7 +1,7 @@
 -- What is done of a list's items, and what the rest will add.
 use Rattle.std.proofs.Common.{◌≡◌, ℕ, suc, ◌+◌, ◌^◌, ◌<◌, ◌≤◌, Bool, true, false, ◌&&◌, List, [], ◌∷◌, ◌++◌, map, refl, sym, ap, ap₂, subst, ◌∙◌, arith, append-nil}
 use Rattle.std.specs.Prelude.{All}
-use Rattle.std.proofs.lemmas.List.Elements.{All-head, All-tail}
+use Rattle.std.proofs.lemmas.List.Elements.{All-tail}
 use Rattle.std.proofs.lemmas.Bool.{and_parts}
 use Rattle.verilog_ast.specs.declared.Label.{Label}
 use Rattle.verilog_ast.specs.declared.Stmt.{Stmt}
@@ -24,10 +24,6 @@ use Rattle.flat_names.proofs.Notes.{noted-both}
 use Rattle.flat_statements.specs.Statements.{arm_tree_of, IsDone, AreDone, AreArms}
 use Rattle.flat_statements.proofs.Sizes.{both-true}
 use Rattle.flat_statements.proofs.Done.{done-none, done-more, arms-none, arms-more, IsItem, noted-three}
-
--- the first label that is left
-pub label-formed : (x : Label) (rest left : List Label) → left ≡ x ∷ rest → All IsLabelFormed (map label_tree_of left) → IsLabelFormed (label_tree_of x)
-label-formed x rest left e h = All-head IsLabelFormed (label_tree_of x) (map label_tree_of rest) (subst (λ (ys : List Label). All IsLabelFormed (map label_tree_of ys)) e h)
 
 pub push-push : {A : Type 0} (xs : List A) (x : A) (ys : List A) → (xs ++ x ∷ []) ++ ys ≡ xs ++ (x ∷ ys)
 push-push [] x ys = refl

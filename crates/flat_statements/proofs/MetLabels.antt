@@ -188,7 +188,7 @@ module _ (l : Look) (e : ExprTree) where
 
 -- the labels of the first item are as readings of texts give them
 pub first-labels : (xs rest : List CaseItem) (x : CaseItem) → xs ≡ x ∷ rest → AreArmsFormed (arms_of (map arm_tree_of xs)) → All IsLabelFormed (map label_tree_of x.labels)
-first-labels xs rest x h f = (item-formed x rest xs h f).0
+first-labels xs rest x h f = (item-formed x rest (subst (λ (ys : List CaseItem). AreArmsFormed (arms_of (map arm_tree_of ys))) h f)).0
 
 pub is-clean : (bs : List Broken) → not (is_empty bs) ≡ false → is_empty bs ≡ true
 is-clean [] e = refl

@@ -69,11 +69,8 @@ labels-formed : (es : List LabelTree) → AreLabels es → All IsLabelFormed es
 labels-formed [] h = absurd h
 labels-formed (e ∷ es) h = h
 
-pub item-formed : (x : CaseItem) (rest left : List CaseItem) → left ≡ x ∷ rest → AreArmsFormed (arms_of (map arm_tree_of left))
-    → All IsLabelFormed (map label_tree_of x.labels) × IsStmtFormed (stmt_tree_of x.body)
-item-formed x rest left e f =
-    let h = subst (λ (ys : List CaseItem). AreArmsFormed (arms_of (map arm_tree_of ys))) e f in
-    (labels-formed (map label_tree_of x.labels) (subst (λ (a : ArmTree). AreLabels a.labels) (arm-tree x) h.0), subst (λ (a : ArmTree). IsStmtFormed a.body) (arm-tree x) h.1)
+pub item-formed : (x : CaseItem) (rest : List CaseItem) → AreArmsFormed (arms_of (map arm_tree_of (x ∷ rest))) → All IsLabelFormed (map label_tree_of x.labels) × IsStmtFormed (stmt_tree_of x.body)
+item-formed x rest h = (labels-formed (map label_tree_of x.labels) (subst (λ (a : ArmTree). AreLabels a.labels) (arm-tree x) h.0), subst (λ (a : ArmTree). IsStmtFormed a.body) (arm-tree x) h.1)
 
 module _ (l : Look) (k : Kind) where
   -- the items so far with one more

@@ -37,8 +37,7 @@ use Rattle.flat_targets.specs.Aims.{sized_step, all_true, is_target_sized, IsAim
 use Rattle.flat_names.proofs.Notes.{IsOne, noted-both, noted-late}
 use Rattle.flat_names.proofs.Options.{none-some, some-same}
 use Rattle.flat_names.proofs.Looked.{range-is, meant-is, entry-is, width-is}
-use Rattle.flat_names.proofs.Breaks.{each-both, if-range}
-use Rattle.flat_names.proofs.Fit.{are-one}
+use Rattle.flat_names.proofs.Fit.{ones-both, one-range}
 use Rattle.flat_names.proofs.Selected.{second-broken}
 
 -- ---- what may be assigned
@@ -75,7 +74,7 @@ bounds-noted f kind v w h =
     let a = (as_constant v).broken in
     let b = (as_constant w).broken in
     noted-both (all_noted (all_noted f a) b) (bound_notes v) (second_notes kind w)
-    ∙ ap (λ g. all_noted g (second_notes kind w)) (noted-late (all_noted f a) (bound_notes v) b (each-range _) (each-both IsOne w.broken _ h (if-range are-one _)))
+    ∙ ap (λ g. all_noted g (second_notes kind w)) (noted-late (all_noted f a) (bound_notes v) b (each-range _) (ones-both w.broken _ h (one-range _)))
     ∙ ap (λ g. all_noted (all_noted g b) (second_notes kind w)) (sym (noted-both f a (bound_notes v)))
     ∙ sym (noted-both (all_noted f (as_bound v).broken) b (second_notes kind w))
     ∙ ap (all_noted (all_noted f (as_bound v).broken)) (sym (second-broken kind w))

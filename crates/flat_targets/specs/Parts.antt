@@ -1,13 +1,14 @@
 -- Parts of resolved target concatenations, from the left: which of them assign what another one assigns or reads.
-use Rattle.std.specs.Prelude.{◌≡◌, ℕ, ◌<◌, ◌≤◌, Bool, true, false, ◌&&◌, ◌||◌, cond, List, [], ◌∷◌, ◌++◌, length, Option, Some, None}
+use Rattle.std.specs.Prelude.{◌≡◌, ℕ, ◌<◌, ◌≤◌, Bool, true, false, ◌&&◌, ◌||◌, cond, List, [], ◌∷◌, ◌++◌, length, Option, Some, None, slice_get}
 use Rattle.std.specs.List.{list_any}
+use Rattle.std.specs.Option.{option_map_or}
 use Rattle.cell_graph.specs.Tree.{any_below}
 use Rattle.flat_meaning.specs.Flat.{Target, Whole, Part, Pick, Group, Targets, no_targets, target}
 use Rattle.flat_meaning.specs.Assigned.{is_within, reaches}
 use Rattle.flat_meaning.specs.Deps.{Bits}
 use Rattle.flat_form.specs.declared.masks.Masks.{Masks}
 use Rattle.flat_form.specs.Masks.{bits_in}
-use Rattle.flat_form.specs.Uses.{width_by, target_reads}
+use Rattle.flat_form.specs.Uses.{target_reads}
 use Rattle.flat_names.specs.declared.design.Entry.{Entry}
 
 -- the parts of a target that are no concatenations of parts. What breaks a rule is one of none
@@ -40,7 +41,7 @@ is_group (Part s at w) = false
 is_group (Pick s e) = false
 
 abbrev pub width_among : List Entry → ℕ → ℕ
-width_among = width_by (λ (e : Entry). e.width)
+width_among entries s = option_map_or (λ (e : Entry). e.width) (slice_get entries s) 0
 
 -- widths of n signals, of which none has more than 64 bits
 pub record AreWidths (wid : ℕ → ℕ) (n : ℕ) : Type 0 where

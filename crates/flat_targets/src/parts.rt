@@ -11,13 +11,69 @@ ghost use Rattle.flat_form.specs.Uses.{exprs_read};
 ghost use Rattle.flat_targets.specs.Parts.{width_among, AreWidths, IsPart, parts as parts_of, parts_in, within, Holds, is_read as is_read_of, shares, reads_from, is_met as is_met_of, first_met as first_met_of};
 
 use cdc_base::NoMemory;
-use flat_form::bits::bits;
+use flat_form::bits::{bits, low_bits};
 use flat_form::flat::{FExpr, FTarget};
 use flat_form::masks::Masks;
 use flat_form::memory::push;
-use flat_form::uses::{add_reads, all_bits};
 use flat_names::design::Entry;
 use std::alloc::Global;
+
+/// All bits of a signal.
+fn all_bits(entries: &[Entry], sig: u32) -> u64
+    ensures { (i : ℕ) → i < 64 → bit_at result i ≡ is_within 0 (width_among entries.now sig) i }
+{
+    match entries.get(usize::try_from(sig).unwrap_or(usize::MAX)) {
+        Some(entry) => low_bits(entry.width),
+        None => 0,
+    }
+}
+
+/// Adds the bits that an index reads. A variable index in it reads its whole signal. A read of a large memory is a long
+/// chain of choices, which is walked without a recursion.
+#[cycle(add_reads)]
+fn add_reads(entries: &[Entry], expr: &FExpr, reads: &mut Masks) -> Result<(), NoMemory>
+    ensures { IfOk result (λ _. Adds reads.old reads.new (expr_reads (width_among entries.now) (expr_of expr.now))) }
+{
+    let mut inner = expr;
+    loop {
+        match inner {
+            FExpr::Number { .. } => return Ok(()),
+            FExpr::Read { sig, at, width } => return reads.add(*sig, bits(*at, *width)),
+            FExpr::At { sig, index, .. } => {
+                reads.add(*sig, all_bits(entries, *sig))?;
+                inner = index;
+            }
+            FExpr::Unary { a, .. } => inner = a,
+            FExpr::Binary { a, b, .. } => {
+                add_reads(entries, b, reads)?;
+                inner = a;
+            }
+            FExpr::Choose {
+                cond,
+                yes,
+                other,
+                ..
+            } => {
+                add_reads(entries, cond, reads)?;
+                add_reads(entries, yes, reads)?;
+                inner = other;
+            }
+            FExpr::Gate { inputs, .. } => return add_reads_of(entries, inputs.as_slice(), reads),
+            FExpr::Join { parts, .. } => return add_reads_of(entries, parts.as_slice(), reads),
+            FExpr::Repeat { parts, .. } => return add_reads_of(entries, parts.as_slice(), reads),
+        }
+    }
+}
+
+#[cycle(add_reads)]
+fn add_reads_of(entries: &[Entry], exprs: &[FExpr], reads: &mut Masks) -> Result<(), NoMemory>
+    ensures { IfOk result (λ _. Adds reads.old reads.new (exprs_read (width_among entries.now) (exprs_of (map expr_of exprs.now)))) }
+{
+    for expr in exprs {
+        add_reads(entries, expr, reads)?;
+    }
+    Ok(())
+}
 
 /// The signal of which a part may assign bits, and a mask of these. A variable index may choose each bit of its signal.
 fn may_assign(entries: &[Entry], part: &FTarget) -> (u32, u64)

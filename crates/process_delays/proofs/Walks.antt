@@ -13,6 +13,9 @@ use Rattle.process_delays.specs.Walks.{arm_tree_of, other_of, walked_other}
 use Rattle.process_delays.proofs.Trees.{tree-switch, tree-switch_else, arm-body}
 use Rattle.process_delays.proofs.Ways.{on_both-none, on_both-assoc}
 
+pub left-is : {A : Type 0} (xs : List A) (i : ℕ) (x : A) → i < length xs → x ≡ get_or xs i x → drop i xs ≡ x ∷ drop (i + 1) xs
+left-is xs i x l e = drop-cons xs i x l ∙ ap₂ (λ y ys. y ∷ ys) (sym e) (ap (λ j. drop j xs) (let d : suc i ≡ i + 1 = omega arith in d))
+
 pub now_left : (xs : List (Bor Text)) (i : ℕ) (d : Bor Text) → i < length xs → map (λ (n : Bor Text). n.now) (drop i xs) ≡ (get_or xs i d).now ∷ map (λ (n : Bor Text). n.now) (drop (i + 1) xs)
 now_left xs i d l = ap (map (λ (n : Bor Text). n.now)) (drop-cons xs i d l ∙ ap (λ j. get_or xs i d ∷ drop j xs) (let s : suc i ≡ i + 1 = omega arith in s))
 

@@ -1,10 +1,10 @@
 -- The ends of a graph's last vertex, as they grow.
 use Rattle.std.proofs.Common.{◌≡◌, ℕ, ◌+◌, ◌<◌, List, [], ◌∷◌, ◌++◌, length, map, drop, get_or, Result, Ok, Err, OnOk, sym, ap, ◌∙◌}
+use Rattle.std.proofs.lemmas.List.{drop_more}
 use Rattle.driver_loops.specs.Links.{extended}
 use Rattle.driver_loops.proofs.Rows.{extended-nothing, extended-twice, extended-begun}
 use Rattle.flat_form.specs.declared.flat.FExpr.{FExpr}
 use Rattle.flat_form.specs.View.{expr_of, exprs_of}
-use Rattle.flat_form.proofs.Lefts.{left-is}
 use Rattle.reset_nets.specs.Nets.{reads_of, all_reads_of}
 
 pub on_ok : {T E : Type 0} (r : Result T E) (P Q : Type 0) → (P → Q) → OnOk r P → OnOk r Q
@@ -27,7 +27,7 @@ pub ends_step : (all : List FExpr) (k : ℕ) (x : FExpr) (now new whole : List (
 ends_step all k x now new whole l at e h =
     ap (λ r. extended r (all_reads_of (exprs_of (map expr_of (drop (k + 1) all))))) e
     ∙ extended-twice now (reads_of (expr_of x)) (all_reads_of (exprs_of (map expr_of (drop (k + 1) all))))
-    ∙ sym (ap (λ (ys : List FExpr). extended now (all_reads_of (exprs_of (map expr_of ys)))) (left-is all k x l at))
+    ∙ sym (ap (λ (ys : List FExpr). extended now (all_reads_of (exprs_of (map expr_of ys)))) (drop_more all k x l ∙ ap (λ (z : FExpr). z ∷ drop (k + 1) all) (sym at)))
     ∙ h
 
 pub ends_done : (all rest : List FExpr) (now whole : List (List ℕ)) → rest ≡ [] → extended now (all_reads_of (exprs_of (map expr_of rest))) ≡ whole → now ≡ whole

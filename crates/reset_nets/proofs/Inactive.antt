@@ -1,10 +1,9 @@
 -- The levels of declared resets, as they are found by name.
 use Rattle.std.proofs.Common.{◌≡◌, ℕ, ◌+◌, ◌<◌, Bool, true, false, not, cond, List, [], ◌∷◌, ◌++◌, length, map, drop, get_or, Option, Some, None, refl, sym, ap, ◌∙◌}
 use Rattle.std.specs.Prelude.{option_map}
-use Rattle.std.proofs.lemmas.List.{append_assoc}
+use Rattle.std.proofs.lemmas.List.{append_assoc, drop_more}
 use Rattle.cdc_base.specs.declared.signal.ResetPin.{ResetPin}
 use Rattle.cdc_base.specs.declared.signal.Signal.{Signal}
-use Rattle.flat_form.proofs.Lefts.{left-is}
 use Rattle.flat_names.specs.declared.design.Reset.{Reset}
 use Rattle.flat_names.specs.Designs.{IsReset}
 use Rattle.reset_nets.specs.Nets.{inactive}
@@ -24,5 +23,5 @@ pub levels_step : (level : Signal → Option Bool) (all : List Signal) (k : ℕ)
 levels_step level all k x within at old new whole l is pushed h =
     ap (λ ls. ls ++ map level (drop (k + 1) all)) (pushed ∙ ap (λ y. old ++ y ∷ []) is)
     ∙ append_assoc old (level x ∷ []) (map level (drop (k + 1) all))
-    ∙ sym (ap (λ (xs : List Signal). old ++ map level xs) (left-is all k x within at))
+    ∙ sym (ap (λ (xs : List Signal). old ++ map level xs) (drop_more all k x within ∙ ap (λ (y : Signal). y ∷ drop (k + 1) all) (sym at)))
     ∙ h

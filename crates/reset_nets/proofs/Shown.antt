@@ -14,7 +14,6 @@ use Rattle.driver_loops.specs.Orders.{here, IsDepthFirst, IsOrderOf}
 use Rattle.flat_form.specs.declared.flat.FlatAssign.{FlatAssign}
 use Rattle.flat_form.specs.View.{expr_of}
 use Rattle.flat_meaning.specs.Flat.{Expr, Target}
-use Rattle.flat_form.proofs.Lefts.{left-is}
 use Rattle.flat_unfolding.specs.Names.{Entry, inner, width_of, width_at}
 use Rattle.flat_unfolding.specs.Design.{Design}
 use Rattle.flat_names.specs.Designs.{signal_of}
@@ -270,5 +269,5 @@ module _ (pins : List ResetPin) (w : Wires) (d : Design) (h : ShowsWires pins w 
           let kept : level ≡ get_or levels k None = told ∙ ap (λ (o : Option (Option Bool)). option_and_then (λ q. q) o) (slice_get-get_or levels k None in_levels) in
           more_pins pins nets new d.entries levels k y level all
           (drop_more d.entries k y in_entries ∙ ap (λ (z : Entry). z ∷ drop (k + 1) d.entries) (get_or_from_slice_get d.entries k y y e))
-          (left-is levels k None in_levels kept)
+          (drop_more levels k None in_levels ∙ ap (λ (z : Option Bool). z ∷ drop (k + 1) levels) (sym kept))
           (added y here_is ∙ ap (λ (o : Option Bool). nets ++ pin_if o y level) own) rest

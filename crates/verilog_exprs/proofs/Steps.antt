@@ -1,6 +1,5 @@
 -- The steps of a reader, as the parser takes them.
-use Rattle.std.proofs.Common.{◌≡◌, ℕ, zero, suc, ◌<◌, Bool, true, false, List, [], ◌∷◌, ◌++◌, length, Option, Some, None, Result, Ok, Err, refl, sym, ap, subst, ◌∙◌, append_assoc, append-nil, arith}
-use Rattle.std.specs.Prelude.{IsErrAnd, IfErr}
+use Rattle.std.proofs.Common.{◌≡◌, ℕ, zero, suc, ◌<◌, Bool, true, false, List, [], ◌∷◌, ◌++◌, length, Option, Some, None, refl, sym, ap, subst, ◌∙◌, append_assoc, append-nil, arith}
 use Rattle.verilog_exprs.specs.declared.halt.Halt.{Halt}
 use Rattle.verilog_exprs.specs.declared.halt.Halt.TheVariants.{Refused, Memory}
 use Rattle.verilog_exprs.specs.Halts.{HaltsAs, by_memory, by_refusal}
@@ -25,11 +24,6 @@ halts_at o d rest h e w = subst (HaltsAs o) (sym w) (by_refusal d rest e)
 
 pub halts_for_memory : {A : Type 0} (o : Outcome A) (h : Halt) → h ≡ Memory → HaltsAs o h
 halts_for_memory o h w = subst (HaltsAs o) (sym w) by_memory
-
--- what holds of a call's halt holds of the result that hands it on
-pub handed_on : {T : Type 0} {e : Halt} (P : Halt → Type 0) (r : Result T Halt) → IsErrAnd r (λ y. y ≡ e) → P e → IfErr r P
-handed_on P (Err y) h w = subst P (sym h) w
-handed_on P (Ok x) h w = absurd h
 
 -- tests of the next token
 pub then_done : {A B : Type 0} (o : Outcome A) (f : A → List Token → Outcome B) (a : A) (rest : List Token) → o ≡ done a rest → then_read o f ≡ f a rest

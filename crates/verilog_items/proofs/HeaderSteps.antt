@@ -6,7 +6,7 @@ use Rattle.verilog_ast.specs.declared.DeclKind.TheVariants.{Input, OutputReg}
 use Rattle.verilog_ast.specs.declared.ParamDecl.{ParamDecl}
 use Rattle.verilog_ast.specs.declared.Port.{Port}
 use Rattle.verilog_exprs.specs.declared.halt.Halt.{Halt}
-use Rattle.verilog_exprs.specs.declared.halt.Halt.TheVariants.{Refused}
+use Rattle.verilog_exprs.specs.declared.halt.Halt.TheVariants.{Refused, Memory}
 use Rattle.verilog_exprs.specs.Halts.{HaltsAs}
 use Rattle.verilog_exprs.specs.Next.{Takes, Lacks}
 use Rattle.verilog_exprs.proofs.Steps.{halts_then, halts_by, halts_at, halts_for_memory, next_takes, next_lacks, peek_takes, peek_lacks, expect_halts}

@@ -1,6 +1,7 @@
 -- The steps of the reader of gates and instances: one for each way out of a function of the parser.
 use Rattle.std.proofs.Common.{◌≡◌, ℕ, false, List, [], ◌∷◌, ◌++◌, map, length, Option, Some, None, refl, sym, ap, ◌∙◌, rules}
 use Rattle.cdc_base.specs.declared.fault.Place.{Place}
+use Rattle.verilog_ast.specs.declared.Conn.{Conn}
 use Rattle.verilog_ast.specs.declared.Expr.{Expr}
 use Rattle.verilog_ast.specs.declared.GateKind.{GateKind}
 use Rattle.verilog_ast.specs.declared.Item.{Item}
@@ -19,17 +20,16 @@ use Rattle.verilog_lex.specs.declared.token.TokenKind.{TokenKind}
 use Rattle.verilog_lex.specs.declared.token.TokenKind.TheVariants.{Mark}
 use Rattle.verilog_lex.specs.declared.marks.MarkKind.TheVariants.{ParenOpen, ParenClose, Comma, Semicolon, Dot, Hash}
 use Rattle.verilog_reading.specs.ExprTree.{ExprTree, tree_of}
-use Rattle.verilog_reading.specs.ItemReader.{listed, list_more, then_done, value_end_of, value_end, value, conn_end, at_conn, in_dot, conn, in_conns, conns, overrides, place_at, placed, terminals, gate, maybe_delay, gate_items, instance_items}
+use Rattle.verilog_reading.specs.ItemReader.{listed, list_more, then_done, value_end_of, value_end, value, conn_end, at_conn, in_dot, conn, as_ordered, in_conns, conns, overrides, place_at, placed, terminals, gate, maybe_delay, gate_items, instance_items}
 use Rattle.verilog_reading.specs.ItemReading.{Placed, entries, gate_item, instance_item, item_at}
 use Rattle.verilog_reading.specs.Lexemes.{Spot, spot_of, mark_in, mark_of, ident_in}
-use Rattle.verilog_reading.specs.Laws.{Local}
 use Rattle.verilog_reading.specs.Lists.{more}
 use Rattle.verilog_reading.specs.Outcome.{Outcome, done, stop, then_read, expect, refuse}
 use Rattle.verilog_reading.specs.Reader.{readers, closed}
-use Rattle.verilog_reading.specs.SourceTree.{ConnTree, ConnsTree, ordered, maybe, item_of, instance}
+use Rattle.verilog_reading.specs.SourceTree.{ConnTree, ConnsTree, ordered, named, maybe, item_of, conn_of, instance}
 use Rattle.verilog_reading.specs.SourceTree.{gate as gate_body}
 use Rattle.verilog_reading.specs.StmtReader.{Lower, lower}
-use Rattle.verilog_reading.proofs.ItemLocal.{local_gate, local_placed}
+use Rattle.verilog_reading.proofs.ItemLocal.{local_gate, local_value, local_conn, local_placed}
 use Rattle.verilog_reading.proofs.StmtLocal.{local_lower}
 use Rattle.verilog_reading.proofs.Tests.{mark_is}
 use Rattle.verilog_stmts.proofs.ListSteps.{map_push}
@@ -202,42 +202,67 @@ pub ruleset conn_steps = (conn_dot_halts, conn_name_halts, conn_paren_halts, con
 push_map : {X A : Type 0} (f : X → A) (xs ys : List X) (x : X) → ys ≡ xs ++ x ∷ [] → map f ys ≡ map f xs ++ f x ∷ []
 push_map f xs ys x e = ap (map f) e ∙ map_push f xs x
 
-module _ {X A : Type 0} (shown : X → A) (entry : List Token → Outcome A) (make : List A → ConnsTree) where
-  abbrev pub ConnsOn : (start : List Token) → List X → List Token → Type 0
-  ConnsOn start new rest = Pushed shown (λ (c : A). c) (mark_in Comma) ParenClose entry entry (listed ParenClose entry start) [] new rest
+abbrev pub NamedOn : ℕ → List Token → List Conn → List Token → Type 0
+NamedOn n start new rest = Pushed conn_of (λ (c : ConnTree). c) (mark_in Comma) ParenClose (conn (lower n)) (conn (lower n)) (listed ParenClose (conn (lower n)) start) [] new rest
 
-  -- what is made of the entries and the closing parenthesis
-  abbrev made : List Token → Outcome ConnsTree
-  made = then_done make (listed ParenClose entry)
+pub named_first_halts : (n : ℕ) (ts : List Token) (h : Halt) → HaltsAs (conn (lower n) ts) h → HaltsAs (named_at (lower n) ts) h
+named_first_halts n ts h x = halts_then (listed ParenClose (conn (lower n)) ts) (λ a. done (named a)) h (reached_first_halts (mark_in Comma) ParenClose (conn (lower n)) (conn (lower n)) ts h x)
 
-  made_halts : (begin : List Token) (h : Halt) → HaltsAs (listed ParenClose entry begin) h → HaltsAs (made begin) h
-  made_halts begin h x = halts_then (listed ParenClose entry begin) (λ a. done (make a)) h x
+pub named_first : (n : ℕ) (ts : List Token) (x : Conn) (xs : List Conn) (rest : List Token) → conn (lower n) ts ≡ done (conn_of x) rest → xs ≡ x ∷ [] → NamedOn n ts xs rest
+named_first n ts x xs rest e q = pushed_first conn_of (λ (c : ConnTree). c) (mark_in Comma) ParenClose (conn (lower n)) (conn (lower n)) ts (conn_of x) rest [] xs e (ap (map conn_of) q)
 
-  pub conns_first_halts : (ts : List Token) (h : Halt) → HaltsAs (entry ts) h → HaltsAs (made ts) h
-  conns_first_halts ts h x = made_halts ts h (reached_first_halts (mark_in Comma) ParenClose entry entry ts h x)
+pub named_more : (n : ℕ) (begin : List Token) (xs ys : List Conn) (s : Spot) (ts after : List Token) (x : Conn) (rest : List Token) → NamedOn n begin xs ts → Takes (mark_in Comma) s ts after → conn (lower n) after ≡ done (conn_of x) rest
+    → ys ≡ xs ++ x ∷ [] → NamedOn n begin ys rest
+named_more n begin xs ys s ts after x rest g w e q = pushed_more conn_of (λ (c : ConnTree). c) (mark_in Comma) ParenClose (conn (lower n)) (conn (lower n)) (local_conn (lower n) (local_lower n)) (listed ParenClose (conn (lower n)) begin)
+    [] xs ys s ts after (conn_of x) rest g w e (push_map conn_of xs ys x q)
 
-  pub conns_first : (ts : List Token) (x : X) (xs : List X) (rest : List Token) → entry ts ≡ done (shown x) rest → xs ≡ x ∷ [] → ConnsOn ts xs rest
-  conns_first ts x xs rest e q = pushed_first shown (λ (c : A). c) (mark_in Comma) ParenClose entry entry ts (shown x) rest [] xs e (ap (map shown) q)
+pub named_stop : (n : ℕ) (begin : List Token) (xs : List Conn) (s : Spot) (ts after : List Token) (h : Halt) → NamedOn n begin xs ts → Takes (mark_in Comma) s ts after → HaltsAs (conn (lower n) after) h → HaltsAs (named_at (lower n) begin) h
+named_stop n begin xs s ts after h g w x = halts_then (listed ParenClose (conn (lower n)) begin) (λ a. done (named a)) h
+    (pushed_halts conn_of (λ (c : ConnTree). c) (mark_in Comma) ParenClose (conn (lower n)) (conn (lower n)) (listed ParenClose (conn (lower n)) begin) [] xs s ts after h g w x)
 
-  pub conns_more : Local entry → (begin : List Token) (xs ys : List X) (s : Spot) (ts after : List Token) (x : X) (rest : List Token) → ConnsOn begin xs ts
-      → Takes (mark_in Comma) s ts after → entry after ≡ done (shown x) rest → ys ≡ xs ++ x ∷ [] → ConnsOn begin ys rest
-  conns_more l begin xs ys s ts after x rest g w e q = pushed_more shown (λ (c : A). c) (mark_in Comma) ParenClose entry entry l
-      (listed ParenClose entry begin) [] xs ys s ts after (shown x) rest g w e (push_map shown xs ys x q)
+pub named_open : (n : ℕ) (begin : List Token) (xs : List Conn) (ts : List Token) (h : Halt) → NamedOn n begin xs ts → Lacks (mark_in Comma) ts → Lacks (mark_in ParenClose) ts → h ≡ Refused false (length ts) → HaltsAs (named_at (lower n) begin) h
+named_open n begin xs ts h g v w q = halts_then (listed ParenClose (conn (lower n)) begin) (λ a. done (named a)) h
+    (pushed_open conn_of (λ (c : ConnTree). c) (mark_in Comma) ParenClose (conn (lower n)) (conn (lower n)) (listed ParenClose (conn (lower n)) begin) [] xs ts h g v w q)
 
-  pub conns_stop : (begin : List Token) (xs : List X) (s : Spot) (ts after : List Token) (h : Halt) → ConnsOn begin xs ts → Takes (mark_in Comma) s ts after
-      → HaltsAs (entry after) h → HaltsAs (made begin) h
-  conns_stop begin xs s ts after h g w x = made_halts begin h
-      (pushed_halts shown (λ (c : A). c) (mark_in Comma) ParenClose entry entry (listed ParenClose entry begin) [] xs s ts after h g w x)
+pub named_end : (n : ℕ) (begin : List Token) (xs : List Conn) (ts : List Token) (s : Spot) (rest : List Token) (d : ConnsTree) → NamedOn n begin xs ts → Lacks (mark_in Comma) ts → Takes (mark_in ParenClose) s ts rest → d ≡ named (map conn_of xs)
+    → named_at (lower n) begin ≡ done d rest
+named_end n begin xs ts s rest d g v w q =
+    let z = pushed_end conn_of (λ (c : ConnTree). c) (mark_in Comma) ParenClose (conn (lower n)) (conn (lower n)) (listed ParenClose (conn (lower n)) begin) [] xs ts s rest g v w in
+    then_goes (listed ParenClose (conn (lower n)) begin) (λ a. done (named a)) z.0 rest z.1 ∙ ap (λ o. done (named o) rest) (sym (z.2 ∙ map_same z.0)) ∙ ap (λ o. done o rest) (sym q)
 
-  pub conns_open : (begin : List Token) (xs : List X) (ts : List Token) (h : Halt) → ConnsOn begin xs ts → Lacks (mark_in Comma) ts → Lacks (mark_in ParenClose) ts
-      → h ≡ Refused false (length ts) → HaltsAs (made begin) h
-  conns_open begin xs ts h g v w q = made_halts begin h (pushed_open shown (λ (c : A). c) (mark_in Comma) ParenClose entry entry (listed ParenClose entry begin) [] xs ts h g v w q)
+pub ruleset named_steps = (named_first_halts, named_first, named_more, named_stop, named_open, named_end, halts_for_memory)
 
-  pub conns_end : (begin : List Token) (xs : List X) (ts : List Token) (s : Spot) (rest : List Token) (d : ConnsTree) → ConnsOn begin xs ts → Lacks (mark_in Comma) ts
-      → Takes (mark_in ParenClose) s ts rest → d ≡ make (map shown xs) → made begin ≡ done d rest
-  conns_end begin xs ts s rest d g v w q =
-      let z = pushed_end shown (λ (c : A). c) (mark_in Comma) ParenClose entry entry (listed ParenClose entry begin) [] xs ts s rest g v w in
-      then_goes (listed ParenClose entry begin) (λ a. done (make a)) z.0 rest z.1 ∙ ap (λ o. done (make o) rest) (sym (z.2 ∙ map_same z.0)) ∙ ap (λ o. done o rest) (sym q)
+abbrev pub OrderedOn : ℕ → List Token → List (Option Expr) → List Token → Type 0
+OrderedOn n start new rest = Pushed (maybe tree_of) (λ (c : Option ExprTree). c) (mark_in Comma) ParenClose (value (lower n)) (value (lower n)) (listed ParenClose (value (lower n)) start) [] new rest
+
+pub ordered_first_halts : (n : ℕ) (ts : List Token) (h : Halt) → HaltsAs (value (lower n) ts) h → HaltsAs (ordered_at (lower n) ts) h
+ordered_first_halts n ts h x = halts_then (listed ParenClose (value (lower n)) ts) (λ a. done (as_ordered a)) h (reached_first_halts (mark_in Comma) ParenClose (value (lower n)) (value (lower n)) ts h x)
+
+pub ordered_first : (n : ℕ) (ts : List Token) (x : Option Expr) (xs : List (Option Expr)) (rest : List Token) → value (lower n) ts ≡ done (maybe tree_of x) rest → xs ≡ x ∷ [] → OrderedOn n ts xs rest
+ordered_first n ts x xs rest e q = pushed_first (maybe tree_of) (λ (c : Option ExprTree). c) (mark_in Comma) ParenClose (value (lower n)) (value (lower n)) ts (maybe tree_of x) rest [] xs e (ap (map (maybe tree_of)) q)
+
+pub ordered_more : (n : ℕ) (begin : List Token) (xs ys : List (Option Expr)) (s : Spot) (ts after : List Token) (x : Option Expr) (rest : List Token) → OrderedOn n begin xs ts → Takes (mark_in Comma) s ts after
+    → value (lower n) after ≡ done (maybe tree_of x) rest → ys ≡ xs ++ x ∷ [] → OrderedOn n begin ys rest
+ordered_more n begin xs ys s ts after x rest g w e q = pushed_more (maybe tree_of) (λ (c : Option ExprTree). c) (mark_in Comma) ParenClose (value (lower n)) (value (lower n)) (local_value (lower n) (local_lower n))
+    (listed ParenClose (value (lower n)) begin) [] xs ys s ts after (maybe tree_of x) rest g w e (push_map (maybe tree_of) xs ys x q)
+
+pub ordered_stop : (n : ℕ) (begin : List Token) (xs : List (Option Expr)) (s : Spot) (ts after : List Token) (h : Halt) → OrderedOn n begin xs ts → Takes (mark_in Comma) s ts after → HaltsAs (value (lower n) after) h
+    → HaltsAs (ordered_at (lower n) begin) h
+ordered_stop n begin xs s ts after h g w x = halts_then (listed ParenClose (value (lower n)) begin) (λ a. done (as_ordered a)) h
+    (pushed_halts (maybe tree_of) (λ (c : Option ExprTree). c) (mark_in Comma) ParenClose (value (lower n)) (value (lower n)) (listed ParenClose (value (lower n)) begin) [] xs s ts after h g w x)
+
+pub ordered_open : (n : ℕ) (begin : List Token) (xs : List (Option Expr)) (ts : List Token) (h : Halt) → OrderedOn n begin xs ts → Lacks (mark_in Comma) ts → Lacks (mark_in ParenClose) ts → h ≡ Refused false (length ts)
+    → HaltsAs (ordered_at (lower n) begin) h
+ordered_open n begin xs ts h g v w q = halts_then (listed ParenClose (value (lower n)) begin) (λ a. done (as_ordered a)) h
+    (pushed_open (maybe tree_of) (λ (c : Option ExprTree). c) (mark_in Comma) ParenClose (value (lower n)) (value (lower n)) (listed ParenClose (value (lower n)) begin) [] xs ts h g v w q)
+
+pub ordered_end : (n : ℕ) (begin : List Token) (xs : List (Option Expr)) (ts : List Token) (s : Spot) (rest : List Token) (d : ConnsTree) → OrderedOn n begin xs ts → Lacks (mark_in Comma) ts → Takes (mark_in ParenClose) s ts rest
+    → d ≡ ordered (entries (map (maybe tree_of) xs)) → ordered_at (lower n) begin ≡ done d rest
+ordered_end n begin xs ts s rest d g v w q =
+    let z = pushed_end (maybe tree_of) (λ (c : Option ExprTree). c) (mark_in Comma) ParenClose (value (lower n)) (value (lower n)) (listed ParenClose (value (lower n)) begin) [] xs ts s rest g v w in
+    then_goes (listed ParenClose (value (lower n)) begin) (λ a. done (as_ordered a)) z.0 rest z.1 ∙ ap (λ o. done (as_ordered o) rest) (sym (z.2 ∙ map_same z.0)) ∙ ap (λ o. done o rest) (sym q)
+
+pub ruleset ordered_steps = (ordered_first_halts, ordered_first, ordered_more, ordered_stop, ordered_open, ordered_end, halts_for_memory)
 
 -- `( conns )`
 pub conns_unopened : (n : ℕ) (ts : List Token) (h : Halt) → Lacks (mark_in ParenOpen) ts → h ≡ Refused false (length ts) → HaltsAs (conns (lower n) ts) h

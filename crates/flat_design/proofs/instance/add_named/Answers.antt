@@ -1,10 +1,9 @@
 use Rattle.std.proofs.Common.{◌≡◌, ◌+◌, [], ◌∷◌, map, drop, sym, ap, subst, ◌∙◌}
 use Rattle.std.specs.Prelude.{filter_map}
-use Rattle.std.proofs.lemmas.List.{drop_all}
+use Rattle.std.proofs.lemmas.List.{drop_more, drop_all}
 use Rattle.verilog_ast.specs.declared.Conn.{Conn}
 use Rattle.verilog_reading.specs.ExprTree.{tree_of}
 use Rattle.verilog_reading.specs.SourceTree.{ConnTree, maybe, conn_of}
-use Rattle.flat_form.proofs.Lefts.{left-is}
 use Rattle.flat_unfolding.specs.Expressions.{as_constant, read}
 use Rattle.flat_unfolding.specs.Instances.{Joint, if_among, named_joint}
 use Rattle.flat_unfolding.specs.Formed.{IsFormedIf}
@@ -20,7 +19,7 @@ loop-conn-preserved c = λ l names h is header formed given.
     let x = c.conn-item.result in
     let rest = drop (i + 1) all in
     let joints = λ (cs : _). filter_map (named_joint names) (map conn_of cs) in
-    let next : drop i all ≡ x ∷ rest = left-is all i x c.loop-conn-test.true c.conn-item.is in
+    let next : drop i all ≡ x ∷ rest = drop_more all i x c.loop-conn-test.true ∙ ap (λ (z : Conn). z ∷ rest) (sym c.conn-item.is) in
     let before = c.loop-conn.invariant l names h is header formed given in
     let value = item-at (λ (k : ConnTree). IsFormedIf k.value) conn_of all i x formed c.loop-conn-test.true c.conn-item.is in
     let one = subst (λ o. IsGiven l before.done c.add_override.new.overridden c.loop-conn.faults c.add_override.new.faults o (maybe tree_of x.value)) (c.if_known-name.ensures names header)

@@ -1,9 +1,9 @@
 use Rattle.std.proofs.Common.{◌≡◌, ◌+◌, ◌∷◌, Option, map, drop, sym, ap, subst, ◌∙◌}
 use Rattle.std.specs.Prelude.{slice_get, option_copied}
+use Rattle.std.proofs.lemmas.List.{drop_more}
 use Rattle.verilog_ast.specs.declared.Expr.{Expr}
 use Rattle.verilog_reading.specs.ExprTree.{tree_of}
 use Rattle.verilog_reading.specs.SourceTree.{maybe}
-use Rattle.flat_form.proofs.Lefts.{left-is}
 use Rattle.flat_unfolding.specs.Expressions.{as_constant, read}
 use Rattle.flat_unfolding.specs.Instances.{Joint, ordered_joints}
 use Rattle.flat_unfolding.specs.Formed.{IsFormedIf}
@@ -21,7 +21,7 @@ loop-k-preserved c = λ l h is formed given.
     let x = c.index-values-k.result in
     let rest = drop (k + 1) all in
     let joints = λ (i : _) (es : _). ordered_joints (drop i names) (map (maybe tree_of) es) in
-    let next : drop k all ≡ x ∷ rest = left-is all k x c.loop-k-test.true c.index-values-k.is in
+    let next : drop k all ≡ x ∷ rest = drop_more all k x c.loop-k-test.true ∙ ap (λ (z : Option Expr). z ∷ rest) (sym c.index-values-k.is) in
     let before = c.loop-k.invariant l h is formed given in
     let value = item-at IsFormedIf (maybe tree_of) all k x formed c.loop-k-test.true c.index-values-k.is in
     let named : option_copied c.get.result ≡ slice_get names k = let found = c.get.ensures.lookup in copied-at names k c.get.result found.0 found.1 in

@@ -1,10 +1,9 @@
 use Rattle.std.proofs.Common.{◌≡◌, ◌+◌, [], ◌∷◌, map, drop, sym, ap, subst, ◌∙◌}
 use Rattle.std.specs.Prelude.{filter_map}
-use Rattle.std.proofs.lemmas.List.{drop_all}
+use Rattle.std.proofs.lemmas.List.{drop_more, drop_all}
 use Rattle.verilog_ast.specs.declared.Conn.{Conn}
 use Rattle.verilog_reading.specs.ExprTree.{tree_of}
 use Rattle.verilog_reading.specs.SourceTree.{ConnTree, maybe, conn_of}
-use Rattle.flat_form.proofs.Lefts.{left-is}
 use Rattle.flat_unfolding.specs.Declarations.{header_of}
 use Rattle.flat_unfolding.specs.Instances.{Joint, if_among, named_joint, linked}
 use Rattle.flat_unfolding.specs.Formed.{IsFormedIf}
@@ -21,7 +20,7 @@ loop-conn-preserved c = λ pins l m h resets is shown formed given.
     let x = c.conn-item.result in
     let rest = drop (i + 1) all in
     let joints = λ (cs : _). filter_map (named_joint names) (map conn_of cs) in
-    let next : drop i all ≡ x ∷ rest = left-is all i x c.loop-conn-test.true c.conn-item.is in
+    let next : drop i all ≡ x ∷ rest = drop_more all i x c.loop-conn-test.true ∙ ap (λ (z : Conn). z ∷ rest) (sym c.conn-item.is) in
     let before = c.loop-conn.invariant pins l m h resets is shown formed given in
     let value = item-at (λ (k : ConnTree). IsFormedIf k.value) conn_of all i x formed c.loop-conn-test.true c.conn-item.is in
     let one = c.in_ok-connect.ensures pins l m (if_among names x.name) before.done h resets is shown (c.port_named-port.ensures m shown) value before.holds in

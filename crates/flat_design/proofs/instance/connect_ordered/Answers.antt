@@ -1,10 +1,9 @@
 use Rattle.std.proofs.Common.{◌≡◌, ◌+◌, [], ◌∷◌, Option, map, drop, sym, ap, subst, ◌∙◌}
 use Rattle.std.specs.Prelude.{slice_get}
-use Rattle.std.proofs.lemmas.List.{drop_all}
+use Rattle.std.proofs.lemmas.List.{drop_more, drop_all}
 use Rattle.verilog_ast.specs.declared.Expr.{Expr}
 use Rattle.verilog_reading.specs.ExprTree.{tree_of}
 use Rattle.verilog_reading.specs.SourceTree.{maybe}
-use Rattle.flat_form.proofs.Lefts.{left-is}
 use Rattle.flat_unfolding.specs.Declarations.{header_of}
 use Rattle.flat_unfolding.specs.Instances.{Joint, ordered_joints, linked}
 use Rattle.flat_unfolding.specs.Formed.{IsFormedIf}
@@ -21,7 +20,7 @@ loop-k-preserved c = λ pins l m h resets is shown header formed given.
     let x = c.index-values-k.result in
     let rest = drop (k + 1) all in
     let joints = λ (i : _) (es : _). ordered_joints (drop i names) (map (maybe tree_of) es) in
-    let next : drop k all ≡ x ∷ rest = left-is all k x c.loop-k-test.true c.index-values-k.is in
+    let next : drop k all ≡ x ∷ rest = drop_more all k x c.loop-k-test.true ∙ ap (λ (z : Option Expr). z ∷ rest) (sym c.index-values-k.is) in
     let before = c.loop-k.invariant pins l m h resets is shown header formed given in
     let value = item-at IsFormedIf (maybe tree_of) all k x formed c.loop-k-test.true c.index-values-k.is in
     let one = c.in_ok-connect.ensures pins l m (slice_get names k) before.done h resets is shown (c.port_at-port.ensures m shown header) value before.holds in

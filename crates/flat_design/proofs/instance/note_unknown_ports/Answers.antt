@@ -1,9 +1,8 @@
 use Rattle.std.proofs.Common.{◌≡◌, ◌+◌, not, ◌||◌, [], ◌∷◌, map, drop, sym, ap, ◌∙◌}
-use Rattle.std.proofs.lemmas.List.{drop_all}
+use Rattle.std.proofs.lemmas.List.{drop_more, drop_all}
 use Rattle.cdc_base.specs.Words.{is_in}
 use Rattle.verilog_ast.specs.declared.Conn.{Conn}
 use Rattle.verilog_reading.specs.SourceTree.{conn_of}
-use Rattle.flat_form.proofs.Lefts.{left-is}
 use Rattle.flat_unfolding.specs.Outcome.{breaks_if}
 use Rattle.flat_unfolding.specs.Instances.{unmet}
 use Rattle.flat_names.specs.Noting.{all_noted}
@@ -21,7 +20,7 @@ loop-conn-preserved c = λ m h.
     let i = c.loop-conn.conn-index in
     let x = c.conn-item.result in
     let rest = drop (i + 1) all in
-    let next : drop i all ≡ x ∷ rest = left-is all i x c.loop-conn-test.true c.conn-item.is in
+    let next : drop i all ≡ x ∷ rest = drop_more all i x c.loop-conn-test.true ∙ ap (λ (z : Conn). z ∷ rest) (sym c.conn-item.is) in
     let met = c.loop-conn.invariant m h in
     let told = c.in_ok-note_name.ensures met.before met.has in
     met-step ShowsHeader word names (map conn_of all) (map conn_of (drop i all)) (map conn_of rest) (conn_of x) c.loop-conn.seen c.note_name.new.seen c.args.faults.now c.loop-conn.faults c.note_name.new.faults

@@ -1,8 +1,7 @@
 use Rattle.std.proofs.Common.{Some, ◌+◌, ◌∷◌, List, map, drop, sym, ap, subst, ◌∙◌}
-use Rattle.std.proofs.lemmas.List.{drop_all}
+use Rattle.std.proofs.lemmas.List.{drop_more, drop_all}
 use Rattle.verilog_ast.specs.declared.Port.{Port}
 use Rattle.verilog_reading.specs.SourceTree.{PortTree, port_of}
-use Rattle.flat_form.proofs.Lefts.{left-is}
 use Rattle.flat_unfolding.specs.Outcome.{Text}
 use Rattle.flat_unfolding.specs.Names.{a_signal}
 use Rattle.flat_unfolding.specs.Unfolding.{top_port, top_ports}
@@ -17,7 +16,7 @@ loop-port-preserved c = λ pins s shows fit.
     let all = c.as_slice-port-items.result.now in let k = c.loop-port.port-index in let p = c.port-item.result in
     let h = c.loop-port.invariant pins s shows fit in
     let rest = map (λ (q : PortTree). q.name) (map port_of (drop (k + 1) all)) in
-    let next = ap (λ (ps : List Port). map (λ (q : PortTree). q.name) (map port_of ps)) (left-is all k p c.loop-port-test.true c.port-item.is) in
+    let next = ap (λ (ps : List Port). map (λ (q : PortTree). q.name) (map port_of ps)) (drop_more all k p c.loop-port-test.true ∙ ap (λ (z : Port). z ∷ drop (k + 1) all) (sym c.port-item.is)) in
     let done : IsPortDone pins c.args.names.now c.loop-port.design c.match-port_signal.design p.name rest h.0 h.2 h.3 = elim c.match-port_signal.branch [
       | in-Some+in_ok-set_top_port w ↦ port-done pins c.args.names.now c.loop-port.design c.match-port_signal.design p.name rest h.0 h.2 h.3 w.in-Some.sig (w.in-Some.ensures h.0.names h.2.names)
           (subst (λ (d : Design). ShowsDesign pins d (top_port h.0.design (Some (a_signal w.in-Some.sig)))) (sym w.design-is) (w.in_ok-set_top_port.ensures pins h.0.design h.2.design))

@@ -1,7 +1,7 @@
 use Rattle.std.proofs.Common.{◌≡◌, ℕ, ◌+◌, ◌≤◌, ◌||◌, ◌==◌, true, false, List, [], ◌∷◌, map, drop, subst, sym, ap, ◌∙◌, IsPermutation}
 use Rattle.std.specs.List.{list_all}
 use Rattle.std.specs.List.Sorted.{IsNonDecreasingBy}
-use Rattle.std.proofs.lemmas.List.{drop_all}
+use Rattle.std.proofs.lemmas.List.{drop_more, drop_all}
 use Rattle.std.proofs.lemmas.List.Sorted.{list_any-IsPermutation, IsNonDecreasingBy-from_sort}
 use Rattle.flat_meaning.specs.Flat.{largest}
 use Rattle.flat_meaning.specs.Full.{are_const, has_label}
@@ -9,7 +9,6 @@ use Rattle.flat_form.specs.declared.flat.FExpr.{FExpr}
 use Rattle.flat_form.specs.declared.flat.FCaseItem.{FCaseItem}
 use Rattle.flat_form.specs.View.{arm_of}
 use Rattle.flat_form.specs.Sizes.{is_sized}
-use Rattle.flat_form.proofs.Lefts.{left-is}
 use Rattle.flat_form.proofs.Constants.{these}
 use Rattle.flat_form.proofs.Labels.{AddsItems, is_among, items-step, item-sized, item-room, not-constant, full-is, full-default, largest-default}
 use Rattle.flat_form.proofs.cases.is_full.Goals as goal
@@ -20,7 +19,7 @@ returns-then-not-are_constant c = λ d h r s.
     let i = c.loop-item.item-index in
     let item = c.item-item.result in
     let w = c.args.size in
-    let next : drop i all ≡ item ∷ drop (i + 1) all = left-is all i item c.loop-item-test.true c.item-item.is in
+    let next : drop i all ≡ item ∷ drop (i + 1) all = drop_more all i item c.loop-item-test.true ∙ ap (λ (k : FCaseItem). k ∷ drop (i + 1) all) (sym c.item-item.is) in
     let before = subst (λ (is : List FCaseItem). AddsItems w c.loop-item.values.items is all) next (c.loop-item.invariant h (subst (λ n. n ≤ w) (largest-default (map arm_of all) d) r) s) in
     let fails : are_const (these item.labels) ≡ false = ap (λ (es : List FExpr). are_const (these es)) (sym c.as_slice-labels.ensures) ∙ sym c.are_constant.ensures ∙ c.if-not-are_constant.true in
     not-constant w c.loop-item.values.items item (drop (i + 1) all) all before fails ∙ sym (full-default w (map arm_of all) d)
@@ -35,7 +34,7 @@ loop-item-preserved c = λ h r s.
     let new = c.add_values.new.values.items in
     let rest = drop (i + 1) all in
     let e = c.as_slice-labels.ensures in
-    let next : drop i all ≡ item ∷ rest = left-is all i item c.loop-item-test.true c.item-item.is in
+    let next : drop i all ≡ item ∷ rest = drop_more all i item c.loop-item-test.true ∙ ap (λ (k : FCaseItem). k ∷ rest) (sym c.item-item.is) in
     let before : AddsItems w old (item ∷ rest) all = subst (λ (is : List FCaseItem). AddsItems w old is all) next (c.loop-item.invariant h r s) in
     let const : are_const (these item.labels) ≡ true = ap (λ (es : List FExpr). are_const (these es)) (sym e) ∙ sym c.are_constant.ensures ∙ c.if-not-are_constant.false in
     let added : (x : ℕ) → is_among x new ≡ (is_among x old || has_label w x (these item.labels)) =

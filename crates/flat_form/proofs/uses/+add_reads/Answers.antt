@@ -1,32 +1,33 @@
 use Rattle.std.proofs.Common.{List, map, sym, subst, arith}
 use Rattle.std.proofs.lemmas.Result.{IfOk-weaker}
+use Rattle.flat_meaning.specs.Design.{width_in}
 use Rattle.flat_form.specs.declared.flat.FExpr.{FExpr}
 use Rattle.flat_form.specs.View.{expr_of, exprs_of}
 use Rattle.flat_form.specs.Masks.{bits_in, Adds}
 use Rattle.flat_meaning.specs.Law.{expr_reads}
-use Rattle.flat_form.specs.Uses.{width_by, exprs_read}
+use Rattle.flat_form.specs.Uses.{exprs_read}
 use Rattle.flat_form.proofs.MaskSets.{Left}
 use Rattle.flat_form.proofs.Depths.{other-smaller, index-smaller, operand-smaller, left-smaller}
 use Rattle.flat_form.proofs.ExprUses.{reads-number, reads-read, reads-at, reads-unary, reads-binary, reads-choose, reads-gate, reads-join, reads-repeat}
 use Rattle.flat_form.proofs.uses.+add_reads.Goals as goal
 
 pub add_reads-returns-in-Number : goal.add_reads-returns-in-Number
-add_reads-returns-in-Number g t c =
-    let wid = width_by g.S.HasWidth.bits c.args.signals.now in
+add_reads-returns-in-Number t c =
+    let wid = width_in c.args.signals.now in
     let whole = expr_reads wid (expr_of c.args.expr.now) in
     let i = c.in-Number in
     record { added = reads-number wid c.args.reads.now c.loop-inner.reads whole c.loop-inner.inner.now c.loop-inner.invariant.left i.value i.width i.is }
 
 pub add_reads-returns-in-Read : goal.add_reads-returns-in-Read
-add_reads-returns-in-Read g t c =
-    let wid = width_by g.S.HasWidth.bits c.args.signals.now in
+add_reads-returns-in-Read t c =
+    let wid = width_in c.args.signals.now in
     let whole = expr_reads wid (expr_of c.args.expr.now) in
     let i = c.in-Read in
     record { added = IfOk-weaker c.add.result _ _ (λ _ h. reads-read wid c.args.reads.now c.loop-inner.reads whole c.loop-inner.inner.now c.loop-inner.invariant.left c.add.new.self i.sig i.at i.width c.bits.result i.is c.bits.ensures h) c.add.ensures.added }
 
 pub add_reads-loop-inner-preserved-in-At : goal.add_reads-loop-inner-preserved-in-At
-add_reads-loop-inner-preserved-in-At g t c =
-    let wid = width_by g.S.HasWidth.bits c.args.signals.now in
+add_reads-loop-inner-preserved-in-At t c =
+    let wid = width_in c.args.signals.now in
     let whole = expr_reads wid (expr_of c.args.expr.now) in
     let old = c.args.reads.now in
     let x = c.loop-inner.inner.now in
@@ -40,8 +41,8 @@ add_reads-loop-inner-preserved-in-At g t c =
     }
 
 pub add_reads-loop-inner-preserved-in-Unary : goal.add_reads-loop-inner-preserved-in-Unary
-add_reads-loop-inner-preserved-in-Unary g t c =
-    let wid = width_by g.S.HasWidth.bits c.args.signals.now in
+add_reads-loop-inner-preserved-in-Unary t c =
+    let wid = width_in c.args.signals.now in
     let whole = expr_reads wid (expr_of c.args.expr.now) in
     let old = c.args.reads.now in
     let x = c.loop-inner.inner.now in
@@ -54,8 +55,8 @@ add_reads-loop-inner-preserved-in-Unary g t c =
     }
 
 pub add_reads-loop-inner-preserved-in-Binary : goal.add_reads-loop-inner-preserved-in-Binary
-add_reads-loop-inner-preserved-in-Binary g t c =
-    let wid = width_by g.S.HasWidth.bits c.args.signals.now in
+add_reads-loop-inner-preserved-in-Binary t c =
+    let wid = width_in c.args.signals.now in
     let whole = expr_reads wid (expr_of c.args.expr.now) in
     let old = c.args.reads.now in
     let x = c.loop-inner.inner.now in
@@ -71,8 +72,8 @@ add_reads-loop-inner-preserved-in-Binary g t c =
     }
 
 pub add_reads-loop-inner-preserved : goal.add_reads-loop-inner-preserved
-add_reads-loop-inner-preserved g t c =
-    let wid = width_by g.S.HasWidth.bits c.args.signals.now in
+add_reads-loop-inner-preserved t c =
+    let wid = width_in c.args.signals.now in
     let whole = expr_reads wid (expr_of c.args.expr.now) in
     let old = c.args.reads.now in
     let x = c.loop-inner.inner.now in
@@ -90,8 +91,8 @@ add_reads-loop-inner-preserved g t c =
     }
 
 pub add_reads-returns-in-Gate : goal.add_reads-returns-in-Gate
-add_reads-returns-in-Gate g t c =
-    let wid = width_by g.S.HasWidth.bits c.args.signals.now in
+add_reads-returns-in-Gate t c =
+    let wid = width_in c.args.signals.now in
     let whole = expr_reads wid (expr_of c.args.expr.now) in
     let i = c.in-Gate in
     let now = c.loop-inner.reads in
@@ -102,8 +103,8 @@ add_reads-returns-in-Gate g t c =
     }
 
 pub add_reads-returns-in-Join : goal.add_reads-returns-in-Join
-add_reads-returns-in-Join g t c =
-    let wid = width_by g.S.HasWidth.bits c.args.signals.now in
+add_reads-returns-in-Join t c =
+    let wid = width_in c.args.signals.now in
     let whole = expr_reads wid (expr_of c.args.expr.now) in
     let i = c.in-Join in
     let now = c.loop-inner.reads in
@@ -114,8 +115,8 @@ add_reads-returns-in-Join g t c =
     }
 
 pub add_reads-returns-in-Repeat : goal.add_reads-returns-in-Repeat
-add_reads-returns-in-Repeat g t c =
-    let wid = width_by g.S.HasWidth.bits c.args.signals.now in
+add_reads-returns-in-Repeat t c =
+    let wid = width_in c.args.signals.now in
     let whole = expr_reads wid (expr_of c.args.expr.now) in
     let i = c.in-Repeat in
     let now = c.loop-inner.reads in

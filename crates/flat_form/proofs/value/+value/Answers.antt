@@ -1,6 +1,6 @@
 use Rattle.std.proofs.Common.{rules, ◌≡◌, ℕ, ◌+◌, ◌*◌, ◌%◌, ◌^◌, ◌≤◌, true, false, not, List, ◌∷◌, drop, length, subst, sym, ap, ap₂, ◌∙◌, arith, eq-eqb, ne_eqb}
 use Rattle.std.specs.Prelude.{bit_or}
-use Rattle.std.proofs.lemmas.List.{drop_all}
+use Rattle.std.proofs.lemmas.List.{drop_more, drop_all}
 use Rattle.flat_meaning.specs.Flat.{size}
 use Rattle.cell_graph.specs.Tree.{number}
 use Rattle.flat_meaning.specs.Meaning.{value, unary_at, left_at, right_at}
@@ -9,7 +9,6 @@ use Rattle.flat_meaning.proofs.Words.{never_same}
 use Rattle.flat_form.specs.declared.flat.FExpr.{FExpr}
 use Rattle.flat_form.specs.View.{expr_of, unary_of, binary_of}
 use Rattle.flat_form.specs.Sizes.{kept_of}
-use Rattle.flat_form.proofs.Lefts.{left-is}
 use Rattle.flat_form.proofs.Constants.{Joins, joins-none, joins-all, joins-step, parts_width, own, Folded, GateGives, JoinGives, OnceGives, gate-none, gate-first, gate-step, gate-all, head-sized, none-left}
 use Rattle.flat_form.proofs.ConstantForms.{Values, number-form, read-form, at-form, unary-form, binary-form, choose-form, gate-form, join-form, repeat-form}
 use Rattle.flat_form.proofs.value.+value.Goals as goal
@@ -90,7 +89,7 @@ joined_value-loop-part-preserved t c = λ h s.
     let all = c.args.parts.now in
     let i = c.loop-part.part-index in
     let part = c.part-item.result in
-    let next : drop i all ≡ part ∷ drop (i + 1) all = left-is all i part c.loop-part-test.true c.part-item.is in
+    let next : drop i all ≡ part ∷ drop (i + 1) all = drop_more all i part c.loop-part-test.true ∙ ap (λ (k : FExpr). k ∷ drop (i + 1) all) (sym c.part-item.is) in
     let before : Joins c.loop-part.word (part ∷ drop (i + 1) all) all = subst (λ (es : List FExpr). Joins c.loop-part.word es all) next (c.loop-part.invariant h s) in
     let sized = head-sized part (drop (i + 1) all) before.right in
     let w : c.width_of-width.result ≡ size (expr_of part) = c.width_of-width.ensures.size sized in
@@ -117,7 +116,7 @@ gate_value-loop-input-preserved t c = λ h b some small.
     let all = c.in-Some.others.now in
     let i = c.loop-input.input-index in
     let input = c.input-item.result in
-    let next : drop i all ≡ input ∷ drop (i + 1) all = left-is all i input c.loop-input-test.true c.input-item.is in
+    let next : drop i all ≡ input ∷ drop (i + 1) all = drop_more all i input c.loop-input-test.true ∙ ap (λ (k : FExpr). k ∷ drop (i + 1) all) (sym c.input-item.is) in
     gate-step (binary_of c.args.op) c.args.size c.loop-input.word c.value_at.result c.binary_value-word.result input (drop (i + 1) all) c.args.inputs.now
     (subst (λ (es : List FExpr). Folded (binary_of c.args.op) c.args.size c.loop-input.word es c.args.inputs.now) next (c.loop-input.invariant h b some small)) c.value_at.ensures some small c.binary_value-word.ensures
 

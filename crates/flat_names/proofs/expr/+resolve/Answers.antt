@@ -1,8 +1,8 @@
 -- Each form of an expression reads as its parts make it, and notes what they note.
 use Rattle.std.proofs.Common.{◌≡◌, ◌+◌, ◌∷◌, drop, sym, ap, subst, ◌∙◌}
+use Rattle.std.proofs.lemmas.List.{drop_more}
 use Rattle.verilog_ast.specs.declared.Expr.{Expr}
 use Rattle.verilog_reading.specs.ExprTree.{tree_of}
-use Rattle.flat_form.proofs.Lefts.{left-is}
 use Rattle.flat_unfolding.specs.Expressions.{read}
 use Rattle.flat_unfolding.specs.Formed.{IsFormed}
 use Rattle.flat_names.specs.Pieces.{piece, IsRead}
@@ -124,7 +124,7 @@ parts_of-loop-expr-preserved t c = λ l shows is formed.
     let i = c.loop-expr.expr-index in
     let x = c.expr-item.result in
     let rest = drop (i + 1) all in
-    let next : drop i all ≡ x ∷ rest = left-is all i x c.loop-expr-test.true c.expr-item.is in
+    let next : drop i all ≡ x ∷ rest = drop_more all i x c.loop-expr-test.true ∙ ap (λ (z : Expr). z ∷ rest) (sym c.expr-item.is) in
     let before = subst (λ es. IsPartly l all es c.args.faults.now c.loop-expr.faults c.loop-expr.parts) next (c.loop-expr.invariant l shows is formed) in
     let first = c.in_ok-part_of.ensures l shows is before.formed.0 in
     let second = c.in_ok-part.ensures (piece l (tree_of x)) first.0 (fit l is (tree_of x) before.formed.0) in

@@ -3,7 +3,7 @@ use Rattle.std.specs.List.{list_any}
 use Rattle.std.proofs.lemmas.List.{drop_all}
 use Rattle.verilog_ast.specs.declared.Edge.{Edge}
 use Rattle.flat_unfolding.specs.Processes.{is_wide}
-use Rattle.flat_form.proofs.Lefts.{left-is}
+use Rattle.flat_statements.proofs.Lefts.{left-is}
 use Rattle.flat_process.proofs.Processes.{any-found, any-then}
 use Rattle.flat_process.proofs.always.has_wide_edge.Goals as goal
 

@@ -5,7 +5,7 @@ use Rattle.verilog_ast.specs.declared.Edge.{Edge}
 use Rattle.flat_unfolding.specs.Processes.{edge_rules}
 use Rattle.flat_names.specs.Noting.{all_noted}
 use Rattle.flat_names.proofs.Notes.{noted-both}
-use Rattle.flat_form.proofs.Lefts.{left-is}
+use Rattle.flat_statements.proofs.Lefts.{left-is}
 use Rattle.flat_process.proofs.always.note_edges.Goals as goal
 
 pub loop-edge-preserved : goal.loop-edge-preserved

@@ -8,7 +8,7 @@ use Rattle.flat_form.specs.declared.flat.FExpr.{FExpr}
 use Rattle.flat_unfolding.specs.Formed.{IsFormed}
 use Rattle.flat_names.proofs.Options.{ok-both}
 use Rattle.flat_targets.proofs.Aimed.{ok-then}
-use Rattle.flat_form.proofs.Lefts.{left-is}
+use Rattle.flat_statements.proofs.Lefts.{left-is}
 use Rattle.flat_process.proofs.Wires.{InputsSoFar, inputs-step, inputs-end}
 use Rattle.flat_process.proofs.assign.gate_value.Goals as goal
 

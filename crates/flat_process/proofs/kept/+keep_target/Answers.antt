@@ -1,27 +1,33 @@
-use Rattle.std.proofs.Common.{List, map, refl, ap, subst, ◌∙◌}
+use Rattle.std.proofs.Common.{◌≡◌, ◌+◌, ◌∷◌, List, map, drop, sym, ap, subst, ◌∙◌}
+use Rattle.std.proofs.lemmas.List.{drop_more, drop_all}
 use Rattle.flat_form.specs.declared.flat.FTarget.{FTarget}
 use Rattle.flat_form.specs.View.{target_of, targets_of}
 use Rattle.flat_form.proofs.Folds.{target_of-Whole, target_of-At, target_of-Part, target_of-Join}
 use Rattle.flat_unfolding.specs.Names.{width_at}
 use Rattle.flat_unfolding.specs.Processes.{kept, all_kept}
 use Rattle.flat_names.proofs.Options.{ok-map}
-use Rattle.flat_process.specs.Kept.{Grew}
-use Rattle.flat_process.proofs.KeptRows.{grow-step, grow-end, grew-none, target-is}
+use Rattle.flat_process.specs.Kept.{Grow, Grew}
+use Rattle.flat_process.proofs.KeptRows.{grow-on, grew-none, target-is}
 use Rattle.flat_process.proofs.kept.+keep_target.Goals as goal
 
 pub keep_targets-loop-target-preserved : goal.keep_targets-loop-target-preserved
 keep_targets-loop-target-preserved t c = λ k body shows are.
+    let all = c.args.targets.now in
+    let i = c.loop-target.target-index in
+    let x = c.target-item.result in
+    let rest = drop (i + 1) all in
     let wid = width_at k.entries in
-    grow-step (λ (xs : List FTarget). all_kept wid body (targets_of (map target_of xs)))
-    c.args.targets.now c.loop-target.target-index c.args.rows.now.items c.loop-target.rows.items
-    (λ (x : FTarget). kept wid body (target_of x)) c.target-item.result c.keep_target.new.rows.items refl c.loop-target-test.true c.target-item.is
-    (c.loop-target.invariant k body shows are) (c.in_ok-keep_target.ensures k body shows are)
+    let keeps = λ (xs : List FTarget). all_kept wid body (targets_of (map target_of xs)) in
+    let next : drop i all ≡ x ∷ rest = drop_more all i x c.loop-target-test.true ∙ ap (λ (z : FTarget). z ∷ rest) (sym c.target-item.is) in
+    grow-on (kept wid body (target_of x)) (keeps rest) (keeps all) c.args.rows.now.items c.loop-target.rows.items c.keep_target.new.rows.items
+    (subst (λ xs. Grow (keeps xs) (keeps all) c.args.rows.now.items c.loop-target.rows.items) next (c.loop-target.invariant k body shows are))
+    (c.in_ok-keep_target.ensures k body shows are)
 
 pub keep_targets-returns : goal.keep_targets-returns
 keep_targets-returns t c = λ k body shows are.
-    grow-end (λ (xs : List FTarget). all_kept (width_at k.entries) body (targets_of (map target_of xs)))
-    c.args.targets.now c.loop-target.target-index c.args.rows.now.items c.loop-target.rows.items
-    refl c.loop-target-test.false (c.loop-target.invariant k body shows are)
+    let all = c.args.targets.now in
+    let keeps = λ (xs : List FTarget). all_kept (width_at k.entries) body (targets_of (map target_of xs)) in
+    subst (λ xs. Grow (keeps xs) (keeps all) c.args.rows.now.items c.loop-target.rows.items) (drop_all c.loop-target.target-index all c.loop-target-test.false) (c.loop-target.invariant k body shows are)
 
 pub keep_target-returns-in-Whole : goal.keep_target-returns-in-Whole
 keep_target-returns-in-Whole t c = λ k body shows are.

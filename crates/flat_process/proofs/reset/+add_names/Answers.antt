@@ -1,7 +1,7 @@
 use Rattle.std.proofs.Common.{◌≡◌, ◌+◌, [], ◌∷◌, ◌++◌, map, drop, sym, ap, subst, ◌∙◌}
+use Rattle.std.proofs.lemmas.List.{drop_more}
 use Rattle.verilog_ast.specs.declared.Expr.{Expr}
 use Rattle.verilog_reading.specs.ExprTree.{tree_of, trees_of}
-use Rattle.flat_form.proofs.Lefts.{left-is}
 use Rattle.flat_unfolding.specs.Mentions.{names_in, all_names_in}
 use Rattle.flat_unfolding.specs.Resets.{signals_among}
 use Rattle.flat_names.proofs.Options.{ok-map}
@@ -84,7 +84,7 @@ add_names_of-loop-expr-preserved t c = λ l shows.
     let i = c.loop-expr.expr-index in
     let x = c.expr-item.result in
     let rest = drop (i + 1) all in
-    let next : drop i all ≡ x ∷ rest = left-is all i x c.loop-expr-test.true c.expr-item.is in
+    let next : drop i all ≡ x ∷ rest = drop_more all i x c.loop-expr-test.true ∙ ap (λ (z : Expr). z ∷ rest) (sym c.expr-item.is) in
     let old = joined (signals_of c.args.signals.now) (signals_among l (all_names_in (trees_of (map tree_of all)))) in
     let now = signals_of c.loop-expr.signals in
     among-step l now (signals_of c.add_names.new.signals) old (names_in (tree_of x)) (all_names_in (trees_of (map tree_of rest)))

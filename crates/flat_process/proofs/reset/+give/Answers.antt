@@ -1,9 +1,8 @@
 use Rattle.std.proofs.Common.{◌≡◌, ◌+◌, ◌-◌, ◌/◌, ◌^◌, ◌≤◌, [], ◌∷◌, ◌++◌, length, map, drop, sym, ap, subst, ◌∙◌, arith}
-use Rattle.std.proofs.lemmas.List.{drop_all}
+use Rattle.std.proofs.lemmas.List.{drop_more, drop_all}
 use Rattle.flat_meaning.specs.Flat.{Whole, target_size}
 use Rattle.flat_form.specs.declared.flat.FTarget.{FTarget}
 use Rattle.flat_form.specs.View.{target_of, targets_of}
-use Rattle.flat_form.proofs.Lefts.{left-is}
 use Rattle.flat_form.proofs.Folds.{target_of-Whole}
 use Rattle.flat_unfolding.specs.Names.{width_at}
 use Rattle.flat_names.proofs.Looked.{width-is}
@@ -34,7 +33,7 @@ give_all-loop-target-preserved t c = λ l us shows plain fits small given.
     let ts = targets_of (map target_of all) in
     let later = targets_of (map target_of rest) in
     let now = c.loop-target.given.items in
-    let next : drop i all ≡ x ∷ rest = left-is all i x c.loop-target-test.true c.target-item.is in
+    let next : drop i all ≡ x ∷ rest = drop_more all i x c.loop-target-test.true ∙ ap (λ (z : FTarget). z ∷ rest) (sym c.target-item.is) in
     let s = subst (λ vs. GivesSoFar l us ts (targets_of (map target_of vs)) c.args.word c.args.top c.loop-target.left now) next (c.loop-target.invariant l us shows plain fits small given) in
     let room = s.fits in
     let one : target_size (width_at l.entries) (target_of x) ≤ c.loop-target.left = omega arith in

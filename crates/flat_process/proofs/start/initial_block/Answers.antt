@@ -1,8 +1,7 @@
 use Rattle.std.proofs.Common.{◌≡◌, ◌+◌, [], ◌∷◌, map, drop, sym, ap, subst, ◌∙◌}
-use Rattle.std.proofs.lemmas.List.{drop_all}
+use Rattle.std.proofs.lemmas.List.{drop_more, drop_all}
 use Rattle.verilog_ast.specs.declared.Stmt.{Stmt}
 use Rattle.verilog_reading.specs.StmtTree.{stmt_tree_of, stmt_trees_of}
-use Rattle.flat_form.proofs.Lefts.{left-is}
 use Rattle.flat_unfolding.specs.Design.{look_of}
 use Rattle.flat_unfolding.specs.Starts.{Starts, initial_row, initial_rows}
 use Rattle.flat_names.specs.Noting.{all_noted}
@@ -16,7 +15,7 @@ loop-stmt-preserved c = λ pins s a f names h is formed noted.
     let i = c.loop-stmt.stmt-index in
     let x = c.stmt-item.result in
     let rest = drop (i + 1) all in
-    let next : drop i all ≡ x ∷ rest = left-is all i x c.loop-stmt-test.true c.stmt-item.is in
+    let next : drop i all ≡ x ∷ rest = drop_more all i x c.loop-stmt-test.true ∙ ap (λ (z : Stmt). z ∷ rest) (sym c.stmt-item.is) in
     let whole = initial_rows (look_of s) a (stmt_trees_of (map stmt_tree_of all)) in
     let before = subst (λ xs. IsPartly pins c.loop-stmt.design s.design (look_of s) whole (stmt_trees_of (map stmt_tree_of xs)) f c.loop-stmt.faults) next (c.loop-stmt.invariant pins s a f names h is formed noted) in
     let step = c.in_ok-initial_statement.ensures pins s before.done f names before.starts is before.formed.0 before.noted in

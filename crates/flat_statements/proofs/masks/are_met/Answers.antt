@@ -2,7 +2,7 @@ use Rattle.std.proofs.Common.{◌≡◌, ◌+◌, Bool, List, [], drop, refl, sy
 use Rattle.std.proofs.lemmas.List.{drop_all}
 use Rattle.flat_names.proofs.Looked.{own-is}
 use Rattle.flat_statements.specs.declared.masks.MaskLabel.{MaskLabel}
-use Rattle.flat_form.proofs.Lefts.{left-is}
+use Rattle.flat_statements.proofs.Lefts.{left-is}
 use Rattle.flat_statements.proofs.MetLabels.{MetSoFar, met-start, met-step}
 use Rattle.flat_statements.proofs.masks.are_met.Goals as goal
 

@@ -1,6 +1,6 @@
 use Rattle.std.proofs.Common.{◌+◌, drop, sym, ap, ◌∙◌}
 use Rattle.flat_statements.specs.Masks.{labels_width, items_width}
-use Rattle.flat_form.proofs.Lefts.{left-is}
+use Rattle.flat_statements.proofs.Lefts.{left-is}
 use Rattle.flat_statements.proofs.masks.compared_size.Goals as goal
 
 pub loop-item-preserved : goal.loop-item-preserved

@@ -1,7 +1,7 @@
 use Rattle.std.proofs.Common.{◌≡◌, ◌+◌, List, [], drop, subst}
 use Rattle.std.proofs.lemmas.List.{drop_all}
 use Rattle.flat_statements.specs.declared.masks.MaskLabel.{MaskLabel}
-use Rattle.flat_form.proofs.Lefts.{left-is}
+use Rattle.flat_statements.proofs.Lefts.{left-is}
 use Rattle.flat_statements.proofs.Tests.{TestSoFar, test-start, test-step, test-end}
 use Rattle.flat_statements.proofs.masks.item_test.Goals as goal
 

@@ -1,6 +1,6 @@
 use Rattle.std.proofs.Common.{◌+◌, max, drop, sym, ap, ◌∙◌}
 use Rattle.flat_statements.specs.Masks.{labels_width}
-use Rattle.flat_form.proofs.Lefts.{left-is}
+use Rattle.flat_statements.proofs.Lefts.{left-is}
 use Rattle.flat_statements.proofs.masks.largest.Goals as goal
 
 pub loop-label-preserved : goal.loop-label-preserved

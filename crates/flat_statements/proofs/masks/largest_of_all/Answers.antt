@@ -9,7 +9,7 @@ use Rattle.flat_unfolding.specs.Statements.{clocked, mask_of, masks_broken}
 use Rattle.flat_names.specs.Noting.{all_noted}
 use Rattle.flat_statements.specs.Statements.{arm_tree_of}
 use Rattle.flat_statements.specs.Masks.{AreMasks, labels_width}
-use Rattle.flat_form.proofs.Lefts.{left-is}
+use Rattle.flat_statements.proofs.Lefts.{left-is}
 use Rattle.flat_statements.proofs.MetLabels.{SizeSoFar, size-start, size-step, size-end}
 use Rattle.flat_statements.proofs.Written.{item-formed}
 use Rattle.flat_statements.proofs.masks.largest_of_all.Goals as goal
@@ -25,7 +25,7 @@ loop-item-preserved c = λ l h is f.
     let rest = drop (i + 1) xs in
     let before = c.loop-item.invariant l h is f in
     let left = left-is xs i x c.loop-item-test.true c.item-item.is in
-    let formed = item-formed x rest (drop i xs) left before.formed in
+    let formed = item-formed x rest (subst (λ (ys : List CaseItem). AreArmsFormed (arms_of (map arm_tree_of ys))) left before.formed) in
     let labels = c.in_ok-labels.ensures l clocked h is (subst (λ (ls : List Label). All IsLabelFormed (map label_tree_of ls)) (sym c.as_slice.ensures) formed.0) in
     let masks = λ (ls : List Label). map (mask_of l clocked) (map label_tree_of ls) in
     size-step l c.args.width xs rest (drop i xs) x c.in_ok-labels.labels.items c.loop-item.size c.largest-size.result c.args.faults.now c.loop-item.faults c.mask_labels.new.faults before left

@@ -19,7 +19,7 @@ use Rattle.flat_statements.specs.Statements.{kind_of, arm_tree_of, AreDone}
 use Rattle.flat_statements.specs.Masks.{AreMasks}
 use Rattle.flat_statements.proofs.Items.{WaysSoFar, ways-step, ways-end}
 use Rattle.flat_statements.proofs.Done.{done-null}
-use Rattle.flat_form.proofs.Lefts.{left-is}
+use Rattle.flat_statements.proofs.Lefts.{left-is}
 use Rattle.flat_statements.proofs.Loops.{BlockSoFar, block-step, block-end, ArmsSoFar, arms-end}
 use Rattle.flat_statements.proofs.Trees.{tree-set, tree-when, tree-either, tree-switch, tree-switch_else, tree-block}
 use Rattle.flat_statements.proofs.Written.{IsResolved, chain-noted, null-written, when-written, either-written, switch-noted, switch_else-written, block-written, item-formed, item-written}
@@ -171,7 +171,7 @@ case_items-loop-item-preserved t c = λ l h is f.
     let rest = drop (i + 1) xs in
     let before = c.loop-item.invariant l h is f in
     let left = left-is xs i x c.loop-item-test.true c.item-item.is in
-    let formed = item-formed x rest (drop i xs) left before.formed in
+    let formed = item-formed x rest (subst (λ (ys : List CaseItem). AreArmsFormed (arms_of (map arm_tree_of ys))) left before.formed) in
     let labels = c.in_ok-labels.ensures l k h is (subst (λ (ls : List Label). All IsLabelFormed (map label_tree_of ls)) (sym c.as_slice.ensures) formed.0) in
     let body = c.in_ok-body.ensures l h is formed.1 in
     let old = c.loop-item.cases in
@@ -197,7 +197,7 @@ mask_items-loop-item-preserved t c = λ l h is f.
     let rest = drop (i + 1) xs in
     let before = c.loop-item.invariant l h is f in
     let left = left-is xs i x c.loop-item-test.true c.item-item.is in
-    let formed = item-formed x rest (drop i xs) left before.formed in
+    let formed = item-formed x rest (subst (λ (ys : List CaseItem). AreArmsFormed (arms_of (map arm_tree_of ys))) left before.formed) in
     let labels = c.in_ok-labels.ensures l k h is (subst (λ (ls : List Label). All IsLabelFormed (map label_tree_of ls)) (sym c.as_slice.ensures) formed.0) in
     let body = c.in_ok-body.ensures l h is formed.1 in
     let masks = λ (ls : List Label). map (mask_of l k) (map label_tree_of ls) in

@@ -17,7 +17,7 @@ returns-in_ok-add_reads-in-At c = λ n all w part holds.
     let r = c.add_reads.new.reads in
     let e = ap target_of x.is ∙ target_of-At x.sig x.index in
     let reads : (s i : ℕ) → i < 64 → bits_in r s i ≡ target_reads wid (target_of c.args.part.now) s i =
-    λ s i l. c.in_ok-add_reads-in-At.ensures.added s i l ∙ ap (λ b. b || expr_reads wid (expr_of x.index) s i) (c.new-reads.ensures.none s i) ∙ ap (λ (t : Target). target_reads wid t s i) (sym e) in
+    λ s i l. c.in_ok-add_reads-in-At.ensures s i l ∙ ap (λ b. b || expr_reads wid (expr_of x.index) s i) (c.new-reads.ensures.none s i) ∙ ap (λ (t : Target). target_reads wid t s i) (sym e) in
     c.are_read.ensures n w ∙ reads-word wid n (target_of c.args.part.now) w all c.args.assigned.now r holds reads
 
 pub returns-in-Whole : goal.returns-in-Whole

@@ -1,8 +1,7 @@
 use Rattle.std.proofs.Common.{◌≡◌, ◌+◌, ◌++◌, [], ◌∷◌, Bor, List, ℕ, map, drop, sym, ap, subst, ◌∙◌}
-use Rattle.std.proofs.lemmas.List.{drop_all}
+use Rattle.std.proofs.lemmas.List.{drop_more, drop_all}
 use Rattle.verilog_ast.specs.declared.Expr.{Expr}
 use Rattle.verilog_reading.specs.ExprTree.{tree_of, trees_of}
-use Rattle.flat_form.proofs.Lefts.{left-is}
 use Rattle.flat_unfolding.specs.Targets.{as_target, as_targets}
 use Rattle.flat_names.proofs.Trees.{tree-join}
 use Rattle.flat_targets.specs.Pieces.{part_names}
@@ -25,7 +24,7 @@ add_expr_names_of-loop-expr-preserved t c = λ ts reads.
     let i = c.loop-expr.expr-index in
     let x = c.expr-item.result in
     let rest = drop (i + 1) all in
-    let next : drop i all ≡ x ∷ rest = left-is all i x c.loop-expr-test.true c.expr-item.is in
+    let next : drop i all ≡ x ∷ rest = drop_more all i x c.loop-expr-test.true ∙ ap (λ (z : Expr). z ∷ rest) (sym c.expr-item.is) in
     let before = subst (λ es. NamesLeft (trees_of (map tree_of all)) (trees_of (map tree_of es)) ts (map f c.args.names.now.items) (map f c.loop-expr.names.items)) next (c.loop-expr.invariant ts reads) in
     names-more (trees_of (map tree_of all)) (tree_of x) (trees_of (map tree_of rest)) ts (map f c.args.names.now.items) (map f c.loop-expr.names.items) (map f c.add_expr_names.new.names.items) before (λ v e. c.in_ok-add_expr_names.ensures v e)
 

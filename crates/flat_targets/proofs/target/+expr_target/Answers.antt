@@ -1,8 +1,7 @@
 use Rattle.std.proofs.Common.{◌≡◌, ◌+◌, [], ◌∷◌, map, drop, sym, ap, subst, ◌∙◌}
-use Rattle.std.proofs.lemmas.List.{drop_all}
+use Rattle.std.proofs.lemmas.List.{drop_more, drop_all}
 use Rattle.verilog_ast.specs.declared.Expr.{Expr}
 use Rattle.verilog_reading.specs.ExprTree.{tree_of, trees_of}
-use Rattle.flat_form.proofs.Lefts.{left-is}
 use Rattle.flat_unfolding.specs.Targets.{of_wires, aims, as_target, as_targets}
 use Rattle.flat_unfolding.specs.Formed.{IsFormed}
 use Rattle.flat_names.proofs.Trees.{tree-join}
@@ -26,7 +25,7 @@ expr_targets-loop-expr-preserved t c = λ l ts h is formed reads.
     let i = c.loop-expr.expr-index in
     let x = c.expr-item.result in
     let rest = drop (i + 1) all in
-    let next : drop i all ≡ x ∷ rest = left-is all i x c.loop-expr-test.true c.expr-item.is in
+    let next : drop i all ≡ x ∷ rest = drop_more all i x c.loop-expr-test.true ∙ ap (λ (z : Expr). z ∷ rest) (sym c.expr-item.is) in
     let before = subst (λ es. ReadsSoFar l ts (trees_of (map tree_of es)) c.args.faults.now c.loop-expr.faults c.loop-expr.parts) next (c.loop-expr.invariant l ts h is formed reads) in
     reads-more l ts (tree_of x) (trees_of (map tree_of rest)) c.args.faults.now c.loop-expr.faults c.expr_target.new.faults c.loop-expr.parts c.add.new.self c.in_ok-part.part before
     (λ v e. c.in_ok-part.ensures l v h is before.formed.0 e) c.in_ok-add.ensures

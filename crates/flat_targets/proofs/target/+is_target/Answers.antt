@@ -1,7 +1,7 @@
 use Rattle.std.proofs.Common.{◌≡◌, ◌+◌, true, false, ◌∷◌, map, is_some, drop, sym, ap, ◌∙◌}
+use Rattle.std.proofs.lemmas.List.{drop_more}
 use Rattle.verilog_ast.specs.declared.Expr.{Expr}
 use Rattle.verilog_reading.specs.ExprTree.{join_of, tree_of, trees_of}
-use Rattle.flat_form.proofs.Lefts.{left-is}
 use Rattle.flat_unfolding.specs.Targets.{as_target, as_targets}
 use Rattle.flat_names.proofs.Trees.{tree-join}
 use Rattle.flat_targets.proofs.Reading.{some-map, reads-both}
@@ -19,7 +19,7 @@ are_targets-returns-then-not-is_target t c =
     let i = c.loop-expr.expr-index in
     let x = c.expr-item.result in
     let rest = drop (i + 1) all in
-    let next : drop i all ≡ x ∷ rest = left-is all i x c.loop-expr-test.true c.expr-item.is in
+    let next : drop i all ≡ x ∷ rest = drop_more all i x c.loop-expr-test.true ∙ ap (λ (z : Expr). z ∷ rest) (sym c.expr-item.is) in
     sym (c.loop-expr.invariant ∙ ap (λ es. is_some (as_targets (trees_of (map tree_of es)))) next ∙ reads-both (tree_of x) (trees_of (map tree_of rest)) false (sym c.if-not-is_target.true ∙ c.is_target.ensures))
 
 pub are_targets-loop-expr-preserved : goal.are_targets-loop-expr-preserved
@@ -28,5 +28,5 @@ are_targets-loop-expr-preserved t c =
     let i = c.loop-expr.expr-index in
     let x = c.expr-item.result in
     let rest = drop (i + 1) all in
-    let next : drop i all ≡ x ∷ rest = left-is all i x c.loop-expr-test.true c.expr-item.is in
+    let next : drop i all ≡ x ∷ rest = drop_more all i x c.loop-expr-test.true ∙ ap (λ (z : Expr). z ∷ rest) (sym c.expr-item.is) in
     c.loop-expr.invariant ∙ ap (λ es. is_some (as_targets (trees_of (map tree_of es)))) next ∙ reads-both (tree_of x) (trees_of (map tree_of rest)) true (sym c.if-not-is_target.false ∙ c.is_target.ensures)

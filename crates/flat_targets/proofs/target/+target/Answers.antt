@@ -1,7 +1,7 @@
 use Rattle.std.proofs.Common.{◌≡◌, ◌+◌, ◌∷◌, drop, sym, ap, subst, ◌∙◌}
+use Rattle.std.proofs.lemmas.List.{drop_more}
 use Rattle.verilog_ast.specs.declared.Target.{Target}
 use Rattle.verilog_reading.specs.ExprTree.{join_of, target_tree_of}
-use Rattle.flat_form.proofs.Lefts.{left-is}
 use Rattle.flat_unfolding.specs.Formed.{IsTargetFormed, AreTargetsFormed}
 use Rattle.flat_unfolding.specs.Targets.{aim, aims}
 use Rattle.flat_targets.specs.Aims.{use_of, trees_in}
@@ -26,7 +26,7 @@ fixed_targets-loop-target-preserved t c = λ l h is formed.
     let i = c.loop-target.target-index in
     let x = c.target-item.result in
     let rest = drop (i + 1) all in
-    let next : drop i all ≡ x ∷ rest = left-is all i x c.loop-target-test.true c.target-item.is in
+    let next : drop i all ≡ x ∷ rest = drop_more all i x c.loop-target-test.true ∙ ap (λ (z : Target). z ∷ rest) (sym c.target-item.is) in
     let before = subst (λ ts. SoFar l u (trees_in all) (trees_in ts) c.args.faults.now c.loop-target.faults c.loop-target.parts × AreTargetsFormed (trees_in ts)) next (c.loop-target.invariant l h is formed) in
     let part = c.in_ok-part.ensures l h is before.1.0 in (
       so-more l u (trees_in all) (trees_in rest) (target_tree_of x) c.args.faults.now c.loop-target.faults c.fixed_target.new.faults c.loop-target.parts c.add.new.self before.0

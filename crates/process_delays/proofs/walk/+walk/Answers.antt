@@ -3,12 +3,11 @@ use Rattle.std.proofs.lemmas.List.{drop_all}
 use Rattle.verilog_ast.specs.declared.Stmt.{Stmt}
 use Rattle.verilog_ast.specs.declared.CaseItem.{CaseItem}
 use Rattle.verilog_reading.specs.StmtTree.{stmt_tree_of, arms_of}
-use Rattle.flat_form.proofs.Lefts.{left-is}
 use Rattle.flat_unfolding.specs.Outcome.{Text}
 use Rattle.flat_unfolding.specs.Delays.{Delays, on_both, walked, walked_arms}
 use Rattle.process_delays.specs.Paths.{under}
 use Rattle.process_delays.specs.Walks.{arm_tree_of}
-use Rattle.process_delays.proofs.Walks.{map-or, RowsSoFar, rows-step, rows-end, ArmsSoFar, arms-step, arms-end, case-walked}
+use Rattle.process_delays.proofs.Walks.{map-or, left-is, RowsSoFar, rows-step, rows-end, ArmsSoFar, arms-step, arms-end, case-walked}
 use Rattle.process_delays.proofs.walk.+walk.Goals as goal
 
 pub walk-returns-in_ok-add_all-in-Case : goal.walk-returns-in_ok-add_all-in-Case

@@ -1,10 +1,11 @@
 use Rattle.std.proofs.Common.{arith, rules}
-use Rattle.verilog_exprs.proofs.Steps.{handed_on}
+use Rattle.std.proofs.lemmas.Result.{err_from_is_err_and}
 use Rattle.verilog_parse.proofs.EventSteps as Steps
 use Rattle.verilog_parse.proofs.event.read_edges.Goals as goal
 
 pub returns-in_err-rest-clause-halts : goal.returns-in_err-rest-clause-halts
-returns-in_err-rest-clause-halts c = handed_on _ _ c.from_residual.ensures.1 (Steps.edges_first_halts c.args.tokens.now _ c.in_err-rest.ensures.halts)
+returns-in_err-rest-clause-halts c = let p = err_from_is_err_and c.from_residual.result c.from_residual.ensures.1 in
+    rw (p.1, p.2) (Steps.edges_first_halts c.args.tokens.now _ c.in_err-rest.ensures.halts)
 
 pub loop-after-init : goal.loop-after-init
 loop-after-init c = record {
@@ -19,14 +20,12 @@ loop-after-preserved c = record {
 }
 
 pub returns-in_err-rest-2-clause-halts : goal.returns-in_err-rest-2-clause-halts
-returns-in_err-rest-2-clause-halts c =
-    handed_on _ _ c.from_residual-in_err-rest-2.ensures.1
-    (Steps.edges_stop c.args.tokens.now _ _ _ _ _ c.loop-after.invariant.lists c.in-Some.ensures.found.1 c.in_err-rest-2.ensures.halts)
+returns-in_err-rest-2-clause-halts c = let p = err_from_is_err_and c.from_residual-in_err-rest-2.result c.from_residual-in_err-rest-2.ensures.1 in
+    rw (p.1, p.2) (Steps.edges_stop c.args.tokens.now _ _ _ _ _ c.loop-after.invariant.lists c.in-Some.ensures.found.1 c.in_err-rest-2.ensures.halts)
 
 pub returns-in_err-rest-3-clause-halts : goal.returns-in_err-rest-3-clause-halts
-returns-in_err-rest-3-clause-halts c =
-    handed_on _ _ c.from_residual-in_err-rest-3.ensures.1
-    (Steps.edges_open c.args.tokens.now _ _ _ c.loop-after.invariant.lists c.in_default.ensures.free c.in_err-rest-3.ensures.free c.in_err-rest-3.ensures.refused)
+returns-in_err-rest-3-clause-halts c = let p = err_from_is_err_and c.from_residual-in_err-rest-3.result c.from_residual-in_err-rest-3.ensures.1 in
+    rw (p.1, p.2) (Steps.edges_open c.args.tokens.now _ _ _ c.loop-after.invariant.lists c.in_default.ensures.free c.in_err-rest-3.ensures.free c.in_err-rest-3.ensures.refused)
 
 pub returns-clause-read : goal.returns-clause-read
 returns-clause-read c = Steps.edges_end c.args.tokens.now _ _ _ _ c.loop-after.invariant.lists c.in_default.ensures.free c.in_ok-rest-3.ensures.found.1

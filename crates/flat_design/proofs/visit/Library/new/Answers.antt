@@ -1,11 +1,10 @@
 use Rattle.std.proofs.Common.{◌≡◌, ◌<◌, ◌+◌, ℕ, suc, ◌∷◌, ◌==◌, cond, List, map, drop, Some, sym, ap, subst, ◌∙◌, arith}
 use Rattle.std.specs.Prelude.{slice_get}
-use Rattle.std.proofs.lemmas.List.{drop_all}
+use Rattle.std.proofs.lemmas.List.{drop_more, drop_all}
 use Rattle.std.proofs.lemmas.Option.{slice_get-get_or, slice_get_within}
 use Rattle.verilog_ast.specs.declared.Module.{Module}
 use Rattle.std.specs.Cmp.Lexicographic.{pointwise}
 use Rattle.verilog_reading.specs.SourceTree.{module_of}
-use Rattle.flat_form.proofs.Lefts.{left-is}
 use Rattle.flat_unfolding.specs.Unfolding.{modules_differ}
 use Rattle.flat_unfolding.specs.Outcome.{Text, good}
 use Rattle.flat_names.specs.Noting.{Refuses}
@@ -16,7 +15,7 @@ use Rattle.flat_design.proofs.visit.Library.new.Goals as goal
 pub returns-then-contains_key-clause-exact : goal.returns-then-contains_key-clause-exact
 returns-then-contains_key-clause-exact c =
     let all = c.as_slice-modules.result.now in let k = c.loop-number.number in let m = c.index-modules-number.result in
-    let next : drop k all ≡ m ∷ drop (k + 1) all = left-is all k m c.loop-number-test.true c.index-modules-number.is in
+    let next : drop k all ≡ m ∷ drop (k + 1) all = drop_more all k m c.loop-number-test.true ∙ ap (λ (z : Module). z ∷ drop (k + 1) all) (sym c.index-modules-number.is) in
     subst (λ (ms : List Module). Lists ms c.refused.result) c.as_slice-modules.ensures
     (refuses-lists all (record { number = 304; place = Some m.place; name = m.name }) c.refused.result
     (subst (λ (x : Text). Refuses (record { number = 304; place = Some m.place; name = x }) c.refused.result) c.as_str.ensures c.refused.ensures.exact)
@@ -25,7 +24,7 @@ returns-then-contains_key-clause-exact c =
 pub loop-number-preserved : goal.loop-number-preserved
 loop-number-preserved c =
     let all = c.as_slice-modules.result.now in let k = c.loop-number.number in let m = c.index-modules-number.result in
-    let next : drop k all ≡ m ∷ drop (k + 1) all = left-is all k m c.loop-number-test.true c.index-modules-number.is in
+    let next : drop k all ≡ m ∷ drop (k + 1) all = drop_more all k m c.loop-number-test.true ∙ ap (λ (z : Module). z ∷ drop (k + 1) all) (sym c.index-modules-number.is) in
     let at : slice_get all k ≡ Some m = slice_get-get_or all k m c.loop-number-test.true ∙ ap Some (sym c.index-modules-number.is) in
     let e : k + 1 ≡ suc k = omega arith in
     let set = ok-holds c.insert.result c.if-is_err.ensures.negation c.insert.ensures.updates in
